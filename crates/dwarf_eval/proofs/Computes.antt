@@ -8,7 +8,7 @@ use Rattle.dwarf_meaning.specs.Acts.{FaultAct, on_top, on_result, underflow, pus
 use Rattle.dwarf_meaning.specs.Stores.{Plain, address_bits, push_value}
 use Rattle.dwarf_meaning.specs.Rest.{State, Running, FaultStatus}
 use Rattle.dwarf_meaning.proofs.Choices.{top_none, top_some, answer_ok, answer_err}
-use Rattle.dwarf_eval.specs.inner.StateChanges.{Pops, Tried, Performs, with_values, act_of}
+use Rattle.dwarf_eval.specs.inner.StateChanges.{Pops, HasTriedChange, Performs, with_values, act_of}
 use Rattle.dwarf_meaning.specs.Inputs.{with_status}
 use Rattle.dwarf_eval.proofs.Performances.{performs_as, performs_push, performs_refuses, PopsTwo, fewer_two, stays_two}
 use Rattle.dwarf_eval.proofs.Staying.{fewer_one, stays_popped}
@@ -58,7 +58,7 @@ module _ (F : ℕ → Value → Result Value Error) (old mid : State) (x : Value
   call_is : (r : Result Value Error) → r ≡ F width x → F (address_bits old.setup) x ≡ r
   call_is r e = ap (λ (w : ℕ). F w x) (sym (width_old width pops.0 old mid pops.2 is)) ∙ sym e
 
-  pub unary_pushes : (new : State) (v : Value) → old.status ≡ Running → Ok v ≡ F width x → Tried 0 (λ s. push_value mid.setup v (record s { last = Plain })) mid new → Performs (unary (F (address_bits old.setup)) old.store.values) old new
+  pub unary_pushes : (new : State) (v : Value) → old.status ≡ Running → Ok v ≡ F width x → HasTriedChange 0 (λ s. push_value mid.setup v (record s { last = Plain })) mid new → Performs (unary (F (address_bits old.setup)) old.store.values) old new
   unary_pushes new v runs e h =
       performs_as _ (push pops.0 v) old new (unary_ok (F (address_bits old.setup)) old.store.values x pops.0 v pops.1 (call_is (Ok v) e))
       (performs_push pops.0 v old mid new runs (fewer_one x pops.0 old.store.values pops.1) pops.2 h)
@@ -72,7 +72,7 @@ module _ (F : ℕ → Value → Value → Result Value Error) (old mid : State) 
   call_two : (r : Result Value Error) → r ≡ F width x y → F (address_bits old.setup) x y ≡ r
   call_two r e = ap (λ (w : ℕ). F w x y) (sym (width_old width pops.rest old mid pops.alone is)) ∙ sym e
 
-  pub binary_pushes : (new : State) (v : Value) → old.status ≡ Running → Ok v ≡ F width x y → Tried 0 (λ s. push_value mid.setup v (record s { last = Plain })) mid new → Performs (binary (F (address_bits old.setup)) old.store.values) old new
+  pub binary_pushes : (new : State) (v : Value) → old.status ≡ Running → Ok v ≡ F width x y → HasTriedChange 0 (λ s. push_value mid.setup v (record s { last = Plain })) mid new → Performs (binary (F (address_bits old.setup)) old.store.values) old new
   binary_pushes new v runs e h =
       performs_as _ (push pops.rest v) old new (binary_ok (F (address_bits old.setup)) old.store.values y x pops.rest v pops.values (call_two (Ok v) e))
       (performs_push pops.rest v old mid new runs (let n = fewer_two y x pops.rest old.store.values pops.values in omega (arith, n)) pops.alone h)
@@ -98,7 +98,7 @@ module _ (constant : ℕ) (old : State) where
   constant_none mid new pops is = performs_refuses _ NotEnoughStackItems old mid new (act_is ∙ unary_none (call (address_bits old.setup)) old.store.values pops.0) (stays_popped None old mid pops) is
 
   module _ (mid : State) (x : Value) (pops : Pops (Some x) old mid) where
-    pub constant_pushes : (new : State) (sum : Value) → old.status ≡ Running → Ok sum ≡ call (address_bits mid.setup) x → Tried 0 (λ s. push_value mid.setup sum (record s { last = Plain })) mid new → Performs (act_of old (operation.PlusConstant constant)) old new
+    pub constant_pushes : (new : State) (sum : Value) → old.status ≡ Running → Ok sum ≡ call (address_bits mid.setup) x → HasTriedChange 0 (λ s. push_value mid.setup sum (record s { last = Plain })) mid new → Performs (act_of old (operation.PlusConstant constant)) old new
     constant_pushes new sum runs e h = performs_as _ _ old new act_is (unary_pushes call old mid x (address_bits mid.setup) pops refl new sum runs e h)
 
     pub constant_refuses : (error : Error) (new : State) → Err error ≡ call (address_bits mid.setup) x → new ≡ with_status (FaultStatus error) mid → Performs (act_of old (operation.PlusConstant constant)) old new

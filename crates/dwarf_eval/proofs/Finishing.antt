@@ -14,14 +14,14 @@ use Rattle.dwarf_meaning.specs.Requests.{Input}
 use Rattle.dwarf_meaning.specs.RunLaws.{waits_of}
 use Rattle.dwarf_meaning.specs.Stores.{Setup, address_bits, Store, Last, Nothing, Plain, Pieced, Pushed, Called, Located, push_piece}
 use Rattle.dwarf_meaning.specs.Run.{Position, CompleteEnd, only_end, turn_by, run}
-use Rattle.dwarf_meaning.specs.Meaning.{Outcome, FaultOutcome, CompleteOutcome, completion_of, has_pieces, whole, finish_value, finish_by, finish}
+use Rattle.dwarf_meaning.specs.Meaning.{Outcome, FaultOutcome, CompleteOutcome, completion_of, has_pieces, whole_piece, finish_value, finish_by, finish}
 use Rattle.dwarf_meaning.specs.Rest.{State, Status, Running, CompleteStatus, FaultStatus, with_refusal, total_of_course}
 use Rattle.dwarf_meaning.specs.Refusals.{Refusal, Never}
 use Rattle.dwarf_meaning.proofs.Choices.{top_none, top_some}
 use Rattle.dwarf_meaning.proofs.Turns.{run_turn}
 use Rattle.dwarf_meaning.specs.Bounds.{endings}
 use Rattle.dwarf_meaning.specs.Inputs.{with_status}
-use Rattle.dwarf_eval.specs.inner.StateChanges.{Does, Refused, Stays, Pops, total, ComesBy, GoesBack, ClosesBy, Closes, is_free, Turns, with_store, with_values, before_pushes}
+use Rattle.dwarf_eval.specs.inner.StateChanges.{ChangesStoreBy, Refused, Stays, Pops, total, ComesToStateBy, GoesBack, ClosesBy, Closes, is_free, Turns, with_store, with_values, before_pushes}
 use Rattle.dwarf_eval.proofs.Reaching.{may_along}
 use Rattle.dwarf_eval.proofs.Loads.{EndsAlike, finish_alike, piece_stored}
 use Rattle.dwarf_eval.proofs.Spending.{nears_by, back_spends, over_spends}
@@ -50,7 +50,7 @@ module _ (f g : Store → Outcome) (m n : ℕ) (old low new : State) (fits : len
   closes_as h = finished_as new.status h
 
 -- a last piece, and then the end
-pub completes_ok : (value : Option Value) (piece : Piece) (old mid new : State) → Does (push_piece old.setup piece) old mid → new ≡ with_status (CompleteStatus value) mid → Closes 1 (λ s. completion_of value (push_piece old.setup piece s)) old new
+pub completes_ok : (value : Option Value) (piece : Piece) (old mid new : State) → ChangesStoreBy (push_piece old.setup piece) old mid → new ≡ with_status (CompleteStatus value) mid → Closes 1 (λ s. completion_of value (push_piece old.setup piece s)) old new
 completes_ok value piece old mid new d e =
     let stored = piece_stored old.setup piece old.store mid.store d.steps in
     let values = ap (λ (z : State). length z.store.values) e ∙ ap (λ (s : Store). length s.values) stored in
@@ -129,14 +129,14 @@ finish_plain (Located location) old new e free none h = cc
 
 -- the value on top is the result
 abbrev pub top_done : Setup → Store → Value → List Value → Outcome
-top_done setup s x rest = completion_of (Some x) (push_piece setup (whole (AtAddress (to_u64_of (address_bits setup) x))) (record s { values = rest }))
+top_done setup s x rest = completion_of (Some x) (push_piece setup (whole_piece (AtAddress (to_u64_of (address_bits setup) x))) (record s { values = rest }))
 
-pub value_closes : (x : Value) (old low new : State) → Pops (Some x) old low → Closes 1 (λ s. completion_of (Some x) (push_piece low.setup (whole (AtAddress (to_u64_of (address_bits low.setup) x))) s)) low new → Closes 0 (finish_value old.setup) old new
+pub value_closes : (x : Value) (old low new : State) → Pops (Some x) old low → Closes 1 (λ s. completion_of (Some x) (push_piece low.setup (whole_piece (AtAddress (to_u64_of (address_bits low.setup) x))) s)) low new → Closes 0 (finish_value old.setup) old new
 value_closes x old low new h t =
     let rest = h.0 in
-    let there = subst (λ (z : State). Closes 1 (λ s. completion_of (Some x) (push_piece z.setup (whole (AtAddress (to_u64_of (address_bits z.setup) x))) s)) z new) h.2 t in
+    let there = subst (λ (z : State). Closes 1 (λ s. completion_of (Some x) (push_piece z.setup (whole_piece (AtAddress (to_u64_of (address_bits z.setup) x))) s)) z new) h.2 t in
     let values = ap length h.1 in
-    closes_as (λ s. completion_of (Some x) (push_piece old.setup (whole (AtAddress (to_u64_of (address_bits old.setup) x))) s)) (finish_value old.setup) 1 0 old (with_values rest old) new (omega (arith, values)) (stays_low rest old.store.last old (with_values rest old) (fewer_one x rest old.store.values h.1) refl)
+    closes_as (λ s. completion_of (Some x) (push_piece old.setup (whole_piece (AtAddress (to_u64_of (address_bits old.setup) x))) s)) (finish_value old.setup) 1 0 old (with_values rest old) new (omega (arith, values)) (stays_low rest old.store.last old (with_values rest old) (fewer_one x rest old.store.values h.1) refl)
     (λ r. top_some old.store.values (FaultOutcome NotEnoughStackItems) (top_done old.setup (with_refusal r old.store)) x rest h.1) (λ s status. refl) there
 
 pub value_none : (old low new : State) → Pops None old low → new ≡ with_status (FaultStatus error.NotEnoughStackItems) low → Closes 0 (finish_value old.setup) old new
@@ -166,7 +166,7 @@ module _ (x : State) (runs : x.status ≡ Running) (end : x.place ≡ length x.t
       let count : new.store.count ≡ x.store.count = ap (λ (s : Store). s.count) store in
       let waits = ap (λ (s : Store). waits_of s.last) store in
       record {
-        comes = subst (ComesBy x (total x) new) (sym still) (record {
+        comes = subst (ComesToStateBy x (total x) new) (sym still) (record {
           pushes = 0;
           same = λ r inputs.
               end_total r inputs
@@ -188,7 +188,7 @@ module _ (x : State) (runs : x.status ≡ Running) (end : x.place ≡ length x.t
 
   finish_turned : (new : State) (status : Status) → x.callers ≡ [] → new.status ≡ status → ClosesBy (waits_of x.store.last) (finish x.setup) x new status → Turns x new
   finish_turned new (CompleteStatus value) none e h = record {
-    comes = subst (ComesBy x (total x) new) (sym e) (record {
+    comes = subst (ComesToStateBy x (total x) new) (sym e) (record {
       pushes = h.steps.pushes;
       same = λ r inputs.
           outer_total (before_pushes h.steps.pushes r) inputs (CompleteOutcome new.store.pieces value) none (h.steps.same r)

@@ -8,7 +8,7 @@ use Rattle.dwarf_meaning.specs.Rest.{State, Status, Start, Running, RequestStatu
 use Rattle.dwarf_meaning.specs.Steps.{Reply, reply}
 use Rattle.dwarf_meaning.specs.Refusals.{Refusal, Never, After, IsLater}
 use Rattle.dwarf_eval.specs.Evaluation.{Follows, IsReplied}
-use Rattle.dwarf_eval.specs.inner.StateChanges.{Reaches, Falls, ComesBy, Comes, before_pushes}
+use Rattle.dwarf_eval.specs.inner.StateChanges.{Reaches, Falls, ComesToStateBy, ComesToState, before_pushes}
 use Rattle.dwarf_eval.proofs.RefusedPushes.{before_never, before_later}
 use Rattle.dwarf_eval.proofs.Totals.{course_open}
 pub use Rattle.dwarf_eval.proofs.Totals.{total_open, total_complete, total_meaning}
@@ -70,12 +70,12 @@ module _ (old : State) (totals : Refusal → List Input → Total) (new : State)
     spends = h.spends;
   }
 
-  follows_by : (status : Status) → new.status ≡ status → ComesBy old totals new status → IsReplied replied new.status → Follows old totals replied new
+  follows_by : (status : Status) → new.status ≡ status → ComesToStateBy old totals new status → IsReplied replied new.status → Follows old totals replied new
   follows_by (FaultStatus error) e h t = fell_follows error e h t
   follows_by Running e h t = absurd (subst (IsReplied replied) e t)
   follows_by (Start initial_value) e h t = absurd h
   follows_by _ e h t = came_follows (ap faults_in e) h t
 
   -- a call that replies answers its outcome
-  pub comes_follow : Comes old totals new → IsReplied replied new.status → Follows old totals replied new
+  pub comes_follow : ComesToState old totals new → IsReplied replied new.status → Follows old totals replied new
   comes_follow h t = follows_by new.status refl h t

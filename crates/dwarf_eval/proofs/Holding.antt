@@ -11,14 +11,14 @@ use Rattle.dwarf_meaning.specs.Operations.{Operation}
 use Rattle.dwarf_meaning.specs.Locations.{Location, Piece, sized_piece}
 use Rattle.dwarf_meaning.specs.Requests.{Input}
 use Rattle.dwarf_meaning.specs.RunLaws.{waits_of}
-use Rattle.dwarf_meaning.specs.Stores.{Store, Last, Pieced, Located, push_piece, Next, Goes, FaultNext, goes, do_act}
+use Rattle.dwarf_meaning.specs.Stores.{Store, Last, Pieced, Located, push_piece, Next, Goes, FaultNext, next_at, do_act}
 use Rattle.dwarf_meaning.specs.Run.{after_operation, do_operation, located_act, read, run, turn_by}
 use Rattle.dwarf_meaning.specs.Meaning.{FaultOutcome}
 use Rattle.dwarf_meaning.specs.Rest.{State, Running, FaultStatus, with_refusal, total_of_course}
 use Rattle.dwarf_meaning.specs.Refusals.{Refusal, Never}
 use Rattle.dwarf_meaning.specs.Bounds.{is_given, endings}
 use Rattle.dwarf_meaning.specs.Inputs.{with_status}
-use Rattle.dwarf_eval.specs.inner.StateChanges.{Does, Refused, Tries, ReadsOperation, EndsLocated, total, ComesBy, Turns, read_to, with_last, before_pushes}
+use Rattle.dwarf_eval.specs.inner.StateChanges.{ChangesStoreBy, Refused, TriesChange, ReadsOperation, EndsLocated, total, ComesToStateBy, Turns, read_to, with_last, before_pushes}
 use Rattle.dwarf_eval.proofs.Loads.{endings_more, piece_due, kept_in, piece_stored}
 use Rattle.dwarf_eval.proofs.Spending.{nears_by, held_spends}
 use Rattle.dwarf_eval.proofs.Staying.{stays_status}
@@ -77,7 +77,7 @@ module _ (x : State) (location : Location) (runs : x.status ≡ Running) (inside
       abbrev mid : State
       mid = with_last Pieced (read_to place_then x)
 
-      piece_turned : (new : State) → Does (push_piece x.setup piece) mid new → Turns x new
+      piece_turned : (new : State) → ChangesStoreBy (push_piece x.setup piece) mid new → Turns x new
       piece_turned new d =
           let still : new.status ≡ Running = ap (λ (z : State). z.status) d.alone ∙ runs in
           let stored = piece_stored x.setup piece mid.store new.store d.steps in
@@ -93,10 +93,10 @@ module _ (x : State) (location : Location) (runs : x.status ≡ Running) (inside
           let was = effort_running x runs in
           let is = effort_running new still in
           record {
-            comes = subst (ComesBy x (total x) new) (sym still) (record {
+            comes = subst (ComesToStateBy x (total x) new) (sym still) (record {
               pushes = d.steps.pushes;
               same = λ r inputs.
-                  held_after_operation (before_pushes d.steps.pushes r) inputs _ (Goes place_then (with_refusal r new.store)) some (ap (goes place_then) (d.steps.same r))
+                  held_after_operation (before_pushes d.steps.pushes r) inputs _ (Goes place_then (with_refusal r new.store)) some (ap (next_at place_then) (d.steps.same r))
                   ∙ (ap (λ (n : ℕ). going (record mid { store = record mid.store { count = n } }) (with_refusal r new.store) inputs) (sym count)
                   ∙ sym (total_running r new inputs still ∙ ap (λ (z : State). going z (with_refusal r new.store) inputs) d.alone));
               kept = record { setup = ap (λ (z : State). z.setup) d.alone; settings = ap (λ (s : Store). s.settings) stored };
@@ -110,11 +110,11 @@ module _ (x : State) (location : Location) (runs : x.status ≡ Running) (inside
       piece_falls new h =
           falls_from x mid new h.error h.gets.refusal runs h.failed h.gets.may
           (λ inputs.
-          held_after_operation h.gets.refusal inputs _ (FaultNext (fault_of h.error)) some (ap (goes place_then) h.gets.same)
+          held_after_operation h.gets.refusal inputs _ (FaultNext (fault_of h.error)) some (ap (next_at place_then) h.gets.same)
           ∙ course_failed x.store.count x.setup x.callers (fault_of h.error))
           (reads_piece place_then Pieced) h.stays
 
-      piece_turns : (new : State) (done : Bool) → Tries 0 (push_piece x.setup piece) mid new done → Turns x new
+      piece_turns : (new : State) (done : Bool) → TriesChange 0 (push_piece x.setup piece) mid new done → Turns x new
       piece_turns new true h = piece_turned new h
       piece_turns new false h = piece_falls new h
 

@@ -8,17 +8,17 @@ use Rattle.dwarf_meaning.specs.Operations.{Operation}
 use Rattle.dwarf_meaning.specs.Locations.{Piece, Location, Empty, InRegister, AtAddress, HoldsValue, HoldsBytes, PointsInto}
 use Rattle.dwarf_meaning.specs.Acts.{Act, Pushes, Branches, Locates, EndsPiece, RequestAct, FaultAct, on_top}
 use Rattle.dwarf_meaning.specs.RunLaws.{waits_of}
-use Rattle.dwarf_meaning.specs.Stores.{Setup, Store, Last, Plain, Pieced, push_value, push_piece, push_caller, push_values, Next, Goes, RequestNext, FaultNext, goes, do_act, branch_target, address_bits, Nothing, Pushed, Called, Located}
-use Rattle.dwarf_meaning.specs.Refusals.{Never, room}
+use Rattle.dwarf_meaning.specs.Stores.{Setup, Store, Last, Plain, Pieced, push_value, push_piece, push_caller, push_values, Next, Goes, RequestNext, FaultNext, next_at, do_act, branch_target, address_bits, Nothing, Pushed, Called, Located}
+use Rattle.dwarf_meaning.specs.Refusals.{Never, push_with_room}
 use Rattle.dwarf_meaning.specs.Rest.{with_refusal, Status, Start, Running, RequestStatus}
-use Rattle.dwarf_eval.specs.inner.StateChanges.{Steps, is_free, before_pushes}
+use Rattle.dwarf_eval.specs.inner.StateChanges.{StoreSteps, is_free, before_pushes}
 use Rattle.dwarf_meaning.proofs.Counts.{OnStore, bound_store, on_bound, OnNext, on_goes}
 use Rattle.dwarf_meaning.proofs.Effects.{IsActOf, pushes, branches, locates, ends, asks, IsGivenBy, IsOwnPlace}
 use Rattle.std.specs.List.{list_all}
 use Rattle.std.proofs.lemmas.List.Sums.{sum_by-append}
 use Rattle.dwarf_base.specs.declared.errors.Error.TheVariants.{NotEnoughStackItems}
 use Rattle.dwarf_value.specs.Values.{to_u64_of}
-use Rattle.dwarf_meaning.specs.Meaning.{Outcome, FaultOutcome, CompleteOutcome, completion_of, whole, finish_value, finish, has_pieces}
+use Rattle.dwarf_meaning.specs.Meaning.{Outcome, FaultOutcome, CompleteOutcome, completion_of, whole_piece, finish_value, finish, has_pieces}
 use Rattle.dwarf_meaning.specs.Requests.{Request, OnAnswer}
 use Rattle.dwarf_meaning.specs.Bounds.{waiting, is_given, endings}
 
@@ -32,35 +32,35 @@ Keeping n t = kept_in t ≡ n
 value_adds : (setup : Setup) (value : Value) (s : Store) → OnStore (Keeping (kept_in s + 1)) (push_value setup value s)
 unfolding push_value
 value_adds setup value s =
-    bound_store (Keeping (kept_in s + 1)) (room setup.limits.values (length s.values) s.refusal) (λ left. record s { values = value ∷ s.values; refusal = left }) (λ left. omega arith)
+    bound_store (Keeping (kept_in s + 1)) (push_with_room setup.limits.values (length s.values) s.refusal) (λ left. record s { values = value ∷ s.values; refusal = left }) (λ left. omega arith)
 
 piece_adds : (setup : Setup) (piece : Piece) (s : Store) → OnStore (Keeping (kept_in s + 1)) (push_piece setup piece s)
 unfolding push_piece
 piece_adds setup piece s =
     let longer = length-append s.pieces (piece ∷ []) in
-    bound_store (Keeping (kept_in s + 1)) (room setup.limits.pieces (length s.pieces) s.refusal) (λ left. record s { pieces = s.pieces ++ piece ∷ []; refusal = left }) (λ left. omega (arith, longer))
+    bound_store (Keeping (kept_in s + 1)) (push_with_room setup.limits.pieces (length s.pieces) s.refusal) (λ left. record s { pieces = s.pieces ++ piece ∷ []; refusal = left }) (λ left. omega (arith, longer))
 
 -- what is kept after a push: a value more, a piece more, or the same
-pub value_stored : (setup : Setup) (value : Value) (old new : Store) → Steps (push_value setup value) old Ok new → with_refusal Never new ≡ record old { values = value ∷ old.values; refusal = Never }
+pub value_stored : (setup : Setup) (value : Value) (old new : Store) → StoreSteps (push_value setup value) old Ok new → with_refusal Never new ≡ record old { values = value ∷ old.values; refusal = Never }
 unfolding push_value
 value_stored setup value old new h =
     let s : Store = with_refusal (before_pushes h.pushes Never) old in
     let P : Store → Type 0 = λ t. t ≡ record s { values = value ∷ s.values; refusal = t.refusal } in
-    subst (OnStore P) (h.same Never) (bound_store P (room setup.limits.values (length s.values) s.refusal) (λ left. record s { values = value ∷ s.values; refusal = left }) (λ left. refl))
+    subst (OnStore P) (h.same Never) (bound_store P (push_with_room setup.limits.values (length s.values) s.refusal) (λ left. record s { values = value ∷ s.values; refusal = left }) (λ left. refl))
 
-pub piece_stored : (setup : Setup) (piece : Piece) (old new : Store) → Steps (push_piece setup piece) old Ok new → with_refusal Never new ≡ record old { pieces = old.pieces ++ piece ∷ []; refusal = Never }
+pub piece_stored : (setup : Setup) (piece : Piece) (old new : Store) → StoreSteps (push_piece setup piece) old Ok new → with_refusal Never new ≡ record old { pieces = old.pieces ++ piece ∷ []; refusal = Never }
 unfolding push_piece
 piece_stored setup piece old new h =
     let s : Store = with_refusal (before_pushes h.pushes Never) old in
     let P : Store → Type 0 = λ t. t ≡ record s { pieces = s.pieces ++ piece ∷ []; refusal = t.refusal } in
-    subst (OnStore P) (h.same Never) (bound_store P (room setup.limits.pieces (length s.pieces) s.refusal) (λ left. record s { pieces = s.pieces ++ piece ∷ []; refusal = left }) (λ left. refl))
+    subst (OnStore P) (h.same Never) (bound_store P (push_with_room setup.limits.pieces (length s.pieces) s.refusal) (λ left. record s { pieces = s.pieces ++ piece ∷ []; refusal = left }) (λ left. refl))
 
-pub caller_stored : (setup : Setup) (depth : ℕ) (old new : Store) → Steps (push_caller setup depth) old Ok new → with_refusal Never new ≡ record old { refusal = Never }
+pub caller_stored : (setup : Setup) (depth : ℕ) (old new : Store) → StoreSteps (push_caller setup depth) old Ok new → with_refusal Never new ≡ record old { refusal = Never }
 unfolding push_caller
 caller_stored setup depth old new h =
     let s : Store = with_refusal (before_pushes h.pushes Never) old in
     let P : Store → Type 0 = λ t. t ≡ record s { refusal = t.refusal } in
-    subst (OnStore P) (h.same Never) (bound_store P (room setup.limits.callers depth s.refusal) (λ left. record s { refusal = left }) (λ left. refl))
+    subst (OnStore P) (h.same Never) (bound_store P (push_with_room setup.limits.callers depth s.refusal) (λ left. record s { refusal = left }) (λ left. refl))
 
 pub values_add : (setup : Setup) (values : List Value) (s : Store) → OnStore (Keeping (kept_in s + length values)) (push_values setup values s)
 values_add setup [] s = omega arith
@@ -74,7 +74,7 @@ IsLighter n (Goes place t) = kept_in t ≤ n + 1
 IsLighter n (RequestNext request on_answer t) = kept_in t ≤ n
 IsLighter n (FaultNext fault) = Unit {0}
 
-goes_lighter : (n m place : ℕ) (r : Result Store Fault) → n ≤ m + 1 → OnStore (Keeping n) r → IsLighter m (goes place r)
+goes_lighter : (n m place : ℕ) (r : Result Store Fault) → n ≤ m + 1 → OnStore (Keeping n) r → IsLighter m (next_at place r)
 goes_lighter n m place (Ok s) h e = omega (arith, h, e)
 goes_lighter n m place (Err fault) h e = tt
 
@@ -133,7 +133,7 @@ piece_ends : (setup : Setup) (piece : Piece) (s : Store) → OnStore (Ending (en
 unfolding push_piece
 piece_ends setup piece s =
     let n = endings s.pieces + ending_of piece in
-    bound_store (Ending n) (room setup.limits.pieces (length s.pieces) s.refusal) (λ left. record s { pieces = s.pieces ++ piece ∷ []; refusal = left }) (λ left. endings_more s.pieces piece)
+    bound_store (Ending n) (push_with_room setup.limits.pieces (length s.pieces) s.refusal) (λ left. record s { pieces = s.pieces ++ piece ∷ []; refusal = left }) (λ left. endings_more s.pieces piece)
 
 -- as many pieces ended a location, and an operation gave the one that waits
 pub record EndsNoMore (n : ℕ) (t : Store) : Type 0 where
@@ -143,7 +143,7 @@ pub record EndsNoMore (n : ℕ) (t : Store) : Type 0 where
 value_ends : (n : ℕ) (setup : Setup) (value : Value) (s : Store) → EndsNoMore n s → OnStore (EndsNoMore n) (push_value setup value s)
 unfolding push_value
 value_ends n setup value s h =
-    bound_store (EndsNoMore n) (room setup.limits.values (length s.values) s.refusal) (λ left. record s { values = value ∷ s.values; refusal = left }) (λ left. record { pieces = h.pieces; given = h.given })
+    bound_store (EndsNoMore n) (push_with_room setup.limits.values (length s.values) s.refusal) (λ left. record s { values = value ∷ s.values; refusal = left }) (λ left. record { pieces = h.pieces; given = h.given })
 
 values_end : (n : ℕ) (setup : Setup) (values : List Value) (s : Store) → EndsNoMore n s → OnStore (EndsNoMore n) (push_values setup values s)
 values_end n setup [] s h = h
@@ -153,7 +153,7 @@ own_ends : (n : ℕ) (setup : Setup) (piece : Piece) (s : Store) → ending_of p
 unfolding push_piece
 own_ends n setup piece s none h =
     let more = endings_more s.pieces piece in
-    bound_store (EndsNoMore n) (room setup.limits.pieces (length s.pieces) s.refusal) (λ left. record s { pieces = s.pieces ++ piece ∷ []; refusal = left })
+    bound_store (EndsNoMore n) (push_with_room setup.limits.pieces (length s.pieces) s.refusal) (λ left. record s { pieces = s.pieces ++ piece ∷ []; refusal = left })
     (λ left. record { pieces = omega (arith, more, h.pieces, none); given = h.given })
 
 given_by : (op : Operation) (location : Location) → IsGivenBy op location → AllGiven (location ∷ [])
@@ -193,10 +193,10 @@ stored_alike : (n : ℕ) (value : Option Value) (r : Result Store Fault) → OnS
 stored_alike n value (Ok s) h = h
 stored_alike n value (Err fault) h = tt
 
-whole_alike : (setup : Setup) (value : Option Value) (location : Location) (s : Store) → EndsAlike (endings s.pieces) (completion_of value (push_piece setup (whole location) s))
+whole_alike : (setup : Setup) (value : Option Value) (location : Location) (s : Store) → EndsAlike (endings s.pieces) (completion_of value (push_piece setup (whole_piece location) s))
 whole_alike setup value location s =
-    stored_alike (endings s.pieces) value (push_piece setup (whole location) s)
-    (let n : endings s.pieces + 0 ≡ endings s.pieces = omega arith in subst (λ (k : ℕ). OnStore (Ending k) (push_piece setup (whole location) s)) n (piece_ends setup (whole location) s))
+    stored_alike (endings s.pieces) value (push_piece setup (whole_piece location) s)
+    (let n : endings s.pieces + 0 ≡ endings s.pieces = omega arith in subst (λ (k : ℕ). OnStore (Ending k) (push_piece setup (whole_piece location) s)) n (piece_ends setup (whole_piece location) s))
 
 value_alike : (n : ℕ) (values : List Value) (go : Value → List Value → Outcome) → ((x : Value) (rest : List Value) → EndsAlike n (go x rest)) → EndsAlike n (on_top values (FaultOutcome NotEnoughStackItems) go)
 unfolding on_top

@@ -7,7 +7,7 @@ use Rattle.dwarf_base.specs.Numbers.{residue}
 use Rattle.dwarf_value.proofs.Congruences.{Congruent, Congruent-add, Congruent-residue, residue-Congruent}
 use Rattle.std.proofs.lemmas.Nat.Bits.{ones_shr}
 use Rattle.std.proofs.lemmas.Bool.Decides.{nat_tests}
-use Rattle.dwarf_meaning.specs.Run.{most}
+use Rattle.dwarf_meaning.specs.Run.{most_operations}
 
 pub residue-add : (bits place : ℕ) (z : ℤ) → (place + residue bits z) % 2 ^ bits ≡ residue bits (pos place +ℤ z)
 residue-add bits place z =
@@ -28,6 +28,6 @@ mask_is bytes h =
     let low : 64 - (64 - 8 * bytes) ≡ 8 * bytes = omega (arith, h) in
     ones_shr 64 (64 - 8 * bytes) (omega arith) ∙ ap (λ (k : ℕ). 2 ^ k - 1) low
 
-pub may_count : (count maximum : ℕ) → count < maximum → maximum < 2 ^ 32 → (nat_lt count maximum && nat_lt count most) ≡ true
-unfolding most
+pub may_count : (count maximum : ℕ) → count < maximum → maximum < 2 ^ 32 → (nat_lt count maximum && nat_lt count most_operations) ≡ true
+unfolding most_operations
 may_count count maximum h i = grind (arith, nat_tests)

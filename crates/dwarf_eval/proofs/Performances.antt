@@ -10,12 +10,12 @@ use Rattle.dwarf_value.specs.declared.types.Value.{Value}
 use Rattle.dwarf_meaning.specs.Locations.{Location, Piece}
 use Rattle.dwarf_meaning.specs.Requests.{Request, OnAnswer}
 use Rattle.dwarf_meaning.specs.Acts.{Act, Pushes, Branches, Locates, EndsPiece, RequestAct, FaultAct, push}
-use Rattle.dwarf_meaning.specs.Stores.{Setup, Store, Last, Plain, Pieced, Located, push_value, push_piece, push_values, Next, Goes, RequestNext, FaultNext, goes, branch_target, branch}
+use Rattle.dwarf_meaning.specs.Stores.{Setup, Store, Last, Plain, Pieced, Located, push_value, push_piece, push_values, Next, Goes, RequestNext, FaultNext, next_at, branch_target, branch}
 use Rattle.dwarf_meaning.specs.Rest.{State, Status, Start, Running, RequestStatus, CompleteStatus, FaultStatus, with_refusal}
 use Rattle.dwarf_meaning.specs.Refusals.{Refusal, Never}
 use Rattle.dwarf_meaning.specs.Inputs.{with_status}
 use Rattle.dwarf_eval.specs.inner.Machine.{replied_status}
-use Rattle.dwarf_eval.specs.inner.StateChanges.{Asks, Stays, Tries, Tried, Pops, Jumps, do_act_at, LeadsToFault, LeadsBy, Performs, with_store, with_values, with_last, with_place, PopsGenerics, before_pushes}
+use Rattle.dwarf_eval.specs.inner.StateChanges.{Asks, Stays, TriesChange, HasTriedChange, Pops, Jumps, do_act_at, LeadsToFault, LeadsBy, Performs, with_store, with_values, with_last, with_place, PopsGenerics, before_pushes}
 use Rattle.dwarf_eval.proofs.RefusedPushes.{tries_as, bind_ok}
 use Rattle.dwarf_eval.proofs.Staying.{stays_from, stays_low, stays_then}
 use Rattle.std.proofs.lemmas.Option.{none-some}
@@ -35,8 +35,8 @@ performs_refuses a error old mid new e stays is =
     })
 
 -- an act that goes on after the operation, once f is done
-module _ (a : Act) (f : Store → Result Store Fault) (old : State) (is : (s : Store) → do_act_at a old s ≡ goes old.place (f s)) where
-  pub performs_goes : (new : State) (done : Bool) → old.status ≡ Running → Tries 0 f old new done → Performs a old new
+module _ (a : Act) (f : Store → Result Store Fault) (old : State) (is : (s : Store) → do_act_at a old s ≡ next_at old.place (f s)) where
+  pub performs_goes : (new : State) (done : Bool) → old.status ≡ Running → TriesChange 0 f old new done → Performs a old new
   performs_goes new true runs d =
       let place : new.place ≡ old.place = ap (λ (x : State). x.place) d.alone in
       let still : new.status ≡ Running = ap (λ (x : State). x.status) d.alone ∙ runs in
@@ -45,7 +45,7 @@ module _ (a : Act) (f : Store → Result Store Fault) (old : State) (is : (s : S
           pushes = d.steps.pushes;
           same = λ r.
               is (with_refusal (before_pushes d.steps.pushes r) old.store)
-              ∙ (ap (goes old.place) (d.steps.same r) ∙ ap (λ (p : ℕ). Goes p (with_refusal r new.store)) (sym place));
+              ∙ (ap (next_at old.place) (d.steps.same r) ∙ ap (λ (p : ℕ). Goes p (with_refusal r new.store)) (sym place));
         };
         alone = d.alone ∙ ap (λ (p : ℕ). with_store new.store (with_place p old)) (sym place);
       })
@@ -54,7 +54,7 @@ module _ (a : Act) (f : Store → Result Store Fault) (old : State) (is : (s : S
         gets = record {
           refusal = h.gets.refusal;
           may = h.gets.may;
-          same = is (with_refusal h.gets.refusal old.store) ∙ ap (goes old.place) h.gets.same;
+          same = is (with_refusal h.gets.refusal old.store) ∙ ap (next_at old.place) h.gets.same;
         };
         stays = h.stays;
       })
@@ -63,22 +63,22 @@ module _ (a : Act) (f : Store → Result Store Fault) (old : State) (is : (s : S
 abbrev pub from : (values : List Value) → Last → (Store → Result Store Fault) → Store → Result Store Fault
 from values last f s = f (record s { values = values; last = last })
 
-tries_from : (rest : List Value) (last : Last) (f : Setup → Store → Result Store Fault) (old mid new : State) (done : Bool) → length rest ≤ length old.store.values → mid ≡ with_last last (with_values rest old) → Tries 0 (f mid.setup) mid new done → Tries 0 (from rest last (f old.setup)) old new done
+tries_from : (rest : List Value) (last : Last) (f : Setup → Store → Result Store Fault) (old mid new : State) (done : Bool) → length rest ≤ length old.store.values → mid ≡ with_last last (with_values rest old) → TriesChange 0 (f mid.setup) mid new done → TriesChange 0 (from rest last (f old.setup)) old new done
 tries_from rest last f old mid new done fewer e h =
-    let h' = subst (λ (z : State). Tries 0 (f z.setup) z new done) e h in
+    let h' = subst (λ (z : State). TriesChange 0 (f z.setup) z new done) e h in
     tries_as 0 0 (f old.setup) (from rest last (f old.setup)) old (with_last last (with_values rest old)) new done (λ r. refl) (λ s. refl) refl
     (stays_from 0 0 rest last old.status old new (omega (arith, fewer))) h'
 
 -- Values are pushed; if one is refused, no more are there than were popped.
-pub performs_pushes : (more : ℕ) (rest pushed : List Value) (old mid new : State) → old.status ≡ Running → length rest + more ≤ length old.store.values → mid ≡ with_values rest old → Tried more (λ s. push_values mid.setup pushed (record s { last = Plain })) mid new → Performs (Pushes rest pushed) old new
+pub performs_pushes : (more : ℕ) (rest pushed : List Value) (old mid new : State) → old.status ≡ Running → length rest + more ≤ length old.store.values → mid ≡ with_values rest old → HasTriedChange more (λ s. push_values mid.setup pushed (record s { last = Plain })) mid new → Performs (Pushes rest pushed) old new
 performs_pushes more rest pushed old mid new runs fits e h =
-    let h' = subst (λ (z : State). Tries more (λ s. push_values z.setup pushed (record s { last = Plain })) z new h.0) e h.1 in
+    let h' = subst (λ (z : State). TriesChange more (λ s. push_values z.setup pushed (record s { last = Plain })) z new h.0) e h.1 in
     performs_goes (Pushes rest pushed) (from rest Plain (push_values old.setup pushed)) old (λ s. refl) new h.0 runs
     (tries_as more 0 (λ s. push_values old.setup pushed (record s { last = Plain })) (from rest Plain (push_values old.setup pushed)) old (with_values rest old) new h.0 (λ r. refl) (λ s. refl) refl
     (stays_from more 0 rest old.store.last old.status old new (omega (arith, fits))) h')
 
 -- one value is pushed
-pub performs_push : (rest : List Value) (value : Value) (old mid new : State) → old.status ≡ Running → length rest ≤ length old.store.values → mid ≡ with_values rest old → Tried 0 (λ s. push_value mid.setup value (record s { last = Plain })) mid new → Performs (Pushes rest (value ∷ [])) old new
+pub performs_push : (rest : List Value) (value : Value) (old mid new : State) → old.status ≡ Running → length rest ≤ length old.store.values → mid ≡ with_values rest old → HasTriedChange 0 (λ s. push_value mid.setup value (record s { last = Plain })) mid new → Performs (Pushes rest (value ∷ [])) old new
 performs_push rest value old mid new runs fewer e h =
     performs_pushes 0 rest (value ∷ []) old mid new runs (omega (arith, fewer)) e (
       h.0,
@@ -87,7 +87,7 @@ performs_push rest value old mid new runs fewer e h =
     )
 
 -- a value is pushed on those that are there
-pub performs_more : (value : Value) (old new : State) → old.status ≡ Running → Tried 0 (λ s. push_value old.setup value (record s { last = Plain })) old new → Performs (push old.store.values value) old new
+pub performs_more : (value : Value) (old new : State) → old.status ≡ Running → HasTriedChange 0 (λ s. push_value old.setup value (record s { last = Plain })) old new → Performs (push old.store.values value) old new
 performs_more value old new runs h = performs_push old.store.values value old old new runs (omega arith) refl h
 
 -- nothing is pushed
@@ -107,7 +107,7 @@ performs_located rest location old new runs e =
     })
 
 -- a piece is ended
-pub performs_ends : (rest : List Value) (piece : Piece) (old mid new : State) (done : Bool) → old.status ≡ Running → length rest ≤ length old.store.values → mid ≡ with_last Pieced (with_values rest old) → Tries 0 (push_piece mid.setup piece) mid new done → Performs (EndsPiece rest piece) old new
+pub performs_ends : (rest : List Value) (piece : Piece) (old mid new : State) (done : Bool) → old.status ≡ Running → length rest ≤ length old.store.values → mid ≡ with_last Pieced (with_values rest old) → TriesChange 0 (push_piece mid.setup piece) mid new done → Performs (EndsPiece rest piece) old new
 performs_ends rest piece old mid new done runs fewer e h =
     performs_goes (EndsPiece rest piece) (from rest Pieced (push_piece old.setup piece)) old (λ s. refl) new done runs
     (tries_from rest Pieced (λ setup. push_piece setup piece) old mid new done fewer e h)

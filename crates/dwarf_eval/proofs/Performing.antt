@@ -5,7 +5,7 @@ use Rattle.dwarf_base.specs.Reads.{IsSuffix}
 use Rattle.dwarf_meaning.specs.Locations.{Location}
 use Rattle.dwarf_meaning.specs.Stores.{Last, Located}
 use Rattle.dwarf_meaning.specs.Rest.{State, Status, Running}
-use Rattle.dwarf_eval.specs.inner.StateChanges.{Comes, CountsOne, IsReady, Turns, at, effort, goes_on, is_free, is_running, total}
+use Rattle.dwarf_eval.specs.inner.StateChanges.{ComesToState, CountsOne, IsReady, Turns, at_rest, effort, goes_on, is_free, is_running, total}
 use Rattle.dwarf_eval.proofs.Reaching.{comes_here, comes_more}
 use Rattle.dwarf_eval.proofs.Turning.{ready_none}
 
@@ -39,18 +39,18 @@ some_left left bytes h = let fewer = h.no_longer in grind (arith, nat_tests, few
 -- ---- the turn
 
 -- the maximum doesn't allow one more
-pub none_turns : (left : List ℕ) (x new : State) → IsReady (at left x) → CountsOne x new false → Turns (at left x) (at left new)
-none_turns left x new ready h = ready_none (at left x) ready (at left new) (h.0, ap (at left) h.1)
+pub none_turns : (left : List ℕ) (x new : State) → IsReady (at_rest left x) → CountsOne x new false → Turns (at_rest left x) (at_rest left new)
+none_turns left x new ready h = ready_none (at_rest left x) ready (at_rest left new) (h.0, ap (at_rest left) h.1)
 
 -- the operation before what is left, counted
-pub counted_there : (left : List ℕ) (x counted_x : State) → CountsOne x counted_x true → CountsOne (at left x) (at left counted_x) true
-counted_there left x counted_x can = (can.0, ap (at left) can.1)
+pub counted_there : (left : List ℕ) (x counted_x : State) → CountsOne x counted_x true → CountsOne (at_rest left x) (at_rest left counted_x) true
+counted_there left x counted_x can = (can.0, ap (at_rest left) can.1)
 
 -- ---- the loop
 
 -- The state was come to, and is ready if the loop goes on; less is left to do than at the start, once it was gone through.
 pub record StillRuns (start x : State) (on : Bool) : Type 0 where
-  pub comes : Comes start (total start) x
+  pub comes : ComesToState start (total start) x
   pub ready : on ≡ true → IsReady x
   pub less : (on ≡ false) → effort x < effort start
   pub no_more : effort x ≤ effort start

@@ -4,10 +4,10 @@ use Rattle.dwarf_base.specs.Faults.{Fault}
 use Rattle.dwarf_base.specs.Reads.{IsRestOf, Text}
 use Rattle.dwarf_meaning.specs.Operations.{Operation}
 use Rattle.dwarf_meaning.specs.Acts.{Act, Pushes, Branches, EndsPiece}
-use Rattle.dwarf_meaning.specs.Stores.{Setup, Store, Next, Goes, RequestNext, FaultNext, goes, do_act, address_bits}
+use Rattle.dwarf_meaning.specs.Stores.{Setup, Store, Next, Goes, RequestNext, FaultNext, next_at, do_act, address_bits}
 use Rattle.dwarf_meaning.specs.Rest.{State, Status, Start, Running, RequestStatus, CompleteStatus, FaultStatus, with_refusal}
 use Rattle.dwarf_meaning.proofs.Effects.{IsActOf, branches, act_is}
-use Rattle.dwarf_eval.specs.inner.StateChanges.{IsNoBranch, LeadsBy, Performs, Stays, act_of, at, do_act_at, with_place, before_pushes}
+use Rattle.dwarf_eval.specs.inner.StateChanges.{IsNoBranch, LeadsBy, Performs, Stays, act_of, at_rest, do_act_at, with_place, before_pushes}
 
 -- ---- the text
 
@@ -32,7 +32,7 @@ moved place (Goes was s) = Goes place s
 moved place (RequestNext request on_answer s) = RequestNext request on_answer s
 moved place (FaultNext fault) = FaultNext fault
 
-goes_moved : (place was : ℕ) (r : Result Store Fault) → goes place r ≡ moved place (goes was r)
+goes_moved : (place was : ℕ) (r : Result Store Fault) → next_at place r ≡ moved place (next_at was r)
 goes_moved place was (Ok s) = refl
 goes_moved place was (Err fault) = refl
 
@@ -80,10 +80,10 @@ module _ (a : Act) (place : ℕ) (old new : State) (still : IsStill a) where
   beyond_by (CompleteStatus value) h = absurd h
 
 -- the same before what is left of the text
-pub performs_at : (a : Act) (left : List ℕ) (old new : State) → IsStill a → Performs a old new → Performs a (at left old) (at left new)
+pub performs_at : (a : Act) (left : List ℕ) (old new : State) → IsStill a → Performs a old new → Performs a (at_rest left old) (at_rest left new)
 performs_at a left old new still h =
     let place = length old.text.bytes - length left in
-    subst (λ (text : Text). Performs a (at left old) (with_place (length text.bytes - length left) new)) (sym (performs_text a old new h))
+    subst (λ (text : Text). Performs a (at_rest left old) (with_place (length text.bytes - length left) new)) (sym (performs_text a old new h))
     (beyond_by a place old new still new.status h)
 
 -- ---- the operations that take no branch
@@ -96,7 +96,7 @@ still op _ d h = tt
 -- ---- after the bytes of an operation
 
 -- what takes no branch is done before any place
-pub performs_there : (op : Operation) (left : List ℕ) (old new : State) → IsNoBranch op → Performs (act_of old op) old new → Performs (act_of old op) (at left old) (at left new)
+pub performs_there : (op : Operation) (left : List ℕ) (old new : State) → IsNoBranch op → Performs (act_of old op) old new → Performs (act_of old op) (at_rest left old) (at_rest left new)
 performs_there op left old new none h =
     performs_at (act_of old op) left old new (still op (act_of old op) (act_is (address_bits old.setup) old.store.settings.object_address op old.store.values) none) h
 

@@ -9,10 +9,10 @@ use Rattle.dwarf_value.specs.declared.types.Value.{Value}
 use Rattle.dwarf_meaning.specs.Locations.{Piece}
 use Rattle.dwarf_meaning.specs.Stores.{Setup, Store, push_value, push_piece, push_caller}
 use Rattle.dwarf_meaning.specs.Rest.{State, FaultStatus, with_refusal}
-use Rattle.dwarf_meaning.specs.Refusals.{Limits, Refusal, Never, After, room, refusal_after_push, MayPick}
+use Rattle.dwarf_meaning.specs.Refusals.{Limits, Refusal, Never, After, push_with_room, refusal_after_push, MayPick}
 use Rattle.dwarf_eval.specs.Lists.{HasRoom, MayRefuse}
 use Rattle.dwarf_meaning.specs.Inputs.{with_status}
-use Rattle.dwarf_eval.specs.inner.StateChanges.{Steps, Gets, Refused, before_push, before_pushes}
+use Rattle.dwarf_eval.specs.inner.StateChanges.{StoreSteps, MayGive, Refused, before_push, before_pushes}
 use Rattle.dwarf_eval.proofs.Staying.{stays_status}
 
 -- how many pushes on lists without a limit a push is
@@ -25,7 +25,7 @@ after_before_push Never = refl
 after_before_push (After zero pushes) = refl
 after_before_push (After (suc inputs) pushes) = refl
 
-room_before : (limit : Option ℕ) (n : ℕ) (r : Refusal) → HasRoom limit n → room limit n (before_pushes (cost limit) r) ≡ Ok r
+room_before : (limit : Option ℕ) (n : ℕ) (r : Refusal) → HasRoom limit n → push_with_room limit n (before_pushes (cost limit) r) ≡ Ok r
 room_before None n r h = after_before_push r
 room_before (Some limit) n r h = cond-true (nat_lt n limit) (Ok r) (Err StackFull) (grind (arith, nat_tests))
 
@@ -34,7 +34,7 @@ abbrev refuser : Option ℕ → Refusal
 refuser None = After 0 0
 refuser (Some limit) = Never
 
-room_refused : (limit : Option ℕ) (n : ℕ) → MayRefuse limit n → room limit n (refuser limit) ≡ Err StackFull
+room_refused : (limit : Option ℕ) (n : ℕ) → MayRefuse limit n → push_with_room limit n (refuser limit) ≡ Err StackFull
 room_refused None n h = refl
 room_refused (Some limit) n h = cond-false (nat_lt n limit) (Ok Never) (Err StackFull) (grind (arith, nat_tests))
 
@@ -43,34 +43,34 @@ may_refuse limits None h = h refl
 may_refuse limits (Some limit) h = tt
 
 -- a push on a list with this limit and this many items
-module _ (limit : Option ℕ) (n : ℕ) (push : Store → Result Store Fault) (old : Store) (made : Refusal → Store) (is : (r : Refusal) → push (with_refusal r old) ≡ room limit n r >>= λ left. Ok (made left)) where
-  pushed : (new : Store) → HasRoom limit n → ((r : Refusal) → made r ≡ with_refusal r new) → Steps push old Ok new
+module _ (limit : Option ℕ) (n : ℕ) (push : Store → Result Store Fault) (old : Store) (made : Refusal → Store) (is : (r : Refusal) → push (with_refusal r old) ≡ push_with_room limit n r >>= λ left. Ok (made left)) where
+  pushed : (new : Store) → HasRoom limit n → ((r : Refusal) → made r ≡ with_refusal r new) → StoreSteps push old Ok new
   pushed new fits e = record {
     pushes = cost limit;
     same = λ r. is (before_pushes (cost limit) r) ∙ (ap (λ (x : Result Refusal Fault). x >>= λ left. Ok (made left)) (room_before limit n r fits) ∙ ap (λ (s : Store). Ok s) (e r));
   }
 
-  refused : (limits : Limits) → MayRefuse limit n → (limit ≡ None → MayPick limits (After 0 0)) → Gets limits push old (Err StackFull)
+  refused : (limits : Limits) → MayRefuse limit n → (limit ≡ None → MayPick limits (After 0 0)) → MayGive limits push old (Err StackFull)
   refused limits full may = record {
     refusal = refuser limit;
     may = may_refuse limits limit may;
     same = is (refuser limit) ∙ ap (λ (x : Result Refusal Fault). x >>= λ left. Ok (made left)) (room_refused limit n full);
   }
 
-pub value_pushed : (setup : Setup) (value : Value) (old new : Store) → HasRoom setup.limits.values (length old.values) → new ≡ record old { values = value ∷ old.values } → Steps (push_value setup value) old Ok new
+pub value_pushed : (setup : Setup) (value : Value) (old new : Store) → HasRoom setup.limits.values (length old.values) → new ≡ record old { values = value ∷ old.values } → StoreSteps (push_value setup value) old Ok new
 unfolding push_value
 value_pushed setup value old new fits e = pushed setup.limits.values (length old.values) (push_value setup value) old (λ left. record old { values = value ∷ old.values; refusal = left }) (λ r. refl) new fits (λ r. ap (with_refusal r) (sym e))
 
-pub piece_pushed : (setup : Setup) (piece : Piece) (old new : Store) → HasRoom setup.limits.pieces (length old.pieces) → new ≡ record old { pieces = old.pieces ++ piece ∷ [] } → Steps (push_piece setup piece) old Ok new
+pub piece_pushed : (setup : Setup) (piece : Piece) (old new : Store) → HasRoom setup.limits.pieces (length old.pieces) → new ≡ record old { pieces = old.pieces ++ piece ∷ [] } → StoreSteps (push_piece setup piece) old Ok new
 unfolding push_piece
 piece_pushed setup piece old new fits e = pushed setup.limits.pieces (length old.pieces) (push_piece setup piece) old (λ left. record old { pieces = old.pieces ++ piece ∷ []; refusal = left }) (λ r. refl) new fits (λ r. ap (with_refusal r) (sym e))
 
-pub caller_pushed : (setup : Setup) (depth : ℕ) (old new : Store) → HasRoom setup.limits.callers depth → new ≡ old → Steps (push_caller setup depth) old Ok new
+pub caller_pushed : (setup : Setup) (depth : ℕ) (old new : Store) → HasRoom setup.limits.callers depth → new ≡ old → StoreSteps (push_caller setup depth) old Ok new
 unfolding push_caller
 caller_pushed setup depth old new fits e = pushed setup.limits.callers depth (push_caller setup depth) old (λ left. record old { refusal = left }) (λ r. refl) new fits (λ r. ap (with_refusal r) (sym e))
 
 -- the state keeps the fault of a push that is refused
-faults : (push : Store → Result Store Fault) (old new : State) → new ≡ with_status (FaultStatus error.StackFull) old → Gets old.setup.limits push old.store (Err StackFull) → Refused 0 push old new
+faults : (push : Store → Result Store Fault) (old new : State) → new ≡ with_status (FaultStatus error.StackFull) old → MayGive old.setup.limits push old.store (Err StackFull) → Refused 0 push old new
 faults push old new e gets = record {
   error = error.StackFull;
   failed = ap (λ (z : State). z.status) e;

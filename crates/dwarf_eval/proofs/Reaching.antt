@@ -11,7 +11,7 @@ use Rattle.dwarf_meaning.specs.Refusals.{Refusal, MayPick}
 use Rattle.dwarf_meaning.specs.Bounds.{faults_in}
 use Rattle.dwarf_meaning.specs.Inputs.{Keeps, with_status}
 use Rattle.dwarf_eval.specs.inner.Answers.{IsAtRestBy}
-use Rattle.dwarf_eval.specs.inner.StateChanges.{Stays, Total, total, Tries, Reaches, Falls, ComesBy, Comes, HasReply, is_running, before_pushes}
+use Rattle.dwarf_eval.specs.inner.StateChanges.{Stays, Total, total, TriesChange, Reaches, Falls, ComesToStateBy, ComesToState, HasReply, is_running, before_pushes}
 use Rattle.dwarf_eval.proofs.RefusedPushes.{before_more, may_before}
 use Rattle.dwarf_eval.proofs.Loads.{kept_in, value_stored}
 use Rattle.dwarf_eval.proofs.Spending.{nears_by, nears_more, spent_here, spent_more, begun_spends, fallen_spends}
@@ -25,9 +25,9 @@ pub may_along : (a b : State) (r : Refusal) → Keeps a b → MayPick b.setup.li
 may_along a b r h m = subst (λ (z : Setup). MayPick z.limits r) h.setup m
 
 -- a fault, and nothing else was done
-pub falls_here : (x : State) (totals : Refusal → List Input → Total) (new : State) (error : Error) (refusal : Refusal) → faults_in x.status ≡ 0 → new.status ≡ FaultStatus error → MayPick x.setup.limits refusal → ((inputs : List Input) → totals refusal inputs ≡ closed (FaultOutcome (fault_of error)) x.store.count) → Stays 0 x new → Comes x totals new
+pub falls_here : (x : State) (totals : Refusal → List Input → Total) (new : State) (error : Error) (refusal : Refusal) → faults_in x.status ≡ 0 → new.status ≡ FaultStatus error → MayPick x.setup.limits refusal → ((inputs : List Input) → totals refusal inputs ≡ closed (FaultOutcome (fault_of error)) x.store.count) → Stays 0 x new → ComesToState x totals new
 falls_here x totals new error refusal sound failed may same stays =
-    subst (ComesBy x totals new) (sym failed) (record {
+    subst (ComesToStateBy x totals new) (sym failed) (record {
       refusal = refusal;
       may = may;
       same = λ inputs. same inputs ∙ ap (closed (FaultOutcome (fault_of error))) (sym stays.count);
@@ -55,32 +55,32 @@ module _ (old : State) (totals : Refusal → List Input → Total) where
     spends = spent_more 0 old a b h.spends i.spends;
   }
 
-  comes_by : (a b : State) (status : Status) → Reaches old totals a → ComesBy a (total a) b status → ComesBy old totals b status
+  comes_by : (a b : State) (status : Status) → Reaches old totals a → ComesToStateBy a (total a) b status → ComesToStateBy old totals b status
   comes_by a b (FaultStatus error) h i = falls_more a b (fault_of error) h i
   comes_by a b (Start initial_value) h i = absurd i
   comes_by a b _ h i = reaches_more a b h i
 
   -- a state that runs was reached
-  came_running : (a : State) (status : Status) → is_running status ≡ true → ComesBy old totals a status → Reaches old totals a
+  came_running : (a : State) (status : Status) → is_running status ≡ true → ComesToStateBy old totals a status → Reaches old totals a
   came_running a (Start initial_value) is h = absurd h
   came_running a (FaultStatus error) is h = cc
   came_running a _ is h = h
 
   -- one turn more
-  pub comes_more : (a b : State) → is_running a.status ≡ true → Comes old totals a → Comes a (total a) b → Comes old totals b
+  pub comes_more : (a b : State) → is_running a.status ≡ true → ComesToState old totals a → ComesToState a (total a) b → ComesToState old totals b
   comes_more a b is h i = comes_by a b b.status (came_running a a.status is h) i
 
-  over_by : (a : State) (status : Status) → is_running status ≡ false → ComesBy old totals a status → HasReply status
+  over_by : (a : State) (status : Status) → is_running status ≡ false → ComesToStateBy old totals a status → HasReply status
   over_by a Running is h = cc
   over_by a (Start initial_value) is h = absurd h
   over_by a _ is h = tt
 
   -- what came and doesn't run has a reply
-  pub comes_over : (a : State) → is_running a.status ≡ false → Comes old totals a → HasReply a.status
+  pub comes_over : (a : State) → is_running a.status ≡ false → ComesToState old totals a → HasReply a.status
   comes_over a is h = over_by a a.status is h
 
-pub comes_here : (x : State) → x.status ≡ Running → Comes x (total x) x
-comes_here x runs = subst (ComesBy x (total x) x) (sym runs) (reaches_here x runs)
+pub comes_here : (x : State) → x.status ≡ Running → ComesToState x (total x) x
+comes_here x runs = subst (ComesToStateBy x (total x) x) (sym runs) (reaches_here x runs)
 
 pub runs_on : (status : Status) → is_running status ≡ true → status ≡ Running
 runs_on Running h = refl
@@ -88,11 +88,11 @@ runs_on _ h = cc
 
 -- ---- the beginning
 
-pub begins_none : (x new : State) → IsAtRestBy x (Start None) → new ≡ with_status Running x → Comes x (total x) new
+pub begins_none : (x new : State) → IsAtRestBy x (Start None) → new ≡ with_status Running x → ComesToState x (total x) new
 begins_none x new is e =
     let starts : x.status ≡ Start None = ap (λ (z : State). z.status) is in
     let runs : new.status ≡ Running = ap (λ (z : State). z.status) e in
-    subst (ComesBy x (total x) new) (sym runs) (record {
+    subst (ComesToStateBy x (total x) new) (sym runs) (record {
       pushes = 0;
       same = λ r inputs.
           total_start r x inputs None is
@@ -106,14 +106,14 @@ begins_none x new is e =
           nears_by x new (Start None) Running starts runs (omega (arith, count));
     })
 
-begins_pushed : (v : ℕ) (x new : State) (done : Bool) → IsAtRestBy x (Start (Some v)) → Tries 0 (push_value x.setup (Generic v)) (with_status Running x) new done → Comes x (total x) new
+begins_pushed : (v : ℕ) (x new : State) (done : Bool) → IsAtRestBy x (Start (Some v)) → TriesChange 0 (push_value x.setup (Generic v)) (with_status Running x) new done → ComesToState x (total x) new
 begins_pushed v x new true is d =
     let starts : x.status ≡ Start (Some v) = ap (λ (z : State). z.status) is in
     let still : new.status ≡ Running = ap (λ (z : State). z.status) d.alone in
     let stored = value_stored x.setup (Generic v) x.store new.store d.steps in
     let count : new.store.count ≡ x.store.count = ap (λ (s : Store). s.count) stored in
     let kept = ap kept_in stored in
-    subst (ComesBy x (total x) new) (sym still) (record {
+    subst (ComesToStateBy x (total x) new) (sym still) (record {
       pushes = d.steps.pushes;
       same = λ r inputs.
           total_start (before_pushes d.steps.pushes r) x inputs (Some v) is
@@ -129,6 +129,6 @@ begins_pushed v x new false is d =
     (λ inputs. total_start d.gets.refusal x inputs (Some v) is ∙ (ap (started_total x inputs) d.gets.same ∙ started_fails x inputs (fault_of d.error)))
     (stays_from 0 0 x.store.values x.store.last Running x new (omega arith) d.stays)
 
-pub begins_some : (v : ℕ) (x mid new : State) (done : Bool) → IsAtRestBy x (Start (Some v)) → mid ≡ with_status Running x → Tries 0 (push_value mid.setup (Generic v)) mid new done → Comes x (total x) new
+pub begins_some : (v : ℕ) (x mid new : State) (done : Bool) → IsAtRestBy x (Start (Some v)) → mid ≡ with_status Running x → TriesChange 0 (push_value mid.setup (Generic v)) mid new done → ComesToState x (total x) new
 begins_some v x mid new done is e h =
-    begins_pushed v x new done is (subst (λ (z : State). Tries 0 (push_value z.setup (Generic v)) z new done) e h)
+    begins_pushed v x new done is (subst (λ (z : State). TriesChange 0 (push_value z.setup (Generic v)) z new done) e h)

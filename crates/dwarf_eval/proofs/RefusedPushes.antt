@@ -5,7 +5,7 @@ use Rattle.dwarf_value.specs.declared.types.Value.{Value}
 use Rattle.dwarf_meaning.specs.Stores.{Setup, Store, push_value, push_values, Plain}
 use Rattle.dwarf_meaning.specs.Rest.{State, with_refusal}
 use Rattle.dwarf_meaning.specs.Refusals.{Limits, Refusal, Never, After, MayPick}
-use Rattle.dwarf_eval.specs.inner.StateChanges.{Gets, Does, Stays, Tries, with_store, Refused, Tried, with_last, before_push, before_pushes}
+use Rattle.dwarf_eval.specs.inner.StateChanges.{MayGive, ChangesStoreBy, Stays, TriesChange, with_store, Refused, HasTriedChange, with_last, before_push, before_pushes}
 use Rattle.dwarf_eval.proofs.Staying.{stays_from, stays_more, stays_pushed}
 
 pub before_more : (p q : ℕ) (r : Refusal) → before_pushes (p + q) r ≡ before_pushes p (before_pushes q r)
@@ -34,7 +34,7 @@ may_before limits zero r h = h
 may_before limits (suc p) r h = may_before_push limits _ (may_before limits p r h)
 
 -- if both are alike, one is tried as the other
-pub tries_as : (n m : ℕ) (f g : Store → Result Store Fault) (old mid new : State) (done : Bool) → ((r : Refusal) → g (with_refusal r old.store) ≡ f (with_refusal r mid.store)) → ((s : Store) → with_store s mid ≡ with_store s old) → mid.setup ≡ old.setup → (Stays n mid new → Stays m old new) → Tries n f mid new done → Tries m g old new done
+pub tries_as : (n m : ℕ) (f g : Store → Result Store Fault) (old mid new : State) (done : Bool) → ((r : Refusal) → g (with_refusal r old.store) ≡ f (with_refusal r mid.store)) → ((s : Store) → with_store s mid ≡ with_store s old) → mid.setup ≡ old.setup → (Stays n mid new → Stays m old new) → TriesChange n f mid new done → TriesChange m g old new done
 tries_as n m f g old mid new true is alone setup stays d = record {
   steps = record { pushes = d.steps.pushes; same = λ r. is (before_pushes d.steps.pushes r) ∙ d.steps.same r };
   alone = d.alone ∙ alone new.store;
@@ -51,7 +51,7 @@ tries_as n m f g old mid new false is alone setup stays d = record {
 }
 
 -- first f, and then g
-pub does_then : (n m : ℕ) (f : Store → Result Store Fault) (g : Setup → Store → Result Store Fault) (old mid new : State) (done : Bool) → Does f old mid → (Stays n mid new → Stays m old new) → Tries n (g mid.setup) mid new done → Tries m (λ s. f s >>= g old.setup) old new done
+pub does_then : (n m : ℕ) (f : Store → Result Store Fault) (g : Setup → Store → Result Store Fault) (old mid new : State) (done : Bool) → ChangesStoreBy f old mid → (Stays n mid new → Stays m old new) → TriesChange n (g mid.setup) mid new done → TriesChange m (λ s. f s >>= g old.setup) old new done
 does_then n m f g old mid new true h stays i =
     let setup : mid.setup ≡ old.setup = ap (λ (z : State). z.setup) h.alone in
     let p = h.steps.pushes in
@@ -83,7 +83,7 @@ does_then n m f g old mid new false h stays i =
       stays = stays i.stays;
     }
 
-pub gets_then : (limits : Limits) (f g : Store → Result Store Fault) (s : Store) (fault : Fault) → Gets limits f s (Err fault) → Gets limits (λ z. f z >>= g) s (Err fault)
+pub gets_then : (limits : Limits) (f g : Store → Result Store Fault) (s : Store) (fault : Fault) → MayGive limits f s (Err fault) → MayGive limits (λ z. f z >>= g) s (Err fault)
 gets_then limits f g s fault h = record { refusal = h.refusal; may = h.may; same = ap (λ (z : Result Store Fault). z >>= g) h.same }
 
 pub bind_ok : (r : Result Store Fault) → (r >>= λ s. Ok s) ≡ r
@@ -117,15 +117,15 @@ refused_first first second old new h = refused_values 1 first (second ∷ []) ol
 
 -- the first is pushed, and then the others
 pub values_then : (n : ℕ) (first : Value) (others : List Value) (old mid new : State) (done : Bool)
-    → Does (push_value old.setup first) old mid → Tries n (push_values mid.setup others) mid new done
-    → Tries (1 + n) (push_values old.setup (first ∷ others)) old new done
+    → ChangesStoreBy (push_value old.setup first) old mid → TriesChange n (push_values mid.setup others) mid new done
+    → TriesChange (1 + n) (push_values old.setup (first ∷ others)) old new done
 values_then n first others old mid new done pushed h =
     does_then n (1 + n) (push_value old.setup first) (λ setup. push_values setup others) old mid new done pushed
     (stays_more 1 n old mid new (stays_pushed old.setup first old mid pushed)) h
 
 pub value_then : (first second : Value) (old mid new : State) (done : Bool)
-    → Does (push_value old.setup first) old mid → Tries 0 (push_value mid.setup second) mid new done
-    → Tries 1 (push_values old.setup (first ∷ second ∷ [])) old new done
+    → ChangesStoreBy (push_value old.setup first) old mid → TriesChange 0 (push_value mid.setup second) mid new done
+    → TriesChange 1 (push_values old.setup (first ∷ second ∷ [])) old new done
 value_then first second old mid new done pushed h =
     tries_as 1 1 _ _ old old new done (λ r. push_values-two old.setup first second _) (λ s. refl) refl (λ stays. stays)
     (does_then 0 1 (push_value old.setup first) (λ setup. push_value setup second) old mid new done pushed
@@ -133,10 +133,10 @@ value_then first second old mid new done pushed h =
 
 -- what a plain operation tries, once it is noted that it is one
 pub plain_tried : (n : ℕ) (f : Setup → Store → Result Store Fault) (old marked new : State) (done : Bool)
-    → marked ≡ with_last Plain old → Tries n (f marked.setup) marked new done
-    → Tried n (λ s. f old.setup (record s { last = Plain })) old new
+    → marked ≡ with_last Plain old → TriesChange n (f marked.setup) marked new done
+    → HasTriedChange n (λ s. f old.setup (record s { last = Plain })) old new
 plain_tried n f old marked new done e h =
-    let there = subst (λ (z : State). Tries n (f z.setup) z new done) e h in (
+    let there = subst (λ (z : State). TriesChange n (f z.setup) z new done) e h in (
       done,
       tries_as n n _ _ old (with_last Plain old) new done (λ r. refl) (λ s. refl) refl
           (stays_from n n old.store.values Plain old.status old new (omega arith)) there,

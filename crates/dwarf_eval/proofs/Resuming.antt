@@ -22,7 +22,7 @@ use Rattle.dwarf_meaning.specs.Refusals.{Refusal, Never, After, refusal_after_in
 use Rattle.dwarf_meaning.proofs.Effects.{IsUseOf, use_is}
 use Rattle.dwarf_meaning.specs.Bounds.{waiting, faults_in}
 use Rattle.dwarf_meaning.specs.Inputs.{input_of, with_status}
-use Rattle.dwarf_eval.specs.inner.StateChanges.{Total, total_after, total_used, Does, Refused, Stays, Pops, Tries, Tried, Enters, TriesToEnter, Comes, ComesBy, Takes, with_last, with_values, before_pushes}
+use Rattle.dwarf_eval.specs.inner.StateChanges.{Total, total_after, total_used, ChangesStoreBy, Refused, Stays, Pops, TriesChange, HasTriedChange, Enters, TriesToEnter, ComesToState, ComesToStateBy, TakesAnswer, with_last, with_values, before_pushes}
 use Rattle.dwarf_eval.specs.inner.Answers.{IsWaiting}
 use Rattle.dwarf_eval.proofs.AnswerUses.{IsOpen, IsOpenTo, open_in, turned, turned_none, turned_ok, turned_err}
 use Rattle.dwarf_eval.proofs.Computes.{width_old}
@@ -50,12 +50,12 @@ module _ (x : State) (on_answer : OnAnswer) (answer : Answer) where
         ∙ (ap (total_of_course x.store.count x.setup x.callers) (cond-true (is_same_kind (kind_of_request request) (kind_of_answer answer)) _ _ (same_kinds fits))
         ∙ ap (λ (q : Refusal). total_used x used q inputs) (taken_before r))
 
-    answered_by : (status : Status) → ComesBy x (total_used x (use_of (address_bits x.setup) on_answer answer x.store.values)) new status → ComesBy x (total_after x (input_of x answer)) new status
+    answered_by : (status : Status) → ComesToStateBy x (total_used x (use_of (address_bits x.setup) on_answer answer x.store.values)) new status → ComesToStateBy x (total_after x (input_of x answer)) new status
     answered_by (FaultStatus error) h = record { refusal = h.refusal; may = h.may; same = λ inputs. totals_used h.refusal inputs ∙ h.same inputs; kept = h.kept; spends = h.spends }
     answered_by (Start initial_value) h = h
     answered_by _ h = record { pushes = h.pushes; same = λ r inputs. totals_used (before_pushes h.pushes r) inputs ∙ h.same r inputs; kept = h.kept; spends = h.spends; nears = h.nears }
 
-  pub answer_comes : (new : State) → IsOpenTo (kind_of_answer answer) on_answer x.status → Takes on_answer answer x new → Comes x (total_after x (input_of x answer)) new
+  pub answer_comes : (new : State) → IsOpenTo (kind_of_answer answer) on_answer x.status → TakesAnswer on_answer answer x new → ComesToState x (total_after x (input_of x answer)) new
   answer_comes new now h = answered_by new now.request now.is now.fits new.status h
 
 module _ (x : State) (waits : IsWaiting x.status) (on_answer : OnAnswer) (answer : Answer) where
@@ -75,10 +75,10 @@ module _ (x : State) (waits : IsWaiting x.status) (on_answer : OnAnswer) (answer
   answer_rest r inputs u e = ap (λ (z : Use). total_used x z r inputs) e
 
   -- an answer that ends in a fault
-  takes_fault : (new : State) (error : Error) (refusal : Refusal) → new.status ≡ FaultStatus error → Stays 0 x new → MayPick x.setup.limits refusal → ((inputs : List Input) → totals refusal inputs ≡ closed (FaultOutcome (fault_of error)) x.store.count) → Takes on_answer answer x new
+  takes_fault : (new : State) (error : Error) (refusal : Refusal) → new.status ≡ FaultStatus error → Stays 0 x new → MayPick x.setup.limits refusal → ((inputs : List Input) → totals refusal inputs ≡ closed (FaultOutcome (fault_of error)) x.store.count) → TakesAnswer on_answer answer x new
   takes_fault new error refusal failed stays may same = falls_here x totals new error refusal (ap faults_in now.is) failed may same stays
 
-  pub denies : (error : Error) (mid new : State) → used ≡ FaultUse (fault_of error) → Stays 0 x mid → new ≡ with_status (FaultStatus error) mid → Takes on_answer answer x new
+  pub denies : (error : Error) (mid new : State) → used ≡ FaultUse (fault_of error) → Stays 0 x mid → new ≡ with_status (FaultStatus error) mid → TakesAnswer on_answer answer x new
   denies error mid new e stays is =
       takes_fault new error Never (ap (λ (z : State). z.status) is) (stays_then (FaultStatus error) x mid new stays is) tt
       (λ inputs. answer_rest Never inputs (FaultUse (fault_of error)) e ∙ course_failed x.store.count x.setup x.callers (fault_of error))
@@ -91,7 +91,7 @@ module _ (x : State) (waits : IsWaiting x.status) (on_answer : OnAnswer) (answer
     fewer : length values ≤ length x.store.values
     fewer = subst (IsUseOf answer (length x.store.values)) gives (use_is (address_bits x.setup) on_answer answer x.store.values)
 
-    value_taken : (new : State) → Does (push_value x.setup value) answered new → Takes on_answer answer x new
+    value_taken : (new : State) → ChangesStoreBy (push_value x.setup value) answered new → TakesAnswer on_answer answer x new
     value_taken new d =
         let stored = value_stored x.setup value answered.store new.store d.steps in
         let runs : new.status ≡ Running = ap (λ (z : State). z.status) d.alone in
@@ -101,7 +101,7 @@ module _ (x : State) (waits : IsWaiting x.status) (on_answer : OnAnswer) (answer
         let callers = ap (λ (z : State). length z.callers) d.alone in
         let count : new.store.count ≡ x.store.count = ap (λ (s : Store). s.count) stored in
         let low = fewer in
-        subst (ComesBy x totals new) (sym runs) (record {
+        subst (ComesToStateBy x totals new) (sym runs) (record {
           pushes = d.steps.pushes;
           same = λ r inputs.
               answer_rest (before_pushes d.steps.pushes r) inputs (PushesAnswer values value) gives
@@ -114,7 +114,7 @@ module _ (x : State) (waits : IsWaiting x.status) (on_answer : OnAnswer) (answer
           nears = nears_by x new (RequestStatus now.request now.on_answer) Running now.is runs (omega (arith, count));
         })
 
-    value_refused : (new : State) → Refused 0 (push_value x.setup value) answered new → Takes on_answer answer x new
+    value_refused : (new : State) → Refused 0 (push_value x.setup value) answered new → TakesAnswer on_answer answer x new
     value_refused new h =
         let low = fewer in
         takes_fault new h.error h.gets.refusal h.failed (stays_from 0 0 values Pushed Running x new (omega (arith, low)) h.stays) h.gets.may
@@ -123,25 +123,25 @@ module _ (x : State) (waits : IsWaiting x.status) (on_answer : OnAnswer) (answer
         ∙ (ap (λ (z : Result Store Fault). total_of_course x.store.count x.setup x.callers (after_push (run x.setup) position (length x.callers) inputs z)) h.gets.same
         ∙ course_failed x.store.count x.setup x.callers (fault_of h.error)))
 
-    takes_by : (new : State) (done : Bool) → Tries 0 (push_value x.setup value) answered new done → Takes on_answer answer x new
+    takes_by : (new : State) (done : Bool) → TriesChange 0 (push_value x.setup value) answered new done → TakesAnswer on_answer answer x new
     takes_by new true d = value_taken new d
     takes_by new false h = value_refused new h
 
     -- if the machine popped what the answer takes
-    pub value_takes : (mid new : State) → mid ≡ with_values values x → Tried 0 (push_value mid.setup value) (with_status Running (with_last Pushed mid)) new → Takes on_answer answer x new
+    pub value_takes : (mid new : State) → mid ≡ with_values values x → HasTriedChange 0 (push_value mid.setup value) (with_status Running (with_last Pushed mid)) new → TakesAnswer on_answer answer x new
     value_takes mid new e h =
-        takes_by new h.0 (subst (λ (z : State). Tries 0 (push_value z.setup value) (with_status Running (with_last Pushed z)) new h.0) e h.1)
+        takes_by new h.0 (subst (λ (z : State). TriesChange 0 (push_value z.setup value) (with_status Running (with_last Pushed z)) new h.0) e h.1)
 
   -- ---- a called text
 
-  pub empty_takes : (callee : Text) (new : State) → used ≡ Calls callee → callee.bytes ≡ [] → new ≡ with_last Called (with_status Running x) → Takes on_answer answer x new
+  pub empty_takes : (callee : Text) (new : State) → used ≡ Calls callee → callee.bytes ≡ [] → new ≡ with_last Called (with_status Running x) → TakesAnswer on_answer answer x new
   empty_takes callee new calls none e =
       let callers = ap (λ (z : State). length z.callers) e in
       let kept = ap (λ (z : State). kept_in z.store) e in
       let last = ap (λ (z : State). waits_of z.store.last) e in
       let runs : new.status ≡ Running = ap (λ (z : State). z.status) e in
       let count : new.store.count ≡ x.store.count = ap (λ (z : State). z.store.count) e in
-      subst (ComesBy x totals new) (sym runs) (record {
+      subst (ComesToStateBy x totals new) (sym runs) (record {
         pushes = 0;
         same = λ r inputs.
             answer_rest r inputs (Calls callee) calls
@@ -159,7 +159,7 @@ module _ (x : State) (waits : IsWaiting x.status) (on_answer : OnAnswer) (answer
         ∙ (ap (λ (bs : List ℕ). total_of_course x.store.count x.setup x.callers (run_callee (run x.setup) x.setup position (length x.callers) callee bs (with_refusal r x.store) inputs)) some
         ∙ ap (λ (y : Result Store Fault). total_of_course x.store.count x.setup x.callers (enter_callee (run x.setup) position (length x.callers) callee inputs y)) e)
 
-    text_taken : (new : State) → Enters callee (with_status Running x) new → Takes on_answer answer x new
+    text_taken : (new : State) → Enters callee (with_status Running x) new → TakesAnswer on_answer answer x new
     text_taken new d =
         let stored = caller_stored x.setup (length x.callers) x.store new.store d.steps in
         let runs : new.status ≡ Running = ap (λ (z : State). z.status) d.alone in
@@ -167,7 +167,7 @@ module _ (x : State) (waits : IsWaiting x.status) (on_answer : OnAnswer) (answer
         let last : waits_of new.store.last ≡ waits_of x.store.last = ap (λ (s : Store). waits_of s.last) stored in
         let callers : length new.callers ≡ suc (length x.callers) = ap (λ (z : State). length z.callers) d.alone in
         let count : new.store.count ≡ x.store.count = ap (λ (s : Store). s.count) stored in
-        subst (ComesBy x totals new) (sym runs) (record {
+        subst (ComesToStateBy x totals new) (sym runs) (record {
           pushes = d.steps.pushes;
           same = λ r inputs.
               let t : Store = with_refusal r new.store in
@@ -181,30 +181,30 @@ module _ (x : State) (waits : IsWaiting x.status) (on_answer : OnAnswer) (answer
           nears = nears_by x new (RequestStatus now.request now.on_answer) Running now.is runs (omega (arith, count));
         })
 
-    text_refused : (new : State) → Refused 0 (push_caller x.setup (length x.callers)) (with_status Running x) new → Takes on_answer answer x new
+    text_refused : (new : State) → Refused 0 (push_caller x.setup (length x.callers)) (with_status Running x) new → TakesAnswer on_answer answer x new
     text_refused new h =
         takes_fault new h.error h.gets.refusal h.failed (stays_from 0 0 x.store.values x.store.last Running x new (omega arith) h.stays) h.gets.may
         (λ inputs. call_rest h.gets.refusal inputs (Err (fault_of h.error)) h.gets.same ∙ course_failed x.store.count x.setup x.callers (fault_of h.error))
 
-    text_takes_by : (new : State) (done : Bool) → TriesToEnter callee (with_status Running x) new done → Takes on_answer answer x new
+    text_takes_by : (new : State) (done : Bool) → TriesToEnter callee (with_status Running x) new done → TakesAnswer on_answer answer x new
     text_takes_by new true d = text_taken new d
     text_takes_by new false h = text_refused new h
 
-    pub text_takes : (mid new : State) (done : Bool) → mid ≡ with_status Running x → TriesToEnter callee mid new done → Takes on_answer answer x new
+    pub text_takes : (mid new : State) (done : Bool) → mid ≡ with_status Running x → TriesToEnter callee mid new done → TakesAnswer on_answer answer x new
     text_takes mid new done e h = text_takes_by new done (subst (λ (z : State). TriesToEnter callee z new done) e h)
 
 -- ---- the top becomes a value of a type
 
 module _ (x : State) (waits : IsWaiting x.status) (on_answer : OnAnswer) (t : ValueType) (call : ℕ → ValueType → Value → Result Value Error) (is : use_of (address_bits x.setup) on_answer (BaseTypeAnswer t) x.store.values ≡ turned (address_bits x.setup) x.store.values call t) (mid new : State) where
-  pub turns_none : Pops None x mid → new ≡ with_status (FaultStatus NotEnoughStackItems) mid → Takes on_answer (BaseTypeAnswer t) x new
+  pub turns_none : Pops None x mid → new ≡ with_status (FaultStatus NotEnoughStackItems) mid → TakesAnswer on_answer (BaseTypeAnswer t) x new
   turns_none pops e = denies x waits on_answer (BaseTypeAnswer t) NotEnoughStackItems mid new (is ∙ turned_none (address_bits x.setup) x.store.values call t pops.0) (stays_popped None x mid pops) e
 
   module _ (top : Value) (width : ℕ) (pops : Pops (Some top) x mid) (same : width ≡ address_bits mid.setup) where
     call_is : (r : Result Value Error) → r ≡ call width t top → call (address_bits x.setup) t top ≡ r
     call_is r e = ap (λ (w : ℕ). call w t top) (sym (width_old width pops.0 x mid pops.2 same)) ∙ sym e
 
-    pub turns_ok : (v : Value) → Ok v ≡ call width t top → Tried 0 (push_value mid.setup v) (with_status Running (with_last Pushed mid)) new → Takes on_answer (BaseTypeAnswer t) x new
+    pub turns_ok : (v : Value) → Ok v ≡ call width t top → HasTriedChange 0 (push_value mid.setup v) (with_status Running (with_last Pushed mid)) new → TakesAnswer on_answer (BaseTypeAnswer t) x new
     turns_ok v e h = value_takes x waits on_answer (BaseTypeAnswer t) pops.0 v (is ∙ turned_ok (address_bits x.setup) x.store.values call t top pops.0 v pops.1 (call_is (Ok v) e)) mid new pops.2 h
 
-    pub turns_err : (error : Error) → Err error ≡ call width t top → new ≡ with_status (FaultStatus error) mid → Takes on_answer (BaseTypeAnswer t) x new
+    pub turns_err : (error : Error) → Err error ≡ call width t top → new ≡ with_status (FaultStatus error) mid → TakesAnswer on_answer (BaseTypeAnswer t) x new
     turns_err error e f = denies x waits on_answer (BaseTypeAnswer t) error mid new (is ∙ turned_err (address_bits x.setup) x.store.values call t top pops.0 error pops.1 (call_is (Err error) e)) (stays_popped (Some top) x mid pops) f

@@ -5,7 +5,7 @@ use Rattle.dwarf_meaning.specs.RunLaws.{waits_of}
 use Rattle.dwarf_meaning.specs.Stores.{Setup, Store, Last, push_value}
 use Rattle.dwarf_meaning.specs.Rest.{State, Status}
 use Rattle.dwarf_meaning.specs.Inputs.{Keeps, with_status}
-use Rattle.dwarf_eval.specs.inner.StateChanges.{Does, Pops, PopsNumber, Stays, with_last, with_values}
+use Rattle.dwarf_eval.specs.inner.StateChanges.{ChangesStoreBy, Pops, PopsNumber, Stays, with_last, with_values}
 use Rattle.dwarf_eval.proofs.Loads.{kept_in, value_stored}
 
 pub keeps_here : (x : State) → Keeps x x
@@ -70,7 +70,7 @@ stays_number None old new h = stays_same old new h.1
 stays_number (Some number) old new h = stays_low h.rest old.store.last old new (fewer_one h.value h.rest old.store.values h.values) h.alone
 
 -- a value was pushed
-pub stays_pushed : (setup : Setup) (value : Value) (old new : State) → Does (push_value setup value) old new → Stays 1 old new
+pub stays_pushed : (setup : Setup) (value : Value) (old new : State) → ChangesStoreBy (push_value setup value) old new → Stays 1 old new
 stays_pushed setup value old new d =
     let stored = value_stored setup value old.store new.store d.steps in
     let kept = ap kept_in stored in

@@ -11,7 +11,7 @@ use Rattle.dwarf_meaning.specs.Operations.{Operation}
 use Rattle.dwarf_meaning.specs.Requests.{Request, OnAnswer, Input}
 use Rattle.dwarf_meaning.specs.RunLaws.{waits_of}
 use Rattle.dwarf_meaning.specs.Stores.{Setup, address_bits, Store, Last, Located, Next, Goes, RequestNext, FaultNext}
-use Rattle.dwarf_meaning.specs.Run.{Position, CompleteEnd, FaultEnd, Course, only_end, prepend, read, most, can_count, count_one, counted_act, do_operation, turn_counted, after_operation, await_answer, turn_by, run}
+use Rattle.dwarf_meaning.specs.Run.{Position, CompleteEnd, FaultEnd, Course, only_end, prepend, read, most_operations, can_count, count_one, counted_act, do_operation, turn_counted, after_operation, await_answer, turn_by, run}
 use Rattle.dwarf_meaning.specs.Meaning.{FaultOutcome}
 use Rattle.dwarf_meaning.specs.Rest.{State, Status, Running, RequestStatus, FaultStatus, with_refusal, total_of_course}
 use Rattle.dwarf_meaning.specs.Refusals.{Refusal, Never, MayPick}
@@ -20,7 +20,7 @@ use Rattle.dwarf_meaning.proofs.Effects.{act_is}
 use Rattle.dwarf_meaning.proofs.Turns.{run_turn, below_most, waits_little}
 use Rattle.dwarf_meaning.specs.Bounds.{endings, faults_in}
 use Rattle.dwarf_meaning.specs.Inputs.{Keeps, with_status}
-use Rattle.dwarf_eval.specs.inner.StateChanges.{Stays, total, CountsOne, ReadsOperation, act_of, do_act_at, LeadsToPlace, LeadsToRequest, LeadsToFault, LeadsBy, Performs, read_to, with_store, ComesBy, is_free, IsReady, Turns, effort, effort_by, before_pushes}
+use Rattle.dwarf_eval.specs.inner.StateChanges.{Stays, total, CountsOne, ReadsOperation, act_of, do_act_at, LeadsToPlace, LeadsToRequest, LeadsToFault, LeadsBy, Performs, read_to, with_store, ComesToStateBy, is_free, IsReady, Turns, effort, effort_by, before_pushes}
 use Rattle.dwarf_eval.proofs.Loads.{EndsNoMore, done_ends, free_given, piece_due, IsLighter, kept_in, done_lighter}
 use Rattle.dwarf_eval.proofs.Spending.{nears_by, asked_spends, counted_spends, fallen_spends}
 use Rattle.dwarf_eval.proofs.Staying.{stays_status}
@@ -28,7 +28,7 @@ use Rattle.dwarf_eval.proofs.Totals.{closed, going, waiting_total, total_running
 
 -- ---- what there is still to do
 
-pub effort_running : (x : State) → x.status ≡ Running → effort x ≡ 3 * (most - x.store.count) + length x.callers + waits_of x.store.last + 1
+pub effort_running : (x : State) → x.status ≡ Running → effort x ≡ 3 * (most_operations - x.store.count) + length x.callers + waits_of x.store.last + 1
 effort_running x e = ap (effort_by x) e
 
 pub less_stopped : (x new : State) (status : Status) → x.status ≡ Running → new.status ≡ status → effort_by new status ≡ 0 → effort new < effort x
@@ -78,7 +78,7 @@ pub record ReadsOn (x y : State) : Type 0 where
 pub falls_from : (x y new : State) (error : Error) (refusal : Refusal) → x.status ≡ Running → new.status ≡ FaultStatus error → MayPick x.setup.limits refusal → ((inputs : List Input) → total x refusal inputs ≡ closed (FaultOutcome (fault_of error)) y.store.count) → ReadsOn x y → Stays 0 y new → Turns x new
 falls_from x y new error refusal runs failed may same reads stays =
     record {
-      comes = subst (ComesBy x (total x) new) (sym failed) (record {
+      comes = subst (ComesToStateBy x (total x) new) (sym failed) (record {
         refusal = refusal;
         may = may;
         same = λ inputs. same inputs ∙ ap (closed (FaultOutcome (fault_of error))) (sym stays.count);
@@ -183,7 +183,7 @@ module _ (x : State) (ready : IsReady x) where
           let count : new.store.count ≡ x.store.count + 1 = ap (λ (m : Tally). m.count) tally in
           let ends : EndsNoMore (endings x.store.pieces) (with_refusal Never new.store) = next_ends (before_pushes goes.steps.pushes Never) (Goes new.place (with_refusal Never new.store)) (goes.steps.same Never) in
           record {
-            comes = subst (ComesBy x (total x) new) (sym runs) (record {
+            comes = subst (ComesToStateBy x (total x) new) (sym runs) (record {
               pushes = goes.steps.pushes;
               same = λ r inputs.
                   let course = run x.setup x.text new.place (length x.callers) (with_refusal r new.store) inputs in
@@ -204,7 +204,7 @@ module _ (x : State) (ready : IsReady x) where
           let count : new.store.count ≡ x.store.count + 1 = ap (λ (m : Tally). m.count) tally in
           let ends : EndsNoMore (endings x.store.pieces) (with_refusal Never new.store) = next_ends (before_pushes asks.steps.pushes Never) (RequestNext request on_answer (with_refusal Never new.store)) (asks.steps.same Never) in
           record {
-            comes = subst (ComesBy x (total x) new) (sym open_now) (record {
+            comes = subst (ComesToStateBy x (total x) new) (sym open_now) (record {
               pushes = asks.steps.pushes;
               same = λ r inputs.
                   ready_after_operation (before_pushes asks.steps.pushes r) inputs (RequestNext request on_answer (with_refusal r new.store)) (asks.steps.same r)

@@ -11,7 +11,7 @@ use Rattle.dwarf_meaning.specs.Rest.{State, FaultStatus}
 use Rattle.dwarf_meaning.proofs.OutcomeByInputs.{outcome_from}
 use Rattle.dwarf_meaning.specs.Steps.{Step, Evaluate, Resume, Log, Reply, outcome_of, AllAllowed, after_steps}
 use Rattle.dwarf_meaning.specs.Inputs.{fresh_state}
-use Rattle.dwarf_meaning.specs.Run.{most}
+use Rattle.dwarf_meaning.specs.Run.{most_operations}
 use Rattle.dwarf_meaning.specs.RowWords.{no_limits, dwarf4, unset}
 use Rattle.dwarf_meaning.specs.Refusals.{Never}
 use Rattle.dwarf_laws.specs.LawRows.{IsWorked}
@@ -169,7 +169,7 @@ inlined_replays x y new other site offset start beyond replies given h k n sound
 
 pub may_inline : (site : CallSite) (inputs : List Input) (beyond : List Request) (outcome : Outcome) → IsWorked site [] inputs [] beyond outcome
     → MayInline (fresh_state dwarf4 (outer_text site)) (fresh_state dwarf4 (inlined_text site)) site (UnitRef 5) (Evaluate ∷ [])
-unfolding most
+unfolding most_operations
 may_inline site inputs beyond outcome h =
     record {
       unlimited = h.unlimited;

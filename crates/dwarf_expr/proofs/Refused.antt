@@ -3,7 +3,7 @@ use Rattle.std.proofs.Common.{◌≡◌, ap, refl, sym, subst, ◌∙◌, List, 
 use Rattle.dwarf_base.specs.declared.errors.Error.TheVariants.{StackFull}
 use Rattle.dwarf_base.specs.Reads.{Text}
 use Rattle.dwarf_meaning.specs.Requests.{Request, Answer}
-use Rattle.dwarf_meaning.specs.Run.{Position, most}
+use Rattle.dwarf_meaning.specs.Run.{Position, most_operations}
 use Rattle.dwarf_meaning.specs.Meaning.{Outcome, RequestOutcome, FaultOutcome, meaning}
 use Rattle.dwarf_meaning.specs.Rest.{State, FaultStatus}
 use Rattle.dwarf_meaning.specs.Steps.{Log, RequestReply, FaultReply, reply, inputs_after, Awaits}
@@ -26,7 +26,7 @@ module _ (refusal : Refusal) (may : MayPick no_limits refusal) (text : Text) (an
       → meaning dwarf4 refusal text unset (inputs_of unset (answer ∷ [])) ≡ FaultOutcome StackFull
       → (new : State) × DoesAllWith refusal (fresh_state dwarf4 text) (started_steps (answer ∷ []))
       (RequestReply request ∷ FaultReply StackFull ∷ []) new
-  unfolding log_once most
+  unfolding log_once most_operations
   refused_once request positions a e f = (
     full,
     (

@@ -11,7 +11,7 @@ use Rattle.dwarf_meaning.specs.Operations.{Operation}
 use Rattle.dwarf_meaning.specs.Locations.{Location, sized_piece}
 use Rattle.dwarf_meaning.specs.Requests.{Request, OnAnswer, Settings}
 use Rattle.dwarf_meaning.specs.Acts.{Act, Pushes, Branches, Locates, EndsPiece, RequestAct, FaultAct}
-use Rattle.dwarf_meaning.specs.Stores.{Setup, Store, Plain, Pieced, Located, push_value, push_piece, push_values, Next, Goes, RequestNext, FaultNext, goes, do_act, branch_target, branch}
+use Rattle.dwarf_meaning.specs.Stores.{Setup, Store, Plain, Pieced, Located, push_value, push_piece, push_values, Next, Goes, RequestNext, FaultNext, next_at, do_act, branch_target, branch}
 use Rattle.dwarf_meaning.specs.Run.{located_act}
 use Rattle.dwarf_meaning.specs.Refusals.{Never}
 use Rattle.dwarf_laws.proofs.Jumps.{Jumping, pushes, branches, locates, ends, asks, refuses}
@@ -86,10 +86,10 @@ module _ (encoding : Encoding) (bits : ℕ) where
     done_both (Pushes rest pushed) t al pushes =
         let u : Store = record t { values = rest; last = Plain } in
         let v : Store = record u { values = piled pushed rest } in
-        subst (λ (r : Result Store Fault). NextBoth n Al t.settings (goes place r)
-        (goes place' (push_values S pushed (calm u)))) (sym (piles_ahead n pushed u))
+        subst (λ (r : Result Store Fault). NextBoth n Al t.settings (next_at place r)
+        (next_at place' (push_values S pushed (calm u)))) (sym (piles_ahead n pushed u))
         (subst (λ (r : Result Store Fault). NextBoth n Al t.settings (Goes place (ahead n v))
-        (goes place' r)) (sym (piles_calm pushed u)) (goes_both v al refl))
+        (next_at place' r)) (sym (piles_calm pushed u)) (goes_both v al refl))
     done_both (Branches rest target) t al (branches h) = branch_both target (record t { values = rest; last = Plain }) h
     done_both (Locates rest location) t al locates = goes_both (record t { values = rest; last = Located location }) al refl
     done_both (EndsPiece rest piece) t al ends =

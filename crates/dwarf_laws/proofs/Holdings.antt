@@ -9,8 +9,8 @@ use Rattle.dwarf_value.specs.Values.{Agree}
 use Rattle.dwarf_meaning.specs.Locations.{Location, Piece}
 use Rattle.dwarf_meaning.specs.Requests.{Request, OnAnswer}
 use Rattle.dwarf_meaning.specs.Acts.{Act}
-use Rattle.dwarf_meaning.specs.Stores.{Setup, address_bits, Store, Last, Nothing, Plain, Pieced, Pushed, Called, Located, push_value, push_piece, push_caller, push_values, Next, Goes, RequestNext, FaultNext, goes, do_act}
-use Rattle.dwarf_meaning.specs.Refusals.{Limits, Refusal, Never, After, refusal_after_push, room}
+use Rattle.dwarf_meaning.specs.Stores.{Setup, address_bits, Store, Last, Nothing, Plain, Pieced, Pushed, Called, Located, push_value, push_piece, push_caller, push_values, Next, Goes, RequestNext, FaultNext, next_at, do_act}
+use Rattle.dwarf_meaning.specs.Refusals.{Limits, Refusal, Never, After, refusal_after_push, push_with_room}
 use Rattle.dwarf_laws.specs.Agreement.{AgreeingSettings, AgreeingLocations, AgreeingPieces}
 use Rattle.dwarf_laws.proofs.Pairs.{Pairwise, none, more, same_length, snoc_both, if_pair}
 use Rattle.dwarf_laws.proofs.Actions.{AgreeingActs, pushes, branches, locates, ends, asks, refuses}
@@ -67,7 +67,7 @@ after_push_is (After zero zero) = is_full
 after_push_is (After zero (suc more_pushes)) = is_left
 after_push_is (After (suc inputs) more_pushes) = is_left
 
-room_is : (limit : Option ℕ) (n : ℕ) (refusal : Refusal) → IsRoom (room limit n refusal)
+room_is : (limit : Option ℕ) (n : ℕ) (refusal : Refusal) → IsRoom (push_with_room limit n refusal)
 room_is None n refusal = after_push_is refusal
 room_is (Some limit) n refusal = cond_both (nat_lt n limit) (Ok refusal) (Err StackFull) IsRoom (λ e. is_left) (λ e. is_full)
 
@@ -89,13 +89,13 @@ module _ (Free : Type 0) where
       at r is_full = no_rooms
 
   rooms_agree : (limit limit' : Option ℕ) (n n' : ℕ) (refusal refusal' : Refusal) → Free ⊎ (limit ≡ limit') → n ≡ n'
-      → Free ⊎ (refusal ≡ refusal') → AgreeingRooms Free (room limit n refusal) (room limit' n' refusal')
+      → Free ⊎ (refusal ≡ refusal') → AgreeingRooms Free (push_with_room limit n refusal) (push_with_room limit' n' refusal')
   rooms_agree limit limit' n n' refusal refusal' (inl free) e h =
       free_rooms _ _ free (room_is limit n refusal) (room_is limit' n' refusal')
   rooms_agree limit limit' n n' refusal refusal' (inr l) e (inl free) =
       free_rooms _ _ free (room_is limit n refusal) (room_is limit' n' refusal')
   rooms_agree limit limit' n n' refusal refusal' (inr l) e (inr r) =
-      same_rooms (room limit n refusal) (room limit' n' refusal') (cc) (room_is limit n refusal)
+      same_rooms (push_with_room limit n refusal) (push_with_room limit' n' refusal') (cc) (room_is limit n refusal)
 
 -- ---- pushes
 
@@ -196,7 +196,7 @@ module _ (Free : Type 0) (setup : Setup) (limits : Limits) (premise : Free ⊎ (
   -- ---- what an operation leads to
 
   goes_both : (place : ℕ) (r r' : Result Store Fault) → AgreeingResults Free w r r'
-      → AgreeingNexts Free w (goes place r) (goes place r')
+      → AgreeingNexts Free w (next_at place r) (next_at place r')
   goes_both place r r' (stores h) = goes_on h
   goes_both place r r' refusals = fails
   goes_both place r r' (result_first free) = next_first free

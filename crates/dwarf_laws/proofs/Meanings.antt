@@ -9,7 +9,7 @@ use Rattle.dwarf_meaning.specs.Requests.{Request, OnAnswer, Input}
 use Rattle.dwarf_meaning.specs.Kinds.{kind_of_request, is_same_kind}
 use Rattle.dwarf_meaning.specs.Acts.{Act, Use}
 use Rattle.dwarf_meaning.specs.Stores.{Setup, address_bits, Store, Last, Next, Nothing, Plain, Located}
-use Rattle.dwarf_meaning.specs.Run.{Position, End, CompleteEnd, RequestEnd, FaultEnd, Course, only_end, prepend, Continues, return_to_caller, after_push, enter_callee, run_callee, after_answer, with_input, await_answer, after_operation, read, can_count, count_one, do_operation, turn_counted, counted_act, turn_by, turn, out_of_turns, run_for, enough, run}
+use Rattle.dwarf_meaning.specs.Run.{Position, End, CompleteEnd, RequestEnd, FaultEnd, Course, only_end, prepend, Continues, return_to_caller, after_push, enter_callee, run_callee, after_answer, with_input, await_answer, after_operation, read, can_count, count_one, do_operation, turn_counted, counted_act, turn_by, turn, out_of_turns, run_for, enough_turns, run}
 use Rattle.dwarf_meaning.specs.Refusals.{Limits, refusal_after_input, Refusal}
 use Rattle.dwarf_laws.specs.Agreement.{AgreeingInputs, Both, nothing, something, AgreeingNumbers, AgreeingFirsts, AgreeingLocations, AgreeingPieces, AgreeingOutcomes, requests, faults, completions}
 use Rattle.dwarf_laws.proofs.Pairs.{Pairwise, none, more, if_pair, zipped, pairs, top_pair}
@@ -238,7 +238,7 @@ module _ (Free : Type 0) (setup : Setup) (limits : Limits) (premise : Free ⊎ (
   run_for_both (suc turns) = turn_both (run_for turns setup) (run_for turns other) (run_for_both turns)
 
   pub run_both : GoAlike Free w (run setup) (run other)
-  run_both = run_for_both enough
+  run_both = run_for_both enough_turns
 
   -- ---- the end
 

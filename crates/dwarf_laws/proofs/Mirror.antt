@@ -13,7 +13,7 @@ use Rattle.dwarf_meaning.specs.Requests.{Request, OnAnswer, Input, Settings}
 use Rattle.dwarf_meaning.specs.Kinds.{kind_of_request, kind_of_answer, is_same_kind}
 use Rattle.dwarf_meaning.specs.Acts.{act, Use, PushesAnswer, Calls, FaultUse, use_of}
 use Rattle.dwarf_meaning.specs.Stores.{Setup, address_bits, Store, Last, Nothing, Plain, Pieced, Pushed, Called, Located, push_value, push_caller, Next}
-use Rattle.dwarf_meaning.specs.Run.{Position, End, CompleteEnd, RequestEnd, FaultEnd, Course, only_end, prepend, Continues, return_to_caller, run_callee, after_answer, await_answer, after_operation, read, can_count, count_one, do_operation, turn_counted, counted_act, located_act, turn_by, turn, out_of_turns, run_for, enough, run}
+use Rattle.dwarf_meaning.specs.Run.{Position, End, CompleteEnd, RequestEnd, FaultEnd, Course, only_end, prepend, Continues, return_to_caller, run_callee, after_answer, await_answer, after_operation, read, can_count, count_one, do_operation, turn_counted, counted_act, located_act, turn_by, turn, out_of_turns, run_for, enough_turns, run}
 use Rattle.dwarf_laws.specs.Inlining.{in_force}
 use Rattle.dwarf_meaning.proofs.Turns.{run_turn}
 use Rattle.dwarf_laws.proofs.Pairs.{if_pair}
@@ -284,7 +284,7 @@ module _ (encoding : Encoding) (bits : ℕ) (target : Settings) (n : ℕ) where
 
   -- the whole run
   pub mirror : GoMirrors (run S)
-  mirror = mirrors_for enough
+  mirror = mirrors_for enough_turns
 
   -- a run keeps to the settings that its inputs bring
   pub mirror_same : (T : Text) (p d : ℕ) (t : Store) (inputs : List Input)

@@ -13,7 +13,7 @@ use Rattle.dwarf_meaning.specs.Spelling.{Spells}
 use Rattle.dwarf_meaning.specs.Requests.{Request, RequiresAtLocation, OnAnswer, Input, Settings}
 use Rattle.dwarf_meaning.specs.Kinds.{kind_of_request, kind_of_answer, is_same_kind}
 use Rattle.dwarf_meaning.specs.Acts.{Act, Pushes, Branches, Locates, EndsPiece, RequestAct, FaultAct, act, Use, PushesAnswer, Calls, FaultUse, use_of}
-use Rattle.dwarf_meaning.specs.Stores.{Setup, address_bits, Store, Last, Nothing, Plain, Pieced, Pushed, Called, Located, push_value, push_piece, push_caller, Next, Goes, RequestNext, FaultNext, goes, do_act}
+use Rattle.dwarf_meaning.specs.Stores.{Setup, address_bits, Store, Last, Nothing, Plain, Pieced, Pushed, Called, Located, push_value, push_piece, push_caller, Next, Goes, RequestNext, FaultNext, next_at, do_act}
 use Rattle.dwarf_meaning.specs.Run.{Position, End, CompleteEnd, RequestEnd, FaultEnd, Course, only_end, prepend, return_to_caller, run_callee, after_answer, await_answer, after_operation, read, can_count, do_operation, turn_counted, counted_act, located_act, turn_by, run}
 use Rattle.dwarf_meaning.specs.RunLaws.{IsSettled, end_before, course_before, Open, alone, calling}
 use Rattle.dwarf_meaning.proofs.Turns.{run_turn}
@@ -69,7 +69,7 @@ module _ (encoding : Encoding) (bits : ℕ) where
   unfolding push_piece
   done_calm place len (Pushes rest pushed) t pushes =
       let u : Store = record t { values = rest; last = Plain } in
-      subst (λ (r : Result Store Fault). NextCalm t.settings place (goes place r))
+      subst (λ (r : Result Store Fault). NextCalm t.settings place (next_at place r))
       (sym (piles_calm encoding bits pushed u)) (goes_calm (record u { values = piled pushed rest }) refl)
   done_calm place len (Branches rest target) t (branches h) = absurd h
   done_calm place len (Locates rest location) t locates =

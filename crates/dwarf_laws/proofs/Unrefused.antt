@@ -10,9 +10,9 @@ use Rattle.dwarf_meaning.specs.Locations.{Location, Piece}
 use Rattle.dwarf_meaning.specs.Requests.{Request, OnAnswer, Input}
 use Rattle.dwarf_meaning.specs.Kinds.{kind_of_request, kind_of_answer, is_same_kind}
 use Rattle.dwarf_meaning.specs.Acts.{on_top, Act, Pushes, Branches, Locates, EndsPiece, RequestAct, FaultAct, Use, PushesAnswer, Calls, FaultUse, use_of}
-use Rattle.dwarf_meaning.specs.Stores.{Setup, address_bits, Store, Last, Nothing, Plain, Pieced, Pushed, Called, Located, push_value, push_piece, push_caller, push_values, Next, Goes, RequestNext, FaultNext, goes, do_act}
-use Rattle.dwarf_meaning.specs.Run.{Position, End, CompleteEnd, RequestEnd, FaultEnd, Course, only_end, prepend, Continues, return_to_caller, after_push, enter_callee, run_callee, after_answer, with_input, await_answer, after_operation, read, can_count, count_one, do_operation, turn_counted, counted_act, located_act, turn_by, turn, out_of_turns, run_for, enough}
-use Rattle.dwarf_meaning.specs.Meaning.{Outcome, FaultOutcome, completion_of, finish_value, finish_by, First, fresh_store, with_initial, outcome_of_end, meaning, has_pieces, CompleteOutcome, whole}
+use Rattle.dwarf_meaning.specs.Stores.{Setup, address_bits, Store, Last, Nothing, Plain, Pieced, Pushed, Called, Located, push_value, push_piece, push_caller, push_values, Next, Goes, RequestNext, FaultNext, next_at, do_act}
+use Rattle.dwarf_meaning.specs.Run.{Position, End, CompleteEnd, RequestEnd, FaultEnd, Course, only_end, prepend, Continues, return_to_caller, after_push, enter_callee, run_callee, after_answer, with_input, await_answer, after_operation, read, can_count, count_one, do_operation, turn_counted, counted_act, located_act, turn_by, turn, out_of_turns, run_for, enough_turns}
+use Rattle.dwarf_meaning.specs.Meaning.{Outcome, FaultOutcome, completion_of, finish_value, finish_by, First, fresh_store, with_initial, outcome_of_end, meaning, has_pieces, CompleteOutcome, whole_piece}
 use Rattle.dwarf_meaning.specs.Refusals.{Refusal, Never}
 use Rattle.dwarf_laws.proofs.Pairs.{if_pair}
 use Rattle.dwarf_laws.proofs.Holdings.{IsRoom, is_left, is_full, after_push_is}
@@ -42,7 +42,7 @@ bind_calm : (r r' : Result Store Fault) (f : Store → Result Store Fault) → C
 bind_calm r r' f stores k = k _
 bind_calm r r' f no_stores k = no_stores
 
-goes_calm : (place : ℕ) (r r' : Result Store Fault) → CalmResults r r' → CalmNexts (goes place r) (goes place r')
+goes_calm : (place : ℕ) (r r' : Result Store Fault) → CalmResults r r' → CalmNexts (next_at place r) (next_at place r')
 goes_calm place r r' stores = goes_on
 goes_calm place r r' no_stores = no_next
 
@@ -212,7 +212,7 @@ module _ (encoding : Encoding) (bits : ℕ) where
 
   located_calm : (location : Location) (s : Store) → CalmOutcomes (finish_by S s (Located location))
       (finish_by S (calm s) (Located location))
-  located_calm location s = if_pair CalmOutcomes (has_pieces s.pieces) _ (FaultOutcome InvalidPiece) _ _ _ refl (inr refl) (completed_calm None _ _ (piece_calm (whole location) s))
+  located_calm location s = if_pair CalmOutcomes (has_pieces s.pieces) _ (FaultOutcome InvalidPiece) _ _ _ refl (inr refl) (completed_calm None _ _ (piece_calm (whole_piece location) s))
 
   top_calm : (s : Store) (values : List Value) → s.values ≡ values → CalmOutcomes (finish_value S s) (finish_value S (calm s))
   unfolding on_top
@@ -259,5 +259,5 @@ module _ (encoding : Encoding) (bits : ℕ) where
   unfolding meaning
   meaning_calm refusal text first inputs =
       courses_calm _ _
-      (resumed_calm (run_for enough S) (run_for enough S) (run_for_calm enough) (record { text = text; place = 0 }) 0 inputs _ _
+      (resumed_calm (run_for enough_turns S) (run_for enough_turns S) (run_for_calm enough_turns) (record { text = text; place = 0 }) 0 inputs _ _
       (initial_calm first.initial_value (fresh_store first refusal)))

@@ -8,8 +8,8 @@ use Rattle.dwarf_meaning.specs.Operations.{Operation, DieReference}
 use Rattle.dwarf_meaning.specs.Requests.{Request, OnAnswer, Input, RequiresAtLocation, Push, Settings}
 use Rattle.dwarf_meaning.specs.Kinds.{kind_of_request, kind_of_answer, is_same_kind}
 use Rattle.dwarf_meaning.specs.Acts.{Act, Pushes, Branches, Locates, EndsPiece, RequestAct, FaultAct, Use, PushesAnswer, Calls, FaultUse, use_of, act}
-use Rattle.dwarf_meaning.specs.Stores.{Setup, address_bits, Store, Last, Nothing, Plain, Pieced, Pushed, Called, Located, push_value, push_caller, Next, Goes, RequestNext, FaultNext, goes, do_act}
-use Rattle.dwarf_meaning.specs.Run.{Position, End, CompleteEnd, RequestEnd, FaultEnd, Course, Continues, return_to_caller, after_push, enter_callee, run_callee, after_answer, with_input, await_answer, after_operation, read, can_count, count_one, do_operation, turn_counted, counted_act, located_act, turn_by, turn, out_of_turns, run_for, enough, run, only_end, prepend}
+use Rattle.dwarf_meaning.specs.Stores.{Setup, address_bits, Store, Last, Nothing, Plain, Pieced, Pushed, Called, Located, push_value, push_caller, Next, Goes, RequestNext, FaultNext, next_at, do_act}
+use Rattle.dwarf_meaning.specs.Run.{Position, End, CompleteEnd, RequestEnd, FaultEnd, Course, Continues, return_to_caller, after_push, enter_callee, run_callee, after_answer, with_input, await_answer, after_operation, read, can_count, count_one, do_operation, turn_counted, counted_act, located_act, turn_by, turn, out_of_turns, run_for, enough_turns, run, only_end, prepend}
 use Rattle.dwarf_laws.specs.Inlining.{IsStraight}
 use Rattle.dwarf_laws.proofs.Jumps.{Jumping, pushes, branches, locates, ends, asks, refuses, straight_jumps, act_jumps, located_jumps}
 use Rattle.dwarf_laws.proofs.Calm.{free, calm}
@@ -36,7 +36,7 @@ LeadsTo place (Goes q s) = q ≡ place
 LeadsTo place (RequestNext request on_answer s) = Unit {0}
 LeadsTo place (FaultNext fault) = Unit {0}
 
-leads_goes : (place : ℕ) (r : Result Store Fault) → LeadsTo place (goes place r)
+leads_goes : (place : ℕ) (r : Result Store Fault) → LeadsTo place (next_at place r)
 leads_goes place (Ok s) = refl
 leads_goes place (Err fault) = tt
 
@@ -154,7 +154,7 @@ module _ (encoding : Encoding) (bits : ℕ) (T : Text) (q : ℕ) where
   later_for (suc turns) p d s inputs = turn_later (run_for turns Free) (later_for turns) p d s inputs
 
   pub run_later : Later (run Free)
-  run_later = later_for enough
+  run_later = later_for enough_turns
 
 abbrev inputs_of : End → List Input
 inputs_of (CompleteEnd s inputs) = inputs

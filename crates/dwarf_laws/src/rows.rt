@@ -11,7 +11,7 @@ ghost use Rattle.dwarf_meaning.specs.Locations.{InRegister, AtAddress, HoldsValu
 ghost use Rattle.dwarf_meaning.specs.declared.kinds.WaitingKind.TheVariants as kind;
 ghost use Rattle.dwarf_meaning.specs.Requests.{RequiresMemory, RequiresRegister, RequiresWasmLocal, RequiresWasmGlobal, RequiresWasmStack, RequiresFrameBase, RequiresTls, RequiresCallFrameCfa, RequiresAtLocation, RequiresEntryValue, RequiresParameterRef, RequiresRelocatedAddress, RequiresIndexedAddress, RequiresBaseType, ValueAnswer, NumberAnswer, LocationAnswer, BaseTypeAnswer};
 ghost use Rattle.dwarf_meaning.specs.Refusals.{Never, After};
-ghost use Rattle.dwarf_meaning.specs.Meaning.{RequestOutcome, FaultOutcome, CompleteOutcome, whole};
+ghost use Rattle.dwarf_meaning.specs.Meaning.{RequestOutcome, FaultOutcome, CompleteOutcome, whole_piece};
 ghost use Rattle.dwarf_meaning.specs.Steps.{InitialValue, ObjectAddress, RequestReply, CompleteReply, FaultReply};
 ghost use Rattle.dwarf_meaning.specs.RowWords.{text, no_limits, with_limits, dwarf4, at_most, unset, inputs_of, callee, open_at, word_at, value_at, pieces_only};
 ghost use Rattle.dwarf_laws.specs.LawRows.{started_steps, ComeAlike, call_site, IsWorked, Disagree, EndUnlike};
@@ -96,8 +96,8 @@ pub fn twin_rows()
         (started_steps (NumberAnswer kind.CallFrameCfa 0x10 ∷ []))
         (started_steps (NumberAnswer kind.CallFrameCfa 0x100000010 ∷ []))
         (RequestReply RequiresCallFrameCfa ∷ CompleteReply ∷ [])
-        (pieces_only (whole (HoldsValue (Generic 0x10)) ∷ []))
-        (pieces_only (whole (HoldsValue (Generic 0x100000010)) ∷ [])) }
+        (pieces_only (whole_piece (HoldsValue (Generic 0x10)) ∷ []))
+        (pieces_only (whole_piece (HoldsValue (Generic 0x100000010)) ∷ [])) }
     ensures shift { ComeAlike dwarf4 (0x9c ∷ 0x12 ∷ 0x24 ∷ [])
         (started_steps (NumberAnswer kind.CallFrameCfa 1 ∷ []))
         (started_steps (NumberAnswer kind.CallFrameCfa 0x100000001 ∷ []))
@@ -110,14 +110,14 @@ pub fn twin_rows()
         (started_steps (NumberAnswer kind.CallFrameCfa 0x10 ∷ BaseTypeAnswer value_type.U32 ∷ []))
         (started_steps (NumberAnswer kind.CallFrameCfa 0x100000010 ∷ BaseTypeAnswer value_type.U32 ∷ []))
         (RequestReply RequiresCallFrameCfa ∷ RequestReply (RequiresBaseType 9) ∷ CompleteReply ∷ [])
-        (CompleteOutcome (whole (AtAddress 0x10) ∷ []) (Some (U32 0x10)))
-        (CompleteOutcome (whole (AtAddress 0x10) ∷ []) (Some (U32 0x10))) }
+        (CompleteOutcome (whole_piece (AtAddress 0x10) ∷ []) (Some (U32 0x10)))
+        (CompleteOutcome (whole_piece (AtAddress 0x10) ∷ []) (Some (U32 0x10))) }
     ensures converted { ComeAlike dwarf4 (0x9c ∷ 0xa8 ∷ 0x09 ∷ [])
         (started_steps (NumberAnswer kind.CallFrameCfa 0x10 ∷ BaseTypeAnswer value_type.U64 ∷ []))
         (started_steps (NumberAnswer kind.CallFrameCfa 0x100000010 ∷ BaseTypeAnswer value_type.U64 ∷ []))
         (RequestReply RequiresCallFrameCfa ∷ RequestReply (RequiresBaseType 9) ∷ CompleteReply ∷ [])
-        (CompleteOutcome (whole (AtAddress 0x10) ∷ []) (Some (U64 0x10)))
-        (CompleteOutcome (whole (AtAddress 0x10) ∷ []) (Some (U64 0x10))) }
+        (CompleteOutcome (whole_piece (AtAddress 0x10) ∷ []) (Some (U64 0x10)))
+        (CompleteOutcome (whole_piece (AtAddress 0x10) ∷ []) (Some (U64 0x10))) }
     ensures full_stack { ComeAlike (with_limits (record no_limits { values = Some 1 }))
         (0x9c ∷ 0x31 ∷ [])
         (started_steps (NumberAnswer kind.CallFrameCfa 0x10 ∷ []))
@@ -184,22 +184,22 @@ pub fn premises_of_high_bits()
         unset
         (inputs_of unset (ValueAnswer kind.Register (U8 0) ∷ []))
         (inputs_of unset (ValueAnswer kind.Register (U16 0) ∷ []))
-        (CompleteOutcome (whole (AtAddress 0) ∷ []) (Some (U8 0)))
-        (CompleteOutcome (whole (AtAddress 0) ∷ []) (Some (U16 0))) }
+        (CompleteOutcome (whole_piece (AtAddress 0) ∷ []) (Some (U8 0)))
+        (CompleteOutcome (whole_piece (AtAddress 0) ∷ []) (Some (U16 0))) }
     ensures typed_values_differ_above { Disagree dwarf4 dwarf4 Never Never (0x70 ∷ 0x00 ∷ []) unset
         unset
         (inputs_of unset (ValueAnswer kind.Register (U64 0) ∷ []))
         (inputs_of unset (ValueAnswer kind.Register (U64 0x100000000) ∷ []))
-        (CompleteOutcome (whole (AtAddress 0) ∷ []) (Some (U64 0)))
-        (CompleteOutcome (whole (AtAddress 0x100000000) ∷ []) (Some (U64 0x100000000))) }
+        (CompleteOutcome (whole_piece (AtAddress 0) ∷ []) (Some (U64 0)))
+        (CompleteOutcome (whole_piece (AtAddress 0x100000000) ∷ []) (Some (U64 0x100000000))) }
     ensures texts_differ { Disagree dwarf4 dwarf4 Never Never (0x98 ∷ 0x05 ∷ 0x00 ∷ []) unset unset
         (inputs_of unset (callee (0x30 ∷ []) ∷ [])) (inputs_of unset (callee (0x31 ∷ []) ∷ []))
         (value_at 0 0) (value_at 1 1) }
     ensures types_differ { Disagree dwarf4 dwarf4 Never Never (0x30 ∷ 0xa8 ∷ 0x05 ∷ []) unset unset
         (inputs_of unset (BaseTypeAnswer value_type.U8 ∷ []))
         (inputs_of unset (BaseTypeAnswer value_type.U16 ∷ []))
-        (CompleteOutcome (whole (AtAddress 0) ∷ []) (Some (U8 0)))
-        (CompleteOutcome (whole (AtAddress 0) ∷ []) (Some (U16 0))) }
+        (CompleteOutcome (whole_piece (AtAddress 0) ∷ []) (Some (U8 0)))
+        (CompleteOutcome (whole_piece (AtAddress 0) ∷ []) (Some (U16 0))) }
 {}
 
 /// Why premises of `inlining` stand: the smallest call whose inlined text ends otherwise if one doesn't hold.

@@ -10,7 +10,7 @@ use Rattle.dwarf_meaning.specs.Requests.{Request, OnAnswer, LocationAnswer, Inpu
 use Rattle.dwarf_meaning.specs.Kinds.{kind_of_request, kind_of_answer, is_same_kind}
 use Rattle.dwarf_meaning.specs.Acts.{Act, Use, PushesAnswer, Calls, FaultUse, use_of}
 use Rattle.dwarf_meaning.specs.Stores.{Setup, address_bits, Store, Last, Nothing, Plain, Pieced, Pushed, Called, Located, push_value, push_caller, Next, Goes, RequestNext, FaultNext}
-use Rattle.dwarf_meaning.specs.Run.{Position, End, CompleteEnd, RequestEnd, FaultEnd, Course, Continues, return_to_caller, after_push, enter_callee, run_callee, after_answer, with_input, await_answer, after_operation, read, can_count, count_one, do_operation, turn_counted, counted_act, located_act, turn_by, turn, out_of_turns, run_for, enough, run}
+use Rattle.dwarf_meaning.specs.Run.{Position, End, CompleteEnd, RequestEnd, FaultEnd, Course, Continues, return_to_caller, after_push, enter_callee, run_callee, after_answer, with_input, await_answer, after_operation, read, can_count, count_one, do_operation, turn_counted, counted_act, located_act, turn_by, turn, out_of_turns, run_for, enough_turns, run}
 use Rattle.dwarf_meaning.specs.Meaning.{completion_of, has_pieces, finish_value, finish_by, First, fresh_store, with_initial, outcome_of_end, course_of, meaning}
 use Rattle.dwarf_meaning.specs.RunLaws.{IsCallee, Open, alone, calling, OutcomeOpen}
 use Rattle.dwarf_meaning.specs.Refusals.{Refusal}
@@ -147,13 +147,13 @@ module _ (inputs : List Input) (text : Text) where
   ended_open setup (FaultEnd fault) h = tt
 
 pub run_open : (setup : Setup) (text : Text) (place depth : ℕ) (s : Store) (inputs : List Input) → EndOpen inputs text (run setup text place depth s inputs).end
-run_open setup text place depth s inputs = end_open inputs text _ (opens_run_for inputs enough setup text place depth s inputs (known_all inputs))
+run_open setup text place depth s inputs = end_open inputs text _ (opens_run_for inputs enough_turns setup text place depth s inputs (known_all inputs))
 
 pub run_opens : (setup : Setup) (text : Text) (place depth : ℕ) (s : Store) (inputs : List Input) → OutcomeOpen inputs text (outcome_of_end setup (run setup text place depth s inputs).end)
-run_opens setup text place depth s inputs = ended_open inputs text setup _ (opens_run_for inputs enough setup text place depth s inputs (known_all inputs))
+run_opens setup text place depth s inputs = ended_open inputs text setup _ (opens_run_for inputs enough_turns setup text place depth s inputs (known_all inputs))
 
 pub meaning_open : (setup : Setup) (refusal : Refusal) (text : Text) (first : First) (inputs : List Input) → OutcomeOpen inputs text (meaning setup refusal text first inputs)
 unfolding meaning
 meaning_open setup refusal text first inputs =
     ended_open inputs text setup (course_of setup refusal text first inputs).end
-    (opens_resumed inputs (run setup) (opens_run_for inputs enough setup) (record { text = text; place = 0 }) 0 inputs (with_initial setup first.initial_value (fresh_store first refusal)) (known_all inputs))
+    (opens_resumed inputs (run setup) (opens_run_for inputs enough_turns setup) (record { text = text; place = 0 }) 0 inputs (with_initial setup first.initial_value (fresh_store first refusal)) (known_all inputs))

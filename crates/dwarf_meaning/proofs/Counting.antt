@@ -12,7 +12,7 @@ use Rattle.dwarf_meaning.specs.Requests.{Request, OnAnswer, Input}
 use Rattle.dwarf_meaning.specs.Kinds.{kind_of_request, kind_of_answer, is_same_kind}
 use Rattle.dwarf_meaning.specs.Acts.{Act, Use, PushesAnswer, Calls, FaultUse, use_of}
 use Rattle.dwarf_meaning.specs.Stores.{Setup, address_bits, Store, Last, Nothing, Plain, Pieced, Pushed, Called, Located, Next, Goes, RequestNext, FaultNext}
-use Rattle.dwarf_meaning.specs.Run.{Position, End, CompleteEnd, RequestEnd, FaultEnd, Course, only_end, prepend, Continues, return_to_caller, after_push, enter_callee, run_callee, after_answer, with_input, await_answer, after_operation, read, most, can_count, count_one, do_operation, turn_counted, counted_act, located_act, turn_by, turn, out_of_turns, run_for, enough, run}
+use Rattle.dwarf_meaning.specs.Run.{Position, End, CompleteEnd, RequestEnd, FaultEnd, Course, only_end, prepend, Continues, return_to_caller, after_push, enter_callee, run_callee, after_answer, with_input, await_answer, after_operation, read, most_operations, can_count, count_one, do_operation, turn_counted, counted_act, located_act, turn_by, turn, out_of_turns, run_for, enough_turns, run}
 use Rattle.dwarf_meaning.specs.RunLaws.{MaximaWithin, AtEnd, CountsWithin}
 use Rattle.dwarf_meaning.proofs.Counts.{OnStore, OnNext, Tally, tally_of, HasTally, tally-push_value, tally-push_caller, tally-done}
 
@@ -27,7 +27,7 @@ all_maxima P (input ∷ inputs) h = let Q : Input → Type 0 = λ input. P input
 
 -- what is known of each maximum, and the bound on counts that it gives
 pub record Bounded (bound : ℕ) (Fits : ℕ → Type 0) : Type 0 where
-  pub below : (m : ℕ) → Fits m → (n : ℕ) → n < m → n < most → n < bound
+  pub below : (m : ℕ) → Fits m → (n : ℕ) → n < m → n < most_operations → n < bound
 
 -- this many operations may be counted, under this maximum and those to come
 pub record Allowed (bound : ℕ) (Fits : ℕ → Type 0) (n : Tally) (inputs : List Input) : Type 0 where
@@ -156,7 +156,7 @@ module _ (bound : ℕ) (Fits : ℕ → Type 0) where
 within_bounded : (bound : ℕ) → Bounded bound (λ m. m ≤ bound)
 within_bounded bound = record { below = λ m h n i j. omega (arith, h, i) }
 
-most_bounded : Bounded most (λ m. Unit {0})
+most_bounded : Bounded most_operations (λ m. Unit {0})
 most_bounded = record { below = λ m h n i j. j }
 
 all_any : (inputs : List Input) → AllMaxima (λ m. Unit {0}) inputs
@@ -183,19 +183,19 @@ counts_within bound start Fits course h = record { few = omega (arith, h.few); c
 
 pub count_within : (bound : ℕ) (setup : Setup) (text : Text) (place depth : ℕ) (s : Store) (inputs : List Input) → s.count ≤ bound → s.settings.maximum ≤ bound → MaximaWithin bound inputs → CountsWithin bound s.count (run setup text place depth s inputs)
 count_within bound setup text place depth s inputs h i j =
-    counts_within bound s.count _ _ (counted_run_for bound (λ m. m ≤ bound) (within_bounded bound) enough setup text place depth s inputs (record { count = h; maximum = i; others = all_maxima (λ m. m ≤ bound) inputs j }))
+    counts_within bound s.count _ _ (counted_run_for bound (λ m. m ≤ bound) (within_bounded bound) enough_turns setup text place depth s inputs (record { count = h; maximum = i; others = all_maxima (λ m. m ≤ bound) inputs j }))
 
 pub maximum_within : (bound : ℕ) (setup : Setup) (text : Text) (place depth : ℕ) (s : Store) (inputs : List Input) → s.count ≤ bound → s.settings.maximum ≤ bound → MaximaWithin bound inputs → AtEnd (λ s. s.settings.maximum ≤ bound) (run setup text place depth s inputs).end
 maximum_within bound setup text place depth s inputs h i j =
-    maximum_at bound _ _ (counted_run_for bound (λ m. m ≤ bound) (within_bounded bound) enough setup text place depth s inputs (record { count = h; maximum = i; others = all_maxima (λ m. m ≤ bound) inputs j })).at_end
+    maximum_at bound _ _ (counted_run_for bound (λ m. m ≤ bound) (within_bounded bound) enough_turns setup text place depth s inputs (record { count = h; maximum = i; others = all_maxima (λ m. m ≤ bound) inputs j })).at_end
 
-more_bounded : (start : ℕ) → Bounded (start + most) (λ m. Unit {0})
+more_bounded : (start : ℕ) → Bounded (start + most_operations) (λ m. Unit {0})
 more_bounded start = record { below = λ m h n i j. omega (arith, j) }
 
 pub counts_path : (setup : Setup) (text : Text) (place depth : ℕ) (s : Store) (inputs : List Input) → let course = run setup text place depth s inputs in AtEnd (λ end. end.count ≡ s.count + length course.path) course.end
 counts_path setup text place depth s inputs =
-    total_at _ (λ m. Unit {0}) _ (counted_run_for (s.count + most) (λ m. Unit {0}) (more_bounded s.count) enough setup text place depth s inputs (record { count = omega arith; maximum = tt; others = all_any inputs })).at_end
+    total_at _ (λ m. Unit {0}) _ (counted_run_for (s.count + most_operations) (λ m. Unit {0}) (more_bounded s.count) enough_turns setup text place depth s inputs (record { count = omega arith; maximum = tt; others = all_any inputs })).at_end
 
-pub count_at_most : (setup : Setup) (text : Text) (place depth : ℕ) (s : Store) (inputs : List Input) → s.count ≤ most → CountsWithin most s.count (run setup text place depth s inputs)
+pub count_at_most : (setup : Setup) (text : Text) (place depth : ℕ) (s : Store) (inputs : List Input) → s.count ≤ most_operations → CountsWithin most_operations s.count (run setup text place depth s inputs)
 count_at_most setup text place depth s inputs h =
-    counts_within most s.count _ _ (counted_run_for most (λ m. Unit {0}) most_bounded enough setup text place depth s inputs (record { count = h; maximum = tt; others = all_any inputs }))
+    counts_within most_operations s.count _ _ (counted_run_for most_operations (λ m. Unit {0}) most_bounded enough_turns setup text place depth s inputs (record { count = h; maximum = tt; others = all_any inputs }))

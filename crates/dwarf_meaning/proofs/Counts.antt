@@ -8,9 +8,9 @@ use Rattle.dwarf_meaning.specs.Operations.{Operation}
 use Rattle.dwarf_meaning.specs.Locations.{Location, Piece, sized_piece}
 use Rattle.dwarf_meaning.specs.Requests.{Settings}
 use Rattle.dwarf_meaning.specs.Acts.{Act, Pushes, Branches, Locates, EndsPiece, RequestAct, FaultAct}
-use Rattle.dwarf_meaning.specs.Stores.{Setup, Store, Last, Plain, Pieced, push_value, push_piece, push_caller, push_values, Next, Goes, RequestNext, FaultNext, goes, branch_target, do_act}
+use Rattle.dwarf_meaning.specs.Stores.{Setup, Store, Last, Plain, Pieced, push_value, push_piece, push_caller, push_values, Next, Goes, RequestNext, FaultNext, next_at, branch_target, do_act}
 use Rattle.dwarf_meaning.specs.Run.{located_act}
-use Rattle.dwarf_meaning.specs.Refusals.{Refusal, room}
+use Rattle.dwarf_meaning.specs.Refusals.{Refusal, push_with_room}
 
 -- if a store comes of it, P holds of that
 abbrev pub OnStore : (Store → Type 0) → Result Store Fault → Type 0
@@ -41,7 +41,7 @@ bound_store P (Err fault) make h = tt
 pub tally-push_value : (setup : Setup) (value : Value) (s : Store) → OnStore (HasTally (tally_of s)) (push_value setup value s)
 unfolding push_value
 tally-push_value setup value s =
-    bound_store (HasTally (tally_of s)) (room setup.limits.values (length s.values) s.refusal) (λ left. record s { values = value ∷ s.values; refusal = left }) (λ left. refl)
+    bound_store (HasTally (tally_of s)) (push_with_room setup.limits.values (length s.values) s.refusal) (λ left. record s { values = value ∷ s.values; refusal = left }) (λ left. refl)
 
 -- a piece that is pushed leaves the sort of the last operation, too
 pub record KeepsBoth (m : Tally) (sort : Last) (s : Store) : Type 0 where
@@ -51,7 +51,7 @@ pub record KeepsBoth (m : Tally) (sort : Last) (s : Store) : Type 0 where
 pub both-push_piece : (setup : Setup) (piece : Piece) (s : Store) → OnStore (KeepsBoth (tally_of s) s.last) (push_piece setup piece s)
 unfolding push_piece
 both-push_piece setup piece s =
-    bound_store (KeepsBoth (tally_of s) s.last) (room setup.limits.pieces (length s.pieces) s.refusal) (λ left. record s { pieces = s.pieces ++ piece ∷ []; refusal = left })
+    bound_store (KeepsBoth (tally_of s) s.last) (push_with_room setup.limits.pieces (length s.pieces) s.refusal) (λ left. record s { pieces = s.pieces ++ piece ∷ []; refusal = left })
     (λ left. record { tally = refl; last = refl })
 
 tally_of_both : (m : Tally) (last : Last) (r : Result Store Fault) → OnStore (KeepsBoth m last) r → OnStore (HasTally m) r
@@ -63,7 +63,7 @@ tally-push_piece setup piece s = tally_of_both (tally_of s) s.last (push_piece s
 
 pub tally-push_caller : (setup : Setup) (depth : ℕ) (s : Store) → OnStore (HasTally (tally_of s)) (push_caller setup depth s)
 unfolding push_caller
-tally-push_caller setup depth s = bound_store (HasTally (tally_of s)) (room setup.limits.callers depth s.refusal) (λ left. record s { refusal = left }) (λ left. refl)
+tally-push_caller setup depth s = bound_store (HasTally (tally_of s)) (push_with_room setup.limits.callers depth s.refusal) (λ left. record s { refusal = left }) (λ left. refl)
 
 pub on_bound : (P Q : Store → Type 0) (r : Result Store Fault) (next : Store → Result Store Fault) → OnStore P r → ((s : Store) → P s → OnStore Q (next s)) → OnStore Q (r >>= next)
 on_bound P Q (Ok s) next h i = i s h
@@ -79,7 +79,7 @@ tally-push_values setup (value ∷ values) s =
     on_bound (HasTally (tally_of s)) (HasTally (tally_of s)) (push_value setup value s) (push_values setup values) (tally-push_value setup value s)
     (λ t e. tally_along (tally_of s) t (push_values setup values t) e (tally-push_values setup values t))
 
-pub on_goes : (P : Store → Type 0) (place : ℕ) (r : Result Store Fault) → OnStore P r → OnNext P (goes place r)
+pub on_goes : (P : Store → Type 0) (place : ℕ) (r : Result Store Fault) → OnStore P r → OnNext P (next_at place r)
 on_goes P place (Ok s) h = h
 on_goes P place (Err fault) h = tt
 
@@ -98,7 +98,7 @@ OnPiece m (Goes place s) = KeepsBoth m Pieced s
 OnPiece m (RequestNext request on_answer s) = ⊥
 OnPiece m (FaultNext fault) = Unit {0}
 
-piece_goes : (m : Tally) (place : ℕ) (r : Result Store Fault) → OnStore (KeepsBoth m Pieced) r → OnPiece m (goes place r)
+piece_goes : (m : Tally) (place : ℕ) (r : Result Store Fault) → OnStore (KeepsBoth m Pieced) r → OnPiece m (next_at place r)
 piece_goes m place (Ok s) h = h
 piece_goes m place (Err fault) h = tt
 

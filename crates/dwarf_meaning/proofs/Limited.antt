@@ -14,10 +14,10 @@ use Rattle.dwarf_meaning.specs.Requests.{Request, OnAnswer, Answer, Input}
 use Rattle.dwarf_meaning.specs.Kinds.{kind_of_request, kind_of_answer, is_same_kind}
 use Rattle.dwarf_meaning.specs.Acts.{on_top, Act, Pushes, Branches, Locates, EndsPiece, RequestAct, FaultAct, Use, PushesAnswer, Calls, FaultUse, use_of}
 use Rattle.dwarf_meaning.specs.Stores.{IsWithin, Setup, address_bits, Store, Last, Nothing, Plain, Pieced, Pushed, Called, Located, push_value, push_piece, push_caller, push_values, Next, Goes, RequestNext, FaultNext, branch_target, do_act}
-use Rattle.dwarf_meaning.specs.Run.{Position, End, CompleteEnd, RequestEnd, FaultEnd, Course, Continues, return_to_caller, after_push, enter_callee, run_callee, after_answer, with_input, await_answer, after_operation, read, can_count, count_one, do_operation, turn_counted, counted_act, located_act, turn_by, turn, out_of_turns, run_for, enough, run, return_to_callers}
-use Rattle.dwarf_meaning.specs.Meaning.{completion_of, has_pieces, whole, finish_value, finish_by, First, fresh_store, with_initial, outcome_of_end, course_of, meaning}
+use Rattle.dwarf_meaning.specs.Run.{Position, End, CompleteEnd, RequestEnd, FaultEnd, Course, Continues, return_to_caller, after_push, enter_callee, run_callee, after_answer, with_input, await_answer, after_operation, read, can_count, count_one, do_operation, turn_counted, counted_act, located_act, turn_by, turn, out_of_turns, run_for, enough_turns, run, return_to_callers}
+use Rattle.dwarf_meaning.specs.Meaning.{completion_of, has_pieces, whole_piece, finish_value, finish_by, First, fresh_store, with_initial, outcome_of_end, course_of, meaning}
 use Rattle.dwarf_meaning.specs.RunLaws.{ListsWithin, OpenTexts, EndWithin, OutcomeWithin, outermost}
-use Rattle.dwarf_meaning.specs.Refusals.{Refusal, refusal_after_push, room}
+use Rattle.dwarf_meaning.specs.Refusals.{Refusal, refusal_after_push, push_with_room}
 use Rattle.dwarf_meaning.proofs.Counts.{OnStore, OnNext, bound_store, on_bound, on_goes}
 use Rattle.dwarf_meaning.proofs.Effects.{IsActOf, pushes, branches, locates, ends, asks, act_is, IsUseOf, use_is}
 
@@ -28,7 +28,7 @@ within_less (Some limit) n m h i = omega (arith, h, i)
 -- ---- pushes
 
 -- if there is room for one more, there is one more within the limit
-room_within : (limit : Option ℕ) (n : ℕ) (refusal : Refusal) (P : Store → Type 0) (make : Refusal → Store) → (IsWithin limit (suc n) → (left : Refusal) → P (make left)) → OnStore P (room limit n refusal >>= λ left. Ok (make left))
+room_within : (limit : Option ℕ) (n : ℕ) (refusal : Refusal) (P : Store → Type 0) (make : Refusal → Store) → (IsWithin limit (suc n) → (left : Refusal) → P (make left)) → OnStore P (push_with_room limit n refusal >>= λ left. Ok (make left))
 room_within None n refusal P make h = bound_store P (refusal_after_push refusal) make (h tt)
 room_within (Some limit) n refusal P make h =
     cond_both (nat_lt n limit) (Ok refusal) (Err StackFull) (λ (r : Result Refusal Fault). OnStore P (r >>= λ left. Ok (make left)))
@@ -182,7 +182,7 @@ module _ (setup : Setup) where
       completed_within text (Some x) _ (kept_piece _ (record s { values = rest }) (record { values = within_less setup.limits.values _ _ (omega (arith, l)) h.values; pieces = h.pieces }))
 
   located_within : (text : Text) (location : Location) (s : Store) → Kept s → OutcomeWithin setup.limits text (finish_by setup s (Located location))
-  located_within text location s h = cond_both (has_pieces s.pieces) _ _ (OutcomeWithin setup.limits text) (λ e. tt) (λ e. completed_within text None _ (kept_piece (whole location) s h))
+  located_within text location s h = cond_both (has_pieces s.pieces) _ _ (OutcomeWithin setup.limits text) (λ e. tt) (λ e. completed_within text None _ (kept_piece (whole_piece location) s h))
 
   judged_within : (text : Text) (s : Store) → Kept s → OutcomeWithin setup.limits text (finish_by setup s Plain)
   judged_within text s h = cond_both (has_pieces s.pieces) _ _ (OutcomeWithin setup.limits text) (λ e. tt) (λ e. value_within text s s.values (omega arith) h)
@@ -204,7 +204,7 @@ module _ (setup : Setup) where
   returned_within text (caller ∷ callers) course d h =
       let above = within_less setup.limits.callers (suc (length callers)) (length callers) (omega arith) d in
       returned_within caller.text callers (return_to_caller (run setup) caller (length callers) course course.end) above
-      (limited_back (run setup) (limited_run_for enough) caller text (length callers) course course.end above h)
+      (limited_back (run setup) (limited_run_for enough_turns) caller text (length callers) course course.end above h)
 
   ended_within : (text : Text) (end : End) → EndWithin setup.limits text 0 end → OutcomeWithin setup.limits text (outcome_of_end setup end)
   ended_within text (CompleteEnd s left) h = finish_within text s s.last h
@@ -220,7 +220,7 @@ module _ (setup : Setup) where
   initial_kept (Some number) s h = kept_value _ s h
 
 pub run_within : (setup : Setup) (text : Text) (place depth : ℕ) (s : Store) (inputs : List Input) → IsWithin setup.limits.callers depth → ListsWithin setup.limits s → EndWithin setup.limits text depth (run setup text place depth s inputs).end
-run_within setup = limited_run_for setup enough
+run_within setup = limited_run_for setup enough_turns
 
 pub callers_within : (setup : Setup) (text : Text) (callers : List Position) (course : Course) → IsWithin setup.limits.callers (length callers) → EndWithin setup.limits text (length callers) course.end → OutcomeWithin setup.limits (outermost text callers) (outcome_of_end setup (return_to_callers setup callers course).end)
 callers_within setup text callers course d h = ended_within setup (outermost text callers) (return_to_callers setup callers course).end (returned_within setup text callers course d h)
@@ -229,5 +229,5 @@ pub meaning_within : (setup : Setup) (refusal : Refusal) (text : Text) (first : 
 unfolding meaning
 meaning_within setup refusal text first inputs =
     ended_within setup text (course_of setup refusal text first inputs).end
-    (limited_resumed setup (run setup) (limited_run_for setup enough) (record { text = text; place = 0 }) 0 inputs (with_initial setup first.initial_value (fresh_store first refusal)) (none_within setup setup.limits.callers)
+    (limited_resumed setup (run setup) (limited_run_for setup enough_turns) (record { text = text; place = 0 }) 0 inputs (with_initial setup first.initial_value (fresh_store first refusal)) (none_within setup setup.limits.callers)
     (initial_kept setup first.initial_value (fresh_store first refusal) (record { values = none_within setup setup.limits.values; pieces = none_within setup setup.limits.pieces })))

@@ -7,7 +7,7 @@ use Rattle.dwarf_meaning.specs.Requests.{Request, OnAnswer, Input}
 use Rattle.dwarf_meaning.specs.Kinds.{kind_of_request, kind_of_answer, is_same_kind}
 use Rattle.dwarf_meaning.specs.Acts.{Act, Use, PushesAnswer, Calls, FaultUse, use_of}
 use Rattle.dwarf_meaning.specs.Stores.{Setup, address_bits, Store, Last, Nothing, Plain, Pieced, Pushed, Called, Located, push_value, push_caller, Next, Goes, RequestNext, FaultNext}
-use Rattle.dwarf_meaning.specs.Run.{Position, End, CompleteEnd, RequestEnd, FaultEnd, Course, prepend, Continues, return_to_caller, after_push, enter_callee, run_callee, after_answer, with_input, await_answer, after_operation, read, can_count, count_one, do_operation, turn_counted, counted_act, located_act, turn_by, turn, out_of_turns, run_for, enough, run, only_end}
+use Rattle.dwarf_meaning.specs.Run.{Position, End, CompleteEnd, RequestEnd, FaultEnd, Course, prepend, Continues, return_to_caller, after_push, enter_callee, run_callee, after_answer, with_input, await_answer, after_operation, read, can_count, count_one, do_operation, turn_counted, counted_act, located_act, turn_by, turn, out_of_turns, run_for, enough_turns, run, only_end}
 use Rattle.dwarf_meaning.specs.Meaning.{IsOver, First, fresh_store, with_initial, outcome_of_end, course_of, meaning}
 use Rattle.dwarf_meaning.specs.RunLaws.{IsSettled, end_before, course_before, Took, EndTook}
 use Rattle.dwarf_meaning.specs.Refusals.{Refusal}
@@ -99,7 +99,7 @@ extends_run_for zero setup more = extends_turn more out_of_turns (λ text place 
 extends_run_for (suc turns) setup more = extends_turn more (run_for turns setup) (extends_run_for turns setup more) setup
 
 pub extends_run : (setup : Setup) (text : Text) (place depth : ℕ) (s : Store) (inputs more : List Input) → IsSettled (run setup text place depth s inputs).end → run setup text place depth s (inputs ++ more) ≡ course_before more (run setup text place depth s inputs)
-extends_run setup text place depth s inputs more = extends_run_for enough setup more text place depth s inputs
+extends_run setup text place depth s inputs more = extends_run_for enough_turns setup more text place depth s inputs
 
 -- ---- the whole
 
@@ -115,7 +115,7 @@ over_end setup more (FaultEnd fault) = refl
 
 extends_course : (setup : Setup) (refusal : Refusal) (text : Text) (first : First) (inputs more : List Input) → IsSettled (course_of setup refusal text first inputs).end → course_of setup refusal text first (inputs ++ more) ≡ course_before more (course_of setup refusal text first inputs)
 extends_course setup refusal text first inputs more =
-    extends_resumed more (run setup) (extends_run_for enough setup more) (record { text = text; place = 0 }) 0 inputs (with_initial setup first.initial_value (fresh_store first refusal))
+    extends_resumed more (run setup) (extends_run_for enough_turns setup more) (record { text = text; place = 0 }) 0 inputs (with_initial setup first.initial_value (fresh_store first refusal))
 
 pub over_meaning : (setup : Setup) (refusal : Refusal) (text : Text) (first : First) (inputs more : List Input) → IsOver (meaning setup refusal text first inputs) → meaning setup refusal text first (inputs ++ more) ≡ meaning setup refusal text first inputs
 unfolding meaning
@@ -238,4 +238,4 @@ takes_run_for zero setup = takes_turn out_of_turns (λ text place depth s inputs
 takes_run_for (suc turns) setup = takes_turn (run_for turns setup) (takes_run_for turns setup) setup
 
 pub run_takes : (setup : Setup) (text : Text) (place depth : ℕ) (s : Store) (inputs : List Input) → let course = run setup text place depth s inputs in EndTook inputs course.requests course.end
-run_takes setup = takes_run_for enough setup
+run_takes setup = takes_run_for enough_turns setup

@@ -11,7 +11,7 @@ use Rattle.dwarf_meaning.specs.Requests.{Request, OnAnswer, Input}
 use Rattle.dwarf_meaning.specs.Kinds.{kind_of_request, kind_of_answer, is_same_kind}
 use Rattle.dwarf_meaning.specs.Acts.{Act, Use, PushesAnswer, Calls, FaultUse, use_of}
 use Rattle.dwarf_meaning.specs.Stores.{Setup, address_bits, Store, Last, Nothing, Plain, Pieced, Pushed, Called, Located, Next, Goes, RequestNext, FaultNext}
-use Rattle.dwarf_meaning.specs.Run.{Position, End, CompleteEnd, RequestEnd, FaultEnd, Course, only_end, prepend, Continues, return_to_caller, after_push, enter_callee, run_callee, after_answer, with_input, await_answer, after_operation, read, most, can_count, count_one, do_operation, turn_counted, counted_act, located_act, turn_by, turn, out_of_turns, run_for, enough, run}
+use Rattle.dwarf_meaning.specs.Run.{Position, End, CompleteEnd, RequestEnd, FaultEnd, Course, only_end, prepend, Continues, return_to_caller, after_push, enter_callee, run_callee, after_answer, with_input, await_answer, after_operation, read, most_operations, can_count, count_one, do_operation, turn_counted, counted_act, located_act, turn_by, turn, out_of_turns, run_for, enough_turns, run}
 use Rattle.dwarf_meaning.specs.RunLaws.{waits_of, turns_left}
 use Rattle.dwarf_meaning.proofs.Counts.{OnStore, OnNext, Tally, tally_of, HasTally, OnPiece, tally-push_value, tally-push_caller, tally-done, both-located}
 
@@ -21,12 +21,12 @@ waits_little _ = omega arith
 
 -- what is left if this many were counted
 abbrev room_at : ℕ → ℕ
-room_at n = 2 * (most - n) + 1
+room_at n = 2 * (most_operations - n) + 1
 
 left_at : (m : Tally) (s : Store) → tally_of s ≡ m → turns_left s ≤ room_at m.count
 left_at m s e = let count : s.count ≡ m.count = ap (λ (k : Tally). k.count) e in omega (arith, count, waits_little s.last)
 
-pub below_most : (s : Store) → can_count s ≡ true → s.count < most
+pub below_most : (s : Store) → can_count s ≡ true → s.count < most_operations
 below_most s h = grind (arith, nat_tests)
 
 -- a run that ends leaves no more turns than m
@@ -98,7 +98,7 @@ module _ (go : Continues) (lowers : Lowers go) where
       (λ e. tt)
 
   -- after a location
-  lowers_piece : (setup : Setup) (text : Text) (depth place : ℕ) (inputs : List Input) (n : Tally) (next : Next) → OnPiece n next → (m : ℕ) → 2 * (most - n.count) ≤ m → EndsWithin m (after_operation go setup text depth place inputs next).end
+  lowers_piece : (setup : Setup) (text : Text) (depth place : ℕ) (inputs : List Input) (n : Tally) (next : Next) → OnPiece n next → (m : ℕ) → 2 * (most_operations - n.count) ≤ m → EndsWithin m (after_operation go setup text depth place inputs next).end
   lowers_piece setup text depth place inputs n (Goes to s) h m i =
       let none : waits_of s.last ≡ 0 = ap waits_of h.last in
       let count : s.count ≡ n.count = ap (λ (k : Tally). k.count) h.tally in
@@ -106,7 +106,7 @@ module _ (go : Continues) (lowers : Lowers go) where
   lowers_piece setup text depth place inputs n (RequestNext request on_answer s) h m i = absurd h
   lowers_piece setup text depth place inputs n (FaultNext fault) h m i = tt
 
-  lowers_held : (setup : Setup) (text : Text) (depth : ℕ) (location : Location) (s : Store) (inputs : List Input) (r : Result (Operation × List ℕ) Fault) (m : ℕ) → 2 * (most - s.count) ≤ m → EndsWithin m (do_operation go setup text depth s inputs (located_act location s) r).end
+  lowers_held : (setup : Setup) (text : Text) (depth : ℕ) (location : Location) (s : Store) (inputs : List Input) (r : Result (Operation × List ℕ) Fault) (m : ℕ) → 2 * (most_operations - s.count) ≤ m → EndsWithin m (do_operation go setup text depth s inputs (located_act location s) r).end
   lowers_held setup text depth location s inputs (Ok x) m h = lowers_piece setup text depth _ inputs (tally_of s) _ (both-located setup location _ (length text.bytes) s x.0) m h
   lowers_held setup text depth location s inputs (Err fault) m h = tt
 
@@ -187,7 +187,7 @@ module _ (go other : Continues) (m : ℕ) (alike : Alike m go other) (lowers : L
           (alike_does setup text depth (count_one s) inputs (counted_act setup s) (read setup text place) (omega arith))
       alike_by_test false e = refl
 
-  alike_piece : (setup : Setup) (text : Text) (depth place : ℕ) (inputs : List Input) (n : Tally) (next : Next) → OnPiece n next → 2 * (most - n.count) ≤ m → after_operation go setup text depth place inputs next ≡ after_operation other setup text depth place inputs next
+  alike_piece : (setup : Setup) (text : Text) (depth place : ℕ) (inputs : List Input) (n : Tally) (next : Next) → OnPiece n next → 2 * (most_operations - n.count) ≤ m → after_operation go setup text depth place inputs next ≡ after_operation other setup text depth place inputs next
   alike_piece setup text depth place inputs n (Goes to s) h i =
       let none : waits_of s.last ≡ 0 = ap waits_of h.last in
       let count : s.count ≡ n.count = ap (λ (k : Tally). k.count) h.tally in
@@ -195,7 +195,7 @@ module _ (go other : Continues) (m : ℕ) (alike : Alike m go other) (lowers : L
   alike_piece setup text depth place inputs n (RequestNext request on_answer s) h i = absurd h
   alike_piece setup text depth place inputs n (FaultNext fault) h i = refl
 
-  alike_held : (setup : Setup) (text : Text) (depth : ℕ) (location : Location) (s : Store) (inputs : List Input) (r : Result (Operation × List ℕ) Fault) → 2 * (most - s.count) ≤ m → do_operation go setup text depth s inputs (located_act location s) r ≡ do_operation other setup text depth s inputs (located_act location s) r
+  alike_held : (setup : Setup) (text : Text) (depth : ℕ) (location : Location) (s : Store) (inputs : List Input) (r : Result (Operation × List ℕ) Fault) → 2 * (most_operations - s.count) ≤ m → do_operation go setup text depth s inputs (located_act location s) r ≡ do_operation other setup text depth s inputs (located_act location s) r
   alike_held setup text depth location s inputs (Ok x) h = alike_piece setup text depth _ inputs (tally_of s) _ (both-located setup location _ (length text.bytes) s x.0) h
   alike_held setup text depth location s inputs (Err fault) h = refl
 
@@ -241,28 +241,28 @@ run_for-enough (suc n) (suc m) setup text place depth s inputs h i =
     (λ text place depth t inputs le. run_for-enough n m setup text place depth t inputs (omega (arith, h, le)) (omega (arith, i, le)))
     (lowers_run n setup) setup text place depth s inputs (omega arith)
 
-pub all_left : (s : Store) → turns_left s ≤ enough
-unfolding enough
+pub all_left : (s : Store) → turns_left s ≤ enough_turns
+unfolding enough_turns
 all_left s = omega (arith, waits_little s.last)
 
 -- a run is one turn, and then a run again
 pub run_turn : (setup : Setup) (text : Text) (place depth : ℕ) (s : Store) (inputs : List Input) → run setup text place depth s inputs ≡ turn (run setup) setup text place depth s inputs
 unfolding run_for
 run_turn setup text place depth s inputs =
-    run_for-enough enough (suc enough) setup text place depth s inputs (all_left s) (omega (arith, all_left s))
+    run_for-enough enough_turns (suc enough_turns) setup text place depth s inputs (all_left s) (omega (arith, all_left s))
 
 -- more turns than enough give the same course
-pub run_for-run : (n : ℕ) (setup : Setup) (text : Text) (place depth : ℕ) (s : Store) (inputs : List Input) → enough ≤ n → run_for n setup text place depth s inputs ≡ run setup text place depth s inputs
+pub run_for-run : (n : ℕ) (setup : Setup) (text : Text) (place depth : ℕ) (s : Store) (inputs : List Input) → enough_turns ≤ n → run_for n setup text place depth s inputs ≡ run setup text place depth s inputs
 run_for-run n setup text place depth s inputs h =
-    run_for-enough n enough setup text place depth s inputs (omega (arith, all_left s, h)) (all_left s)
+    run_for-enough n enough_turns setup text place depth s inputs (omega (arith, all_left s, h)) (all_left s)
 
 -- enough turns are twenty, which compute a worked row, and more
 abbrev pub twenty_and : ℕ → ℕ
 twenty_and more = suc (suc (suc (suc (suc (suc (suc (suc (suc (suc (suc (suc (suc (suc (suc (suc (suc (suc (suc (suc more)))))))))))))))))))
 
-enough_is : enough ≡ twenty_and (enough - 20)
-unfolding enough most
+enough_is : enough_turns ≡ twenty_and (enough_turns - 20)
+unfolding enough_turns most_operations
 enough_is = refl
 
-pub few_turns : (setup : Setup) (text : Text) (place depth : ℕ) (s : Store) (inputs : List Input) → run setup text place depth s inputs ≡ run_for (twenty_and (enough - 20)) setup text place depth s inputs
+pub few_turns : (setup : Setup) (text : Text) (place depth : ℕ) (s : Store) (inputs : List Input) → run setup text place depth s inputs ≡ run_for (twenty_and (enough_turns - 20)) setup text place depth s inputs
 few_turns setup text place depth s inputs = ap (λ (turns : ℕ). run_for turns setup text place depth s inputs) enough_is

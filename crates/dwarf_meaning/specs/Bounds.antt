@@ -3,7 +3,7 @@
 use Rattle.std.specs.Prelude.{ℕ, ◌+◌, ◌-◌, ◌*◌, ◌≤◌, ◌≡◌, Bool, true, false, ◌&&◌, IsTrue, List, [], ◌∷◌, Some, is_some, length, count_by}
 use Rattle.std.specs.List.{list_all}
 use Rattle.dwarf_meaning.specs.Locations.{Location, Empty, AtAddress, Piece}
-use Rattle.dwarf_meaning.specs.Run.{most}
+use Rattle.dwarf_meaning.specs.Run.{most_operations}
 use Rattle.dwarf_meaning.specs.Stores.{Last, Located}
 use Rattle.dwarf_meaning.specs.Rest.{State, Status, Start, RequestStatus, CompleteStatus, FaultStatus}
 
@@ -79,7 +79,7 @@ pub record IsUnspent (x : State) : Type 0 where
 abbrev pub calls_left_by : State → Status → ℕ
 calls_left_by x (CompleteStatus value) = 0
 calls_left_by x (FaultStatus error) = 0
-calls_left_by x _ = most - x.store.count + 1
+calls_left_by x _ = most_operations - x.store.count + 1
 
 -- how many more resumes there may be
 abbrev pub calls_left : State → ℕ

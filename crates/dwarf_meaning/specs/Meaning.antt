@@ -39,20 +39,20 @@ has_pieces [] = false
 has_pieces (piece ∷ pieces) = true
 
 -- a piece without size and bit offset, which is the whole variable
-abbrev pub whole : Location → Piece
-whole location = record { size_in_bits = None; bit_offset = None; location = location }
+abbrev pub whole_piece : Location → Piece
+whole_piece location = record { size_in_bits = None; bit_offset = None; location = location }
 
 module _ (setup : Setup) where
   -- the top is the value, and the address of the whole variable
   abbrev pub finish_value : Store → Outcome
   finish_value s =
       on_top s.values (FaultOutcome NotEnoughStackItems) (λ x rest. completion_of (Some x)
-      (push_piece setup (whole (AtAddress (to_u64_of (address_bits setup) x))) (record s { values = rest })))
+      (push_piece setup (whole_piece (AtAddress (to_u64_of (address_bits setup) x))) (record s { values = rest })))
 
   -- the end, by the last operation: a location is the whole variable; neither it nor a value may follow pieces
   abbrev pub finish_by : Store → Last → Outcome
   finish_by s (Located location) = if has_pieces s.pieces then FaultOutcome InvalidPiece
-      else completion_of None (push_piece setup (whole location) s)
+      else completion_of None (push_piece setup (whole_piece location) s)
   finish_by s Plain = if has_pieces s.pieces then FaultOutcome InvalidPiece else finish_value s
   finish_by s Pushed = if has_pieces s.pieces then FaultOutcome InvalidPiece else finish_value s
   finish_by s _ = if has_pieces s.pieces then CompleteOutcome s.pieces None else finish_value s

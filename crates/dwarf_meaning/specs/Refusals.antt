@@ -25,9 +25,9 @@ refusal_after_push (After zero (suc pushes)) = Ok (After zero pushes)
 refusal_after_push (After (suc inputs) pushes) = Ok (After (suc inputs) pushes)
 
 -- the refusal after a push on a list with this limit, of n items
-abbrev pub room : Option ℕ → (n : ℕ) → Refusal → Result Refusal Fault
-room None n refusal = refusal_after_push refusal
-room (Some limit) n refusal = if nat_lt n limit then Ok refusal else Err StackFull
+abbrev pub push_with_room : Option ℕ → (n : ℕ) → Refusal → Result Refusal Fault
+push_with_room None n refusal = refusal_after_push refusal
+push_with_room (Some limit) n refusal = if nat_lt n limit then Ok refusal else Err StackFull
 
 -- ---- inputs
 

@@ -7,7 +7,7 @@ use Rattle.dwarf_meaning.specs.Locations.{Location, AtAddress, Piece, sized_piec
 use Rattle.dwarf_meaning.specs.Requests.{Answer, LocationAnswer, Input}
 use Rattle.dwarf_meaning.specs.Stores.{Setup}
 use Rattle.dwarf_meaning.specs.Run.{Position}
-use Rattle.dwarf_meaning.specs.Meaning.{Outcome, CompleteOutcome, First, whole}
+use Rattle.dwarf_meaning.specs.Meaning.{Outcome, CompleteOutcome, First, whole_piece}
 use Rattle.dwarf_meaning.specs.Refusals.{Limits}
 
 -- bytes in little-endian order
@@ -54,7 +54,7 @@ word_at location = sized_piece 32 None location
 
 -- a generic value, and the whole variable at this address
 abbrev pub value_at : (number address : ℕ) → Outcome
-value_at number address = CompleteOutcome (whole (AtAddress address) ∷ []) (Some (Generic number))
+value_at number address = CompleteOutcome (whole_piece (AtAddress address) ∷ []) (Some (Generic number))
 
 -- pieces, and no value
 abbrev pub pieces_only : List Piece → Outcome

@@ -53,12 +53,12 @@ read setup text place =
     operation_at setup.encoding setup.offset_bits (record { bytes = drop place text.bytes; is_big = text.is_big })
 
 -- the maximum that holds if none is set; no run counts more
-unfoldable pub most : ℕ
-most = 4294967295
+unfoldable pub most_operations : ℕ
+most_operations = 4294967295
 
 -- the maximum allows one more operation
 abbrev pub can_count : Store → Bool
-can_count s = nat_lt s.count s.settings.maximum && nat_lt s.count most
+can_count s = nat_lt s.count s.settings.maximum && nat_lt s.count most_operations
 
 -- one more operation is counted
 abbrev pub count_one : Store → Store
@@ -162,12 +162,12 @@ run_for zero setup = turn out_of_turns setup
 run_for (suc turns) setup = turn (run_for turns setup) setup
 
 -- Turns enough for every run, as each turn counts an operation or reads the one piece after a counted location.
-unfoldable pub enough : ℕ
-enough = 2 * most + 1
+unfoldable pub enough_turns : ℕ
+enough_turns = 2 * most_operations + 1
 
 -- a run from a place of a text
 abbrev pub run : Setup → Continues
-run setup = run_for enough setup
+run setup = run_for enough_turns setup
 
 -- a course, and then the rest of its callers, inside out
 abbrev pub return_to_callers : Setup → (callers : List Position) → Course → Course

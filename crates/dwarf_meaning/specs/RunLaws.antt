@@ -2,7 +2,7 @@
 use Rattle.std.specs.Prelude.{ℕ, ◌+◌, ◌-◌, ◌*◌, ◌<◌, ◌≤◌, ◌≡◌, List, [], ◌∷◌, ◌++◌, Option, length, All, Any}
 use Rattle.dwarf_meaning.specs.Requests.{Request, Input, LocationAnswer}
 use Rattle.dwarf_meaning.specs.Stores.{IsWithin, Store, Last, Located}
-use Rattle.dwarf_meaning.specs.Run.{Position, End, CompleteEnd, RequestEnd, FaultEnd, Course, most}
+use Rattle.dwarf_meaning.specs.Run.{Position, End, CompleteEnd, RequestEnd, FaultEnd, Course, most_operations}
 use Rattle.dwarf_meaning.specs.Meaning.{Outcome, RequestOutcome, FaultOutcome, CompleteOutcome}
 use Rattle.dwarf_meaning.specs.Refusals.{Limits}
 use Rattle.dwarf_base.specs.Reads.{Text}
@@ -16,7 +16,7 @@ waits_of _ = 0
 
 -- how many more turns there can be that read an operation
 abbrev pub turns_left : Store → ℕ
-turns_left s = 2 * (most - s.count) + waits_of s.last
+turns_left s = 2 * (most_operations - s.count) + waits_of s.last
 
 -- ---- inputs
 

@@ -6,7 +6,7 @@ use Rattle.dwarf_meaning.specs.Requests.{Request, Answer, Input}
 use Rattle.dwarf_meaning.specs.Kinds.{kind_of_request, kind_of_answer}
 use Rattle.dwarf_meaning.specs.Stores.{Setup}
 use Rattle.dwarf_meaning.specs.Meaning.{Outcome, RequestOutcome, FaultOutcome, CompleteOutcome, IsOver, First, meaning}
-use Rattle.dwarf_meaning.specs.Run.{most}
+use Rattle.dwarf_meaning.specs.Run.{most_operations}
 use Rattle.dwarf_meaning.specs.Refusals.{Refusal}
 
 -- a setting, the start, or an answer
@@ -26,7 +26,7 @@ pub record Log : Type 0 where
 -- no step was done: nothing is set, and nothing was started
 abbrev pub empty_log : Log
 empty_log = record {
-  now = record { initial_value = None; settings = record { object_address = None; maximum = most } };
+  now = record { initial_value = None; settings = record { object_address = None; maximum = most_operations } };
   first = None;
   inputs = [];
 }

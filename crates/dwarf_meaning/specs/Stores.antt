@@ -9,7 +9,7 @@ use Rattle.dwarf_value.specs.declared.types.Value.{Value}
 use Rattle.dwarf_meaning.specs.Locations.{Location, Piece}
 use Rattle.dwarf_meaning.specs.Requests.{Request, OnAnswer, Settings}
 use Rattle.dwarf_meaning.specs.Acts.{Act, Pushes, Branches, Locates, EndsPiece, RequestAct, FaultAct}
-use Rattle.dwarf_meaning.specs.Refusals.{Limits, Refusal, room}
+use Rattle.dwarf_meaning.specs.Refusals.{Limits, Refusal, push_with_room}
 
 -- no more than the limit, if there is one
 abbrev pub IsWithin : (limit : Option ℕ) → ℕ → Type 0
@@ -58,17 +58,17 @@ pub record Store : Type 0 where
 module _ (setup : Setup) where
   -- a value, on top
   unfoldable pub push_value : Value → Store → Result Store Fault
-  push_value value s = room setup.limits.values (length s.values) s.refusal
+  push_value value s = push_with_room setup.limits.values (length s.values) s.refusal
       >>= λ left. Ok (record s { values = value ∷ s.values; refusal = left })
 
   -- a piece, after the others
   unfoldable pub push_piece : Piece → Store → Result Store Fault
-  push_piece piece s = room setup.limits.pieces (length s.pieces) s.refusal
+  push_piece piece s = push_with_room setup.limits.pieces (length s.pieces) s.refusal
       >>= λ left. Ok (record s { pieces = s.pieces ++ piece ∷ []; refusal = left })
 
   -- a caller, if `depth` callers wait
   unfoldable pub push_caller : (depth : ℕ) → Store → Result Store Fault
-  push_caller depth s = room setup.limits.callers depth s.refusal >>= λ left. Ok (record s { refusal = left })
+  push_caller depth s = push_with_room setup.limits.callers depth s.refusal >>= λ left. Ok (record s { refusal = left })
 
   -- values in order, the last on top
   abbrev pub push_values : List Value → Store → Result Store Fault
@@ -84,9 +84,9 @@ pub data Next : Type 0 where
   FaultNext : Fault → Next
 
 -- on at this place, if the pushes found room
-abbrev pub goes : (place : ℕ) → Result Store Fault → Next
-goes place (Ok s) = Goes place s
-goes place (Err fault) = FaultNext fault
+abbrev pub next_at : (place : ℕ) → Result Store Fault → Next
+next_at place (Ok s) = Goes place s
+next_at place (Err fault) = FaultNext fault
 
 -- where a branch leads to, from the place after it: offsets wrap
 abbrev pub branch_target : Setup → (place : ℕ) → ℤ → ℕ
@@ -99,10 +99,10 @@ branch len place s = if nat_lt len place then FaultNext (BadBranchTarget place) 
 module _ (setup : Setup) (place len : ℕ) where
   -- What an operation does to what is kept; `place` is the one after it, in a text of length `len`.
   abbrev pub do_act : Act → Store → Next
-  do_act (Pushes rest pushed) s = goes place (push_values setup pushed (record s { values = rest; last = Plain }))
+  do_act (Pushes rest pushed) s = next_at place (push_values setup pushed (record s { values = rest; last = Plain }))
   do_act (Branches rest target) s =
       branch len (branch_target setup place target) (record s { values = rest; last = Plain })
   do_act (Locates rest location) s = Goes place (record s { values = rest; last = Located location })
-  do_act (EndsPiece rest piece) s = goes place (push_piece setup piece (record s { values = rest; last = Pieced }))
+  do_act (EndsPiece rest piece) s = next_at place (push_piece setup piece (record s { values = rest; last = Pieced }))
   do_act (RequestAct rest request on_answer) s = RequestNext request on_answer (record s { values = rest })
   do_act (FaultAct fault) s = FaultNext fault

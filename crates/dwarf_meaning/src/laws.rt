@@ -13,7 +13,7 @@ ghost use Rattle.dwarf_meaning.specs.Splitting.{Splitting};
 ghost use Rattle.dwarf_meaning.specs.DecodeLaws.{AreBytes, BranchesNear, IsDecided, SplitsOnce, IsSplitting, IsDecodingFault};
 ghost use Rattle.dwarf_meaning.specs.Requests.{Input};
 ghost use Rattle.dwarf_meaning.specs.Stores.{Setup, IsWithin, Store};
-ghost use Rattle.dwarf_meaning.specs.Run.{Position, Course, most, turn, run_for, enough, run, return_to_callers};
+ghost use Rattle.dwarf_meaning.specs.Run.{Position, Course, most_operations, turn, run_for, enough_turns, run, return_to_callers};
 ghost use Rattle.dwarf_meaning.specs.Meaning.{IsOver, First, outcome_of_end, meaning};
 ghost use Rattle.dwarf_meaning.specs.RunLaws.{turns_left, IsSettled, course_before, EndTook, MaximaWithin, AtEnd, CountsWithin, ListsWithin, EndWithin, OutcomeWithin, outermost, OutcomeOpen};
 ghost use Rattle.dwarf_meaning.specs.Refusals.{Refusal};
@@ -56,7 +56,7 @@ pub fn run_laws()
     ensures enough_turns { (n m : ℕ) (setup : Setup) (text : Text) (place depth : ℕ) (s : Store)
         (inputs : List Input) → turns_left s ≤ n → turns_left s ≤ m
         → run_for n setup text place depth s inputs ≡ run_for m setup text place depth s inputs }
-    ensures always_enough { (s : Store) → turns_left s ≤ enough }
+    ensures always_enough { (s : Store) → turns_left s ≤ enough_turns }
     ensures inputs { (setup : Setup) (text : Text) (place depth : ℕ) (s : Store)
         (inputs more : List Input) → IsSettled (run setup text place depth s inputs).end
         → run setup text place depth s (inputs ++ more)
@@ -82,8 +82,8 @@ pub fn run_laws()
         → MaximaWithin bound inputs
         → AtEnd (λ end. end.settings.maximum ≤ bound) (run setup text place depth s inputs).end }
     ensures most_of_all { (setup : Setup) (text : Text) (place depth : ℕ) (s : Store)
-        (inputs : List Input) → s.count ≤ most
-        → CountsWithin most s.count (run setup text place depth s inputs) }
+        (inputs : List Input) → s.count ≤ most_operations
+        → CountsWithin most_operations s.count (run setup text place depth s inputs) }
     ensures within { (setup : Setup) (text : Text) (place depth : ℕ) (s : Store)
         (inputs : List Input) → IsWithin setup.limits.callers depth → ListsWithin setup.limits s
         → EndWithin setup.limits text depth (run setup text place depth s inputs).end }

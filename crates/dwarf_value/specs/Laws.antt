@@ -28,8 +28,8 @@ InRange (U64 n) = n < 2 ^ 64
 -- ---- comparisons
 
 -- a comparison gives 1
-abbrev pub Holds : Result Value Error → Type 0
-Holds result = result ≡ Ok (Generic 1)
+abbrev pub IsTrue : Result Value Error → Type 0
+IsTrue result = result ≡ Ok (Generic 1)
 
 -- a comparison gives 0
 abbrev pub Fails : Result Value Error → Type 0
@@ -37,7 +37,7 @@ Fails result = result ≡ Ok (Generic 0)
 
 -- exactly one of three results is 1
 abbrev pub OneHolds : (first second third : Result Value Error) → Type 0
-OneHolds a b c = (Holds a × Fails b × Fails c) ⊎ (Fails a × Holds b × Fails c) ⊎ (Fails a × Fails b × Holds c)
+OneHolds a b c = (IsTrue a × Fails b × Fails c) ⊎ (Fails a × IsTrue b × Fails c) ⊎ (Fails a × Fails b × IsTrue c)
 
 -- of two values of one type, the first is below, equal to or above the second
 abbrev pub Trichotomy : Type 0
@@ -47,7 +47,7 @@ Trichotomy =
 
 -- one of two results is 1, and the other 0
 abbrev pub AreOpposite : (first second : Result Value Error) → Type 0
-AreOpposite a b = (Holds a × Fails b) ⊎ (Fails a × Holds b)
+AreOpposite a b = (IsTrue a × Fails b) ⊎ (Fails a × IsTrue b)
 
 -- each comparison has an opposite
 abbrev pub Opposites : Type 0

@@ -11,10 +11,10 @@ use Rattle.dwarf_meaning.specs.Locations.{Location, HoldsBytes, Piece}
 use Rattle.dwarf_meaning.specs.Kinds.{kind_of_request, kind_of_answer, is_same_kind}
 use Rattle.dwarf_meaning.specs.Requests.{Request, OnAnswer, Answer, LocationAnswer, Input}
 use Rattle.dwarf_meaning.specs.Acts.{Act, Pushes, Branches, Locates, EndsPiece, RequestAct, FaultAct, Use, PushesAnswer, Calls, FaultUse, use_of}
-use Rattle.dwarf_meaning.specs.Stores.{Setup, address_bits, Store, Last, Nothing, Plain, Pieced, Pushed, Called, Located, push_value, push_piece, push_caller, push_values, Next, Goes, RequestNext, FaultNext, goes, do_act, branch_target}
-use Rattle.dwarf_meaning.specs.Run.{Position, End, CompleteEnd, RequestEnd, FaultEnd, Course, Continues, return_to_caller, after_push, enter_callee, run_callee, after_answer, with_input, await_answer, after_operation, read, can_count, count_one, do_operation, turn_counted, counted_act, located_act, turn_by, turn, out_of_turns, run_for, enough}
-use Rattle.dwarf_meaning.specs.Meaning.{Outcome, RequestOutcome, FaultOutcome, CompleteOutcome, completion_of, has_pieces, whole, finish_value, finish_by, First, fresh_store, with_initial, outcome_of_end, meaning}
-use Rattle.dwarf_meaning.specs.Refusals.{Refusal, room}
+use Rattle.dwarf_meaning.specs.Stores.{Setup, address_bits, Store, Last, Nothing, Plain, Pieced, Pushed, Called, Located, push_value, push_piece, push_caller, push_values, Next, Goes, RequestNext, FaultNext, next_at, do_act, branch_target}
+use Rattle.dwarf_meaning.specs.Run.{Position, End, CompleteEnd, RequestEnd, FaultEnd, Course, Continues, return_to_caller, after_push, enter_callee, run_callee, after_answer, with_input, await_answer, after_operation, read, can_count, count_one, do_operation, turn_counted, counted_act, located_act, turn_by, turn, out_of_turns, run_for, enough_turns}
+use Rattle.dwarf_meaning.specs.Meaning.{Outcome, RequestOutcome, FaultOutcome, CompleteOutcome, completion_of, has_pieces, whole_piece, finish_value, finish_by, First, fresh_store, with_initial, outcome_of_end, meaning}
+use Rattle.dwarf_meaning.specs.Refusals.{Refusal, push_with_room}
 use Rattle.dwarf_meaning.proofs.Choices.{top_both}
 use Rattle.dwarf_meaning.proofs.Counts.{OnStore, bound_store, on_bound}
 use Rattle.dwarf_meaning.proofs.Effects.{IsActOf, IsOwnPlace, locates, ends, asks, act_is, IsUseOf, use_is}
@@ -96,18 +96,18 @@ module _ (Q : List ℕ → Type 0) where
   value_holds : (setup : Setup) (value : Value) (s : Store) → Holds Q s → OnStore (Holds Q) (push_value setup value s)
   unfolding push_value
   value_holds setup value s h =
-      bound_store (Holds Q) (room setup.limits.values (length s.values) s.refusal) (λ left. record s { values = value ∷ s.values; refusal = left }) (λ left. record { pieces = h.pieces; last = h.last })
+      bound_store (Holds Q) (push_with_room setup.limits.values (length s.values) s.refusal) (λ left. record s { values = value ∷ s.values; refusal = left }) (λ left. record { pieces = h.pieces; last = h.last })
 
   piece_holds : (setup : Setup) (piece : Piece) (s : Store) → Holds Q s → OnLocation Q piece.location → OnStore (Holds Q) (push_piece setup piece s)
   unfolding push_piece
   piece_holds setup piece s h i =
-      bound_store (Holds Q) (room setup.limits.pieces (length s.pieces) s.refusal) (λ left. record s { pieces = s.pieces ++ piece ∷ []; refusal = left })
+      bound_store (Holds Q) (push_with_room setup.limits.pieces (length s.pieces) s.refusal) (λ left. record s { pieces = s.pieces ++ piece ∷ []; refusal = left })
       (λ left. record { pieces = snoc_pieces s.pieces piece h.pieces i; last = h.last })
 
   frame_holds : (setup : Setup) (depth : ℕ) (s : Store) → Holds Q s → OnStore (Holds Q) (push_caller setup depth s)
   unfolding push_caller
   frame_holds setup depth s h =
-      bound_store (Holds Q) (room setup.limits.callers depth s.refusal) (λ left. record s { refusal = left }) (λ left. record { pieces = h.pieces; last = h.last })
+      bound_store (Holds Q) (push_with_room setup.limits.callers depth s.refusal) (λ left. record s { refusal = left }) (λ left. record { pieces = h.pieces; last = h.last })
 
   values_hold : (setup : Setup) (values : List Value) (s : Store) → Holds Q s → OnStore (Holds Q) (push_values setup values s)
   values_hold setup [] s h = h
@@ -119,7 +119,7 @@ module _ (Q : List ℕ → Type 0) where
   OnNext (RequestNext request on_answer s) = OnRequest Q request × Holds Q s
   OnNext (FaultNext fault) = Unit {0}
 
-  goes_holds : (place : ℕ) (r : Result Store Fault) → OnStore (Holds Q) r → OnNext (goes place r)
+  goes_holds : (place : ℕ) (r : Result Store Fault) → OnStore (Holds Q) r → OnNext (next_at place r)
   goes_holds place (Ok s) h = h
   goes_holds place (Err fault) h = tt
 
@@ -251,7 +251,7 @@ module _ (P : Text → Type 0) (Q : List ℕ → Type 0) where
 
   finish_holds : (setup : Setup) (s : Store) (last : Last) → Holds Q s → OnLast Q last → OnOutcome Q (finish_by setup s last)
   finish_holds setup s (Located location) h l =
-      cond_both (has_pieces s.pieces) _ _ (OnOutcome Q) (λ e. tt) (λ e. completed_holds None _ (piece_holds Q setup (whole location) s h l))
+      cond_both (has_pieces s.pieces) _ _ (OnOutcome Q) (λ e. tt) (λ e. completed_holds None _ (piece_holds Q setup (whole_piece location) s h l))
   finish_holds setup s Plain h l = judged_ends setup s h
   finish_holds setup s Pushed h l = judged_ends setup s h
   finish_holds setup s _ h l = free_ends setup s h
@@ -269,5 +269,5 @@ module _ (P : Text → Type 0) (Q : List ℕ → Type 0) where
   unfolding meaning
   meaning_holds setup refusal text first inputs reads p i =
       ends_holds setup _
-      (resumed_carries setup reads (run_for enough setup) (run_for_carries enough setup reads) (record { text = text; place = 0 }) 0 inputs _ p
+      (resumed_carries setup reads (run_for enough_turns setup) (run_for_carries enough_turns setup reads) (record { text = text; place = 0 }) 0 inputs _ p
       (begins setup first refusal first.initial_value) i)

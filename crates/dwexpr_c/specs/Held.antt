@@ -9,7 +9,7 @@ use Rattle.dwarf_meaning.specs.Inputs.{fresh_state}
 use Rattle.dwarf_meaning.specs.Meaning.{Outcome, RequestOutcome, FaultOutcome, CompleteOutcome}
 use Rattle.dwarf_meaning.specs.Refusals.{Never}
 use Rattle.dwarf_meaning.specs.Rest.{State, Start, CompleteStatus}
-use Rattle.dwarf_meaning.specs.Run.{most}
+use Rattle.dwarf_meaning.specs.Run.{most_operations}
 use Rattle.dwarf_meaning.specs.Steps.{Allows, Evaluate, Log, Reply, RequestReply, Resume, Step, outcome_of}
 use Rattle.dwarf_replay.specs.Continuing.{Leaves, initial_items}
 use Rattle.dwarf_replay.specs.Replays.{AreDoneFrom, StandsAt, log_at}
@@ -46,7 +46,7 @@ pub record IsUnstarted (held : Held) : Type 0 where
   pub setup : held.evaluation.setup ≡ limited_setup first_encoding
   pub text : held.evaluation.text ≡ record { bytes = []; is_big = false }
   pub object_address : held.evaluation.store.settings.object_address ≡ None
-  pub maximum : held.evaluation.store.settings.maximum ≡ most
+  pub maximum : held.evaluation.store.settings.maximum ≡ most_operations
   pub order : is_big_of held.order ≡ false
 
 -- ---- the steps so far

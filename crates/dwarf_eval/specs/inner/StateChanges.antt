@@ -15,7 +15,7 @@ use Rattle.dwarf_meaning.specs.Requests.{Request, OnAnswer, Answer, Input}
 use Rattle.dwarf_meaning.specs.Acts.{Act, RequestAct, act, Use, use_of}
 use Rattle.dwarf_meaning.specs.RunLaws.{waits_of}
 use Rattle.dwarf_meaning.specs.Stores.{address_bits, Store, Last, Plain, Pieced, Located, push_value, push_values, push_piece, push_caller, Next, Goes, RequestNext, FaultNext, do_act}
-use Rattle.dwarf_meaning.specs.Run.{Position, after_answer, can_count, count_one, read, most, run}
+use Rattle.dwarf_meaning.specs.Run.{Position, after_answer, can_count, count_one, read, most_operations, run}
 use Rattle.dwarf_meaning.specs.Meaning.{Outcome, FaultOutcome, CompleteOutcome, completion_of}
 use Rattle.dwarf_meaning.specs.Rest.{State, Status, Start, Running, RequestStatus, CompleteStatus, FaultStatus, total_of_course, with_refusal}
 pub use Rattle.dwarf_meaning.specs.Rest.{Total, total, total_after}
@@ -37,12 +37,12 @@ before_pushes zero refusal = refusal
 before_pushes (suc pushes) refusal = before_push (before_pushes pushes refusal)
 
 -- what f makes of what was kept before some pushes is what g makes of what is kept after them
-pub record Steps {A : Type 0} (f : Store → A) (old : Store) (g : Store → A) (new : Store) : Type 0 where
+pub record StoreSteps {A : Type 0} (f : Store → A) (old : Store) (g : Store → A) (new : Store) : Type 0 where
   pub pushes : ℕ
   pub same : (r : Refusal) → f (with_refusal (before_pushes pushes r) old) ≡ g (with_refusal r new)
 
 -- for some refusal, f gives this
-pub record Gets {A : Type 0} (limits : Limits) (f : Store → A) (old : Store) (a : A) : Type 0 where
+pub record MayGive {A : Type 0} (limits : Limits) (f : Store → A) (old : Store) (a : A) : Type 0 where
   pub refusal : Refusal
   pub may : MayPick limits refusal
   pub same : f (with_refusal refusal old) ≡ a
@@ -72,33 +72,33 @@ pub record Stays (more : ℕ) (old new : State) : Type 0 where
       ≤ length old.store.values + length old.store.pieces + more
 
 -- f was done to what is kept, and to nothing else
-pub record Does (f : Store → Result Store Fault) (old new : State) : Type 0 where
-  pub steps : Steps f old.store Ok new.store
+pub record ChangesStoreBy (f : Store → Result Store Fault) (old new : State) : Type 0 where
+  pub steps : StoreSteps f old.store Ok new.store
   pub alone : new ≡ with_store new.store old
 
 -- f gives a fault for some refusal, and the state keeps it
 pub record Refused (more : ℕ) (f : Store → Result Store Fault) (old new : State) : Type 0 where
   pub error : Error
   pub failed : new.status ≡ FaultStatus error
-  pub gets : Gets old.setup.limits f old.store (Err (fault_of error))
+  pub gets : MayGive old.setup.limits f old.store (Err (fault_of error))
   pub stays : Stays more old new
 
 -- f was done, or the state keeps its fault
-abbrev pub Tries : (more : ℕ) → (Store → Result Store Fault) → State → State → Bool → Type 0
-Tries more f old new true = Does f old new
-Tries more f old new false = Refused more f old new
+abbrev pub TriesChange : (more : ℕ) → (Store → Result Store Fault) → State → State → Bool → Type 0
+TriesChange more f old new true = ChangesStoreBy f old new
+TriesChange more f old new false = Refused more f old new
 
-abbrev pub Tried : (more : ℕ) → (Store → Result Store Fault) → State → State → Type 0
-Tried more f old new = (done : Bool) × Tries more f old new done
+abbrev pub HasTriedChange : (more : ℕ) → (Store → Result Store Fault) → State → State → Type 0
+HasTriedChange more f old new = (done : Bool) × TriesChange more f old new done
 
 -- the value of a plain operation was pushed, or the state keeps the fault
 abbrev pub PushesPlain : Value → State → State → Type 0
-PushesPlain value old new = Tried 0 (λ s. push_value old.setup value (record s { last = Plain })) old new
+PushesPlain value old new = HasTriedChange 0 (λ s. push_value old.setup value (record s { last = Plain })) old new
 
 -- the same of several values, in order
 abbrev pub PushesAllPlain : List Value → State → State → Type 0
 PushesAllPlain values old new =
-    Tried (length values - 1) (λ s. push_values old.setup values (record s { last = Plain })) old new
+    HasTriedChange (length values - 1) (λ s. push_values old.setup values (record s { last = Plain })) old new
 
 -- the top was popped, or there is none
 abbrev pub Pops : Option Value → State → State → Type 0
@@ -140,8 +140,8 @@ Jumps place old new false =
     (length old.text.bytes < place) × (new ≡ with_status (FaultStatus (BadBranchTarget place)) old)
 
 -- the state before what is left of its text
-abbrev pub at : (left : List ℕ) → State → State
-at left x = with_place (length x.text.bytes - length left) x
+abbrev pub at_rest : (left : List ℕ) → State → State
+at_rest left x = with_place (length x.text.bytes - length left) x
 
 -- the same state at this place, once one more operation was decoded
 abbrev pub read_to : ℕ → State → State
@@ -171,17 +171,17 @@ do_act_at a x s = do_act x.setup x.place (length x.text.bytes) a s
 
 -- f, of what is kept, leads to a place
 pub record LeadsToPlace (f : Store → Next) (old new : State) : Type 0 where
-  pub steps : Steps f old.store (Goes new.place) new.store
+  pub steps : StoreSteps f old.store (Goes new.place) new.store
   pub alone : new ≡ with_store new.store (with_place new.place old)
 
 -- f leads to a request
 pub record LeadsToRequest (f : Store → Next) (request : Request) (on_answer : OnAnswer) (old new : State) : Type 0 where
-  pub steps : Steps f old.store (RequestNext request on_answer) new.store
+  pub steps : StoreSteps f old.store (RequestNext request on_answer) new.store
   pub alone : new ≡ with_store new.store (with_status (RequestStatus request on_answer) old)
 
 -- f leads to the fault for some refusal
 pub record LeadsToFault (f : Store → Next) (error : Error) (old new : State) : Type 0 where
-  pub gets : Gets old.setup.limits f old.store (FaultNext (fault_of error))
+  pub gets : MayGive old.setup.limits f old.store (FaultNext (fault_of error))
   pub stays : Stays 0 old new
 
 abbrev pub LeadsBy : (Store → Next) → State → State → Status → Type 0
@@ -202,7 +202,7 @@ Asks None on_answer old new = Unit {0}
 -- a piece after a location: it is ended, or the state keeps the fault
 abbrev pub EndsLocated : Location → Operation → State → State → Type 0
 EndsLocated location (operation.Piece size_in_bits bit_offset) old new =
-    Tried 0 (push_piece old.setup (sized_piece size_in_bits bit_offset location)) (with_last Pieced old) new
+    HasTriedChange 0 (push_piece old.setup (sized_piece size_in_bits bit_offset location)) (with_last Pieced old) new
 EndsLocated location _ old new = new ≡ with_status (FaultStatus (InvalidExpressionTerminator (old.place - 1))) old
 
 -- ---- turns
@@ -214,8 +214,8 @@ replies_by (CompleteStatus value) = 1
 replies_by _ = 0
 
 -- if the call so ends, fewer calls are left
-abbrev pub Nears : State → State → Type 0
-Nears old new = calls_left new + replies_by new.status ≤ calls_left old
+abbrev pub NearsItsEnd : State → State → Type 0
+NearsItsEnd old new = calls_left new + replies_by new.status ≤ calls_left old
 
 -- the outcome of the old state is the outcome of the new one, to which it came by this many pushes
 pub record Reaches (old : State) (totals : Refusal → List Input → Total) (new : State) : Type 0 where
@@ -223,7 +223,7 @@ pub record Reaches (old : State) (totals : Refusal → List Input → Total) (ne
   pub same : (r : Refusal) (inputs : List Input) → totals (before_pushes pushes r) inputs ≡ total new r inputs
   pub kept : Keeps old new
   pub spends : Spends 0 old new
-  pub nears : Nears old new
+  pub nears : NearsItsEnd old new
 
 -- for some refusal, the old state ends in the fault, and no more is counted than the new one has
 pub record Falls (old : State) (totals : Refusal → List Input → Total) (fault : Fault) (new : State) : Type 0 where
@@ -234,14 +234,14 @@ pub record Falls (old : State) (totals : Refusal → List Input → Total) (faul
   pub kept : Keeps old new
   pub spends : Spends 0 old new
 
-abbrev pub ComesBy : State → (Refusal → List Input → Total) → State → Status → Type 0
-ComesBy old totals new (FaultStatus error) = Falls old totals (fault_of error) new
-ComesBy old totals new (Start initial_value) = ⊥
-ComesBy old totals new _ = Reaches old totals new
+abbrev pub ComesToStateBy : State → (Refusal → List Input → Total) → State → Status → Type 0
+ComesToStateBy old totals new (FaultStatus error) = Falls old totals (fault_of error) new
+ComesToStateBy old totals new (Start initial_value) = ⊥
+ComesToStateBy old totals new _ = Reaches old totals new
 
 -- it came to the new state, or to a fault, which the new state keeps
-abbrev pub Comes : State → (Refusal → List Input → Total) → State → Type 0
-Comes old totals new = ComesBy old totals new new.status
+abbrev pub ComesToState : State → (Refusal → List Input → Total) → State → Type 0
+ComesToState old totals new = ComesToStateBy old totals new new.status
 
 -- it waits, is complete, or a fault was met
 abbrev pub HasReply : Status → Type 0
@@ -269,7 +269,7 @@ GoesBack false old new = (old.callers ≡ []) × (new ≡ old)
 
 -- the run is over, as f says, with this value, and this many more items at most
 pub record ClosesComplete (more : ℕ) (f : Store → Outcome) (value : Option Value) (old new : State) : Type 0 where
-  pub steps : Steps f old.store (λ s. CompleteOutcome s.pieces value) new.store
+  pub steps : StoreSteps f old.store (λ s. CompleteOutcome s.pieces value) new.store
   pub alone : new ≡ with_store new.store (with_status (CompleteStatus value) old)
   pub kept : Keeps old new
   pub count : new.store.count ≡ old.store.count
@@ -278,7 +278,7 @@ pub record ClosesComplete (more : ℕ) (f : Store → Outcome) (value : Option V
 
 -- f gives the fault for some refusal
 pub record ClosesInFault (f : Store → Outcome) (error : Error) (old new : State) : Type 0 where
-  pub gets : Gets old.setup.limits f old.store (FaultOutcome (fault_of error))
+  pub gets : MayGive old.setup.limits f old.store (FaultOutcome (fault_of error))
   pub stays : Stays 0 old new
 
 abbrev pub ClosesBy : ℕ → (Store → Outcome) → State → State → Status → Type 0
@@ -295,7 +295,7 @@ abbrev pub CompletesWith : Piece → Option Value → State → State → Type 0
 CompletesWith piece value old new = Closes 1 (λ s. completion_of value (push_piece old.setup piece s)) old new
 
 abbrev pub effort_by : State → Status → ℕ
-effort_by x Running = 3 * (most - x.store.count) + length x.callers + waits_of x.store.last + 1
+effort_by x Running = 3 * (most_operations - x.store.count) + length x.callers + waits_of x.store.last + 1
 effort_by x _ = 0
 
 -- a number that falls at each turn
@@ -304,7 +304,7 @@ effort x = effort_by x x.status
 
 -- one turn of the run
 pub record Turns (old new : State) : Type 0 where
-  pub comes : Comes old (total old) new
+  pub comes : ComesToState old (total old) new
   pub less : effort new < effort old
 
 abbrev pub is_running : Status → Bool
@@ -319,7 +319,7 @@ goes_on x = is_running x.status && is_free x.store.last && nat_lt x.place (lengt
 
 -- a called text runs, and there is one caller more
 pub record Enters (callee : Text) (old new : State) : Type 0 where
-  pub steps : Steps (push_caller old.setup (length old.callers)) old.store Ok new.store
+  pub steps : StoreSteps (push_caller old.setup (length old.callers)) old.store Ok new.store
   pub alone : new ≡ record old {
     text = callee;
     place = 0;
@@ -339,6 +339,6 @@ total_used x used refusal inputs =
     (with_refusal refusal x.store) inputs)
 
 -- this is done with the answer
-abbrev pub Takes : OnAnswer → Answer → State → State → Type 0
-Takes on_answer answer old new =
-    Comes old (total_used old (use_of (address_bits old.setup) on_answer answer old.store.values)) new
+abbrev pub TakesAnswer : OnAnswer → Answer → State → State → Type 0
+TakesAnswer on_answer answer old new =
+    ComesToState old (total_used old (use_of (address_bits old.setup) on_answer answer old.store.values)) new

@@ -7,7 +7,7 @@ ghost use Rattle.dwarf_eval.specs.Permits.{IsOpenFor};
 ghost use Rattle.dwarf_eval.specs.inner.Answers.{IsWaiting, answer_of};
 ghost use Rattle.dwarf_eval.specs.inner.Machine.{on_answer_of};
 ghost use Rattle.dwarf_meaning.specs.Inputs.{input_of, with_status};
-ghost use Rattle.dwarf_eval.specs.inner.StateChanges.{Comes, HasReply, Takes, Tried, total_after, with_last};
+ghost use Rattle.dwarf_eval.specs.inner.StateChanges.{ComesToState, HasReply, TakesAnswer, HasTriedChange, total_after, with_last};
 
 use crate::run::machine::Machine;
 use crate::run::states::{Given, OnAnswer};
@@ -19,7 +19,7 @@ impl<R: Reader + Copy, S: EvaluationStorage<R>> Machine<R, S> {
     /// Pushes an answer.
     #[inline(always)]
     fn push_answer(&mut self, value: Value)
-        ensures { Tried 0 (push_value self.old.setup value)
+        ensures { HasTriedChange 0 (push_value self.old.setup value)
             (with_status Running (with_last Pushed self.old)) self.new }
     {
         self.mark_pushed();
@@ -32,7 +32,7 @@ impl<R: Reader + Copy, S: EvaluationStorage<R>> Machine<R, S> {
     fn take_value(&mut self, on_answer: OnAnswer<R>, value: Value)
         requires { IsWaiting self.old.status }
         ensures { (kind : WaitingKind) →
-            Takes (on_answer_of R.text on_answer) (requests.ValueAnswer kind value)
+            TakesAnswer (on_answer_of R.text on_answer) (requests.ValueAnswer kind value)
             self.old self.new }
     {
         match on_answer {
@@ -46,7 +46,7 @@ impl<R: Reader + Copy, S: EvaluationStorage<R>> Machine<R, S> {
     fn take_value_sum(&mut self, value: Value, offset: i64)
         requires { IsWaiting self.old.status }
         ensures { (kind : WaitingKind) →
-            Takes (requests.Add offset) (requests.ValueAnswer kind value) self.old self.new }
+            TakesAnswer (requests.Add offset) (requests.ValueAnswer kind value) self.old self.new }
     {
         match self.sum(value, offset.cast_unsigned()) {
             Ok(sum) => self.push_answer(sum),
@@ -59,7 +59,7 @@ impl<R: Reader + Copy, S: EvaluationStorage<R>> Machine<R, S> {
     fn take_number(&mut self, on_answer: OnAnswer<R>, number: u64)
         requires { IsWaiting self.old.status }
         ensures { (kind : WaitingKind) →
-            Takes (on_answer_of R.text on_answer) (requests.NumberAnswer kind number)
+            TakesAnswer (on_answer_of R.text on_answer) (requests.NumberAnswer kind number)
             self.old self.new }
     {
         match on_answer {
@@ -73,7 +73,7 @@ impl<R: Reader + Copy, S: EvaluationStorage<R>> Machine<R, S> {
     fn take_number_sum(&mut self, number: u64, offset: i64)
         requires { IsWaiting self.old.status }
         ensures { (kind : WaitingKind) →
-            Takes (requests.Add offset) (requests.NumberAnswer kind number) self.old self.new }
+            TakesAnswer (requests.Add offset) (requests.NumberAnswer kind number) self.old self.new }
     {
         let sum = number.wrapping_add(offset.cast_unsigned());
         self.push_answer(Value::Generic(sum));
@@ -83,7 +83,7 @@ impl<R: Reader + Copy, S: EvaluationStorage<R>> Machine<R, S> {
     #[inline(always)]
     fn take_base_type(&mut self, on_answer: OnAnswer<R>, base_type: ValueType)
         requires { IsWaiting self.old.status }
-        ensures { Takes (on_answer_of R.text on_answer) (requests.BaseTypeAnswer base_type)
+        ensures { TakesAnswer (on_answer_of R.text on_answer) (requests.BaseTypeAnswer base_type)
             self.old self.new }
     {
         match on_answer {
@@ -97,7 +97,7 @@ impl<R: Reader + Copy, S: EvaluationStorage<R>> Machine<R, S> {
     #[inline(never)]
     fn take_literal(&mut self, base_type: ValueType, literal: R)
         requires { IsWaiting self.old.status }
-        ensures { Takes (requests.Parse (R.text literal)) (requests.BaseTypeAnswer base_type)
+        ensures { TakesAnswer (requests.Parse (R.text literal)) (requests.BaseTypeAnswer base_type)
             self.old self.new }
     {
         match Value::parse(base_type, literal) {
@@ -110,7 +110,7 @@ impl<R: Reader + Copy, S: EvaluationStorage<R>> Machine<R, S> {
     #[inline(never)]
     fn take_conversion(&mut self, base_type: ValueType)
         requires { IsWaiting self.old.status }
-        ensures { Takes requests.Convert (requests.BaseTypeAnswer base_type) self.old self.new }
+        ensures { TakesAnswer requests.Convert (requests.BaseTypeAnswer base_type) self.old self.new }
     {
         let Some(value) = self.pop() else {
             self.fall_short();
@@ -126,7 +126,7 @@ impl<R: Reader + Copy, S: EvaluationStorage<R>> Machine<R, S> {
     #[inline(never)]
     fn take_reinterpretation(&mut self, base_type: ValueType)
         requires { IsWaiting self.old.status }
-        ensures { Takes requests.Reinterpret (requests.BaseTypeAnswer base_type) self.old self.new }
+        ensures { TakesAnswer requests.Reinterpret (requests.BaseTypeAnswer base_type) self.old self.new }
     {
         let Some(value) = self.pop() else {
             self.fall_short();
@@ -143,7 +143,7 @@ impl<R: Reader + Copy, S: EvaluationStorage<R>> Machine<R, S> {
     fn take_location(&mut self, callee: R)
         requires { IsWaiting self.old.status }
         ensures { (on_answer : requests.OnAnswer) →
-            Takes on_answer (requests.LocationAnswer (R.text callee)) self.old self.new }
+            TakesAnswer on_answer (requests.LocationAnswer (R.text callee)) self.old self.new }
     {
         self.set_running();
         if callee.is_empty() {
@@ -158,7 +158,7 @@ impl<R: Reader + Copy, S: EvaluationStorage<R>> Machine<R, S> {
     fn take(&mut self, on_answer: OnAnswer<R>, given: Given<R>)
         requires { IsWaiting self.old.status }
         ensures { (kind : WaitingKind) →
-            Takes (on_answer_of R.text on_answer) (answer_of R.text kind given)
+            TakesAnswer (on_answer_of R.text on_answer) (answer_of R.text kind given)
             self.old self.new }
     {
         match given {
@@ -175,7 +175,7 @@ impl<R: Reader + Copy, S: EvaluationStorage<R>> Machine<R, S> {
         requires { IsWaiting self.old.status }
         ensures comes { (kind : WaitingKind)
             → IsOpenFor (kind_of_answer (answer_of R.text kind given)) self.old.status
-            → Comes self.old
+            → ComesToState self.old
             (total_after self.old (input_of self.old (answer_of R.text kind given))) self.new }
         ensures replies { HasReply self.new.status }
     {

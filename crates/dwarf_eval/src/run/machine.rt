@@ -15,7 +15,7 @@ ghost use Rattle.dwarf_op.specs.Views.{operation_of, location_of, piece_of};
 ghost use Rattle.dwarf_meaning.specs.Inputs.{fresh_state, with_maximum, with_object, with_status};
 ghost use Rattle.dwarf_eval.specs.Evaluation.{request_in};
 ghost use Rattle.dwarf_eval.specs.inner.Machine.{last_of, on_answer_of, replied_status, status_of};
-ghost use Rattle.dwarf_eval.specs.inner.StateChanges.{CountsOne, GoesBack, Jumps, Pops, PopsGeneric, PopsGenerics, ReadsOperation, Tries, TriesToEnter, at, is_free, is_running, read_to, with_last};
+ghost use Rattle.dwarf_eval.specs.inner.StateChanges.{CountsOne, GoesBack, Jumps, Pops, PopsGeneric, PopsGenerics, ReadsOperation, TriesChange, TriesToEnter, at_rest, is_free, is_running, read_to, with_last};
 
 use crate::op::EvaluationResult;
 use crate::run::states::{EvaluationState, LastOperation, OnAnswer};
@@ -103,7 +103,7 @@ impl<R: Reader + Copy, S: EvaluationStorage<R>> Machine<R, S> {
     /// Pushes a value, or keeps the fault of a stack that doesn't take it.
     #[inline(always)]
     pub(crate) fn push(&mut self, value: Value) -> bool
-        ensures { Tries 0 (push_value self.old.setup value) self.old self.new result }
+        ensures { TriesChange 0 (push_value self.old.setup value) self.old self.new result }
     {
         let Ok(()) = self.stack.push(value) else {
             self.fail_full();
@@ -163,7 +163,7 @@ impl<R: Reader + Copy, S: EvaluationStorage<R>> Machine<R, S> {
     /// Adds a piece, or keeps the fault of a list that doesn't take it.
     #[inline(always)]
     pub(crate) fn push_piece(&mut self, piece: Piece<R>) -> bool
-        ensures { Tries 0 (push_piece self.old.setup (piece_of R.text R.Offset.number piece))
+        ensures { TriesChange 0 (push_piece self.old.setup (piece_of R.text R.Offset.number piece))
             self.old self.new result }
     {
         let Ok(()) = self.pieces.push(piece) else {
@@ -377,7 +377,7 @@ impl<R: Reader + Copy, S: EvaluationStorage<R>> Machine<R, S> {
     #[inline(always)]
     pub(crate) fn place_of(&self, rest: R) -> R::Offset
         requires { IsRestOf (R.text rest) self.now.text }
-        ensures value { R.Offset.number result ≡ (at (R.text rest).bytes self.now).place }
+        ensures value { R.Offset.number result ≡ (at_rest (R.text rest).bytes self.now).place }
         ensures bits { self.now.setup.offset_bits ≡ R.Offset.BITS }
     {
         rest.offset_from(&self.running.1)
@@ -387,7 +387,7 @@ impl<R: Reader + Copy, S: EvaluationStorage<R>> Machine<R, S> {
     #[inline(always)]
     pub(crate) fn rest(&self) -> R
         ensures rest { IsRestOf (R.text result) self.now.text }
-        ensures here { at (R.text result).bytes self.now ≡ self.now }
+        ensures here { at_rest (R.text result).bytes self.now ≡ self.now }
     {
         self.running.0
     }
@@ -396,7 +396,7 @@ impl<R: Reader + Copy, S: EvaluationStorage<R>> Machine<R, S> {
     #[inline(always)]
     pub(crate) fn go_to(&mut self, rest: R)
         requires { IsRestOf (R.text rest) self.old.text }
-        ensures { self.new ≡ at (R.text rest).bytes self.old }
+        ensures { self.new ≡ at_rest (R.text rest).bytes self.old }
     {
         self.running.0 = rest;
     }
@@ -424,10 +424,10 @@ impl<R: Reader + Copy, S: EvaluationStorage<R>> Machine<R, S> {
         requires { IsRestOf (R.text rest.old) self.old.text }
         ensures ok { IfOk result
             (λ operation. ReadsOperation (operation_of R.text R.Offset.number operation)
-            (at (R.text rest.old).bytes self.old) (at (R.text rest.new).bytes self.new)) }
-        ensures beyond { OnOk result (0 < (at (R.text rest.new).bytes self.new).place) }
+            (at_rest (R.text rest.old).bytes self.old) (at_rest (R.text rest.new).bytes self.new)) }
+        ensures beyond { OnOk result (0 < (at_rest (R.text rest.new).bytes self.new).place) }
         ensures err { IfErr result
-            (λ e. read self.old.setup self.old.text (at (R.text rest.old).bytes self.old).place
+            (λ e. read self.old.setup self.old.text (at_rest (R.text rest.old).bytes self.old).place
             ≡ Err (fault_of e)) }
         ensures alone { self.new ≡ read_to self.old.place self.old }
         ensures rest { IsRestOf (R.text rest.new) self.new.text }
@@ -473,8 +473,8 @@ impl<R: Reader + Copy, S: EvaluationStorage<R>> Machine<R, S> {
     #[inline(always)]
     pub(crate) fn jump(&mut self, place: R::Offset, rest: &mut R) -> bool
         requires { IsRestOf (R.text rest.old) self.old.text }
-        ensures jumps { Jumps (R.Offset.number place) (at (R.text rest.old).bytes self.old)
-            (at (R.text rest.new).bytes self.new) result }
+        ensures jumps { Jumps (R.Offset.number place) (at_rest (R.text rest.old).bytes self.old)
+            (at_rest (R.text rest.new).bytes self.new) result }
         ensures rest { IsRestOf (R.text rest.new) self.new.text }
     {
         let mut target = self.running.1;

@@ -12,7 +12,7 @@ ghost use Rattle.dwarf_eval.specs.Evaluation.{request_in};
 ghost use Rattle.dwarf_eval.specs.inner.Machine.{on_answer_of};
 ghost use Rattle.dwarf_op.specs.Views.{location_of};
 ghost use Rattle.dwarf_eval.specs.inner.Machine.{binary_operator_of, operator_of};
-ghost use Rattle.dwarf_eval.specs.inner.StateChanges.{Asks, Performs, PopsNumber, PushesAllPlain, PushesPlain, Tries, act_of, at};
+ghost use Rattle.dwarf_eval.specs.inner.StateChanges.{Asks, Performs, PopsNumber, PushesAllPlain, PushesPlain, TriesChange, act_of, at_rest};
 
 use crate::op::EvaluationResult;
 use crate::run::binary::{BinaryKind, BinaryOperator};
@@ -37,7 +37,7 @@ impl<R: Reader + Copy, S: EvaluationStorage<R>> Machine<R, S> {
     /// Pushes two values, the second on top.
     #[inline(always)]
     fn push_two(&mut self, first: Value, second: Value) -> bool
-        ensures { Tries 1 (push_values self.old.setup (first ∷ second ∷ [])) self.old self.new
+        ensures { TriesChange 1 (push_values self.old.setup (first ∷ second ∷ [])) self.old self.new
             result }
     {
         if !self.push(first) {
@@ -329,7 +329,7 @@ impl<R: Reader + Copy, S: EvaluationStorage<R>> Machine<R, S> {
         requires runs { self.old.status ≡ Running }
         requires rest { IsRestOf (R.text rest.old) self.old.text }
         ensures performs { Performs (Branches self.old.store.values target)
-            (at (R.text rest.old).bytes self.old) (at (R.text rest.new).bytes self.new) }
+            (at_rest (R.text rest.old).bytes self.old) (at_rest (R.text rest.new).bytes self.new) }
         ensures rest { IsRestOf (R.text rest.new) self.new.text }
     {
         self.mark_plain();
@@ -343,7 +343,7 @@ impl<R: Reader + Copy, S: EvaluationStorage<R>> Machine<R, S> {
         requires runs { self.old.status ≡ Running }
         requires rest { IsRestOf (R.text rest.old) self.old.text }
         ensures performs { Performs (act_of self.old (meaning.Bra target))
-            (at (R.text rest.old).bytes self.old) (at (R.text rest.new).bytes self.new) }
+            (at_rest (R.text rest.old).bytes self.old) (at_rest (R.text rest.new).bytes self.new) }
         ensures rest { IsRestOf (R.text rest.new) self.new.text }
     {
         let Some(number) = self.pop_number() else {

@@ -3,7 +3,7 @@
 ghost use Rattle.std.specs.Prelude.{◌≡◌};
 ghost use Rattle.dwarf_base.specs.Reads.{IsRestOf};
 ghost use Rattle.dwarf_meaning.specs.Rest.{Running};
-ghost use Rattle.dwarf_eval.specs.inner.StateChanges.{IsNoBranch, Performs, act_of, at};
+ghost use Rattle.dwarf_eval.specs.inner.StateChanges.{IsNoBranch, Performs, act_of, at_rest};
 ghost use Rattle.dwarf_op.specs.Views.{operation_of};
 
 use crate::op::EvaluationResult::{
@@ -30,7 +30,7 @@ impl<R: Reader + Copy, S: EvaluationStorage<R>> Machine<R, S> {
         requires rest { IsRestOf (R.text rest.old) self.old.text }
         ensures performs { Performs
             (act_of self.old (operation_of R.text R.Offset.number operation))
-            (at (R.text rest.old).bytes self.old) (at (R.text rest.new).bytes self.new) }
+            (at_rest (R.text rest.old).bytes self.old) (at_rest (R.text rest.new).bytes self.new) }
         ensures rest { IsRestOf (R.text rest.new) self.new.text }
     {
         match operation {

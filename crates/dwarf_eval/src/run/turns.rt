@@ -3,7 +3,7 @@
 ghost use Rattle.std.specs.Prelude.{◌≡◌, ◌<◌, length, false};
 ghost use Rattle.dwarf_base.specs.Reads.{IsRestOf};
 ghost use Rattle.dwarf_meaning.specs.Operations as meant;
-ghost use Rattle.dwarf_meaning.specs.Meaning.{whole as meant_whole, finish, finish_value};
+ghost use Rattle.dwarf_meaning.specs.Meaning.{whole_piece as meant_whole, finish, finish_value};
 ghost use Rattle.dwarf_eval.specs.inner.Answers.{IsAtRestBy};
 ghost use Rattle.dwarf_meaning.specs.Rest.{Running, Start};
 ghost use Rattle.dwarf_meaning.specs.RunLaws.{waits_of};
@@ -11,7 +11,7 @@ ghost use Rattle.dwarf_meaning.specs.Stores.{Located, address_bits};
 ghost use Rattle.dwarf_meaning.specs.Locations.{AtAddress};
 ghost use Rattle.dwarf_value.specs.Values.{to_u64_of};
 ghost use Rattle.dwarf_op.specs.Views.{operation_of, location_of, piece_of};
-ghost use Rattle.dwarf_eval.specs.inner.StateChanges.{Closes, Comes, CompletesWith, EndsLocated, HasReply, IsReady, Turns, at, goes_on, is_free, total};
+ghost use Rattle.dwarf_eval.specs.inner.StateChanges.{Closes, ComesToState, CompletesWith, EndsLocated, HasReply, IsReady, Turns, at_rest, goes_on, is_free, total};
 
 use crate::run::machine::Machine;
 use crate::run::states::LastOperation;
@@ -36,10 +36,10 @@ fn whole<R: Reader + Copy>(location: Location<R>) -> Piece<R>
 impl<R: Reader + Copy, S: EvaluationStorage<R>> Machine<R, S> {
     /// Counts the operation before what is left, and does it.
     fn perform(&mut self, rest: &mut R)
-        requires ready { IsReady (at (R.text rest.old).bytes self.old) }
+        requires ready { IsReady (at_rest (R.text rest.old).bytes self.old) }
         requires rest { IsRestOf (R.text rest.old) self.old.text }
-        ensures turns { Turns (at (R.text rest.old).bytes self.old)
-            (at (R.text rest.new).bytes self.new) }
+        ensures turns { Turns (at_rest (R.text rest.old).bytes self.old)
+            (at_rest (R.text rest.new).bytes self.new) }
         ensures rest { IsRestOf (R.text rest.new) self.new.text }
     {
         if !self.count() {
@@ -55,7 +55,7 @@ impl<R: Reader + Copy, S: EvaluationStorage<R>> Machine<R, S> {
     #[inline(always)]
     fn goes_on(&self, rest: R) -> bool
         requires { IsRestOf (R.text rest) self.now.text }
-        ensures { result ≡ goes_on (at (R.text rest).bytes self.now) }
+        ensures { result ≡ goes_on (at_rest (R.text rest).bytes self.now) }
     {
         self.is_running() && self.is_free() && !rest.is_empty()
     }
@@ -251,7 +251,7 @@ impl<R: Reader + Copy, S: EvaluationStorage<R>> Machine<R, S> {
     #[inline(never)]
     pub(crate) fn run_on(&mut self)
         requires { self.old.status ≡ Running }
-        ensures comes { Comes self.old (total self.old) self.new }
+        ensures comes { ComesToState self.old (total self.old) self.new }
         ensures replies { HasReply self.new.status }
     {
         while self.is_running() {
@@ -262,7 +262,7 @@ impl<R: Reader + Copy, S: EvaluationStorage<R>> Machine<R, S> {
     /// Begins the run.
     fn begin(&mut self, initial_value: Option<u64>)
         requires { IsAtRestBy self.old (Start initial_value) }
-        ensures { Comes self.old (total self.old) self.new }
+        ensures { ComesToState self.old (total self.old) self.new }
     {
         self.set_running();
         if let Some(value) = initial_value {
@@ -273,7 +273,7 @@ impl<R: Reader + Copy, S: EvaluationStorage<R>> Machine<R, S> {
     /// Begins the run, and runs on to a request, to the end, or to a fault, which it keeps.
     pub(crate) fn start(&mut self, initial_value: Option<u64>)
         requires { IsAtRestBy self.old (Start initial_value) }
-        ensures comes { Comes self.old (total self.old) self.new }
+        ensures comes { ComesToState self.old (total self.old) self.new }
         ensures replies { HasReply self.new.status }
     {
         self.begin(initial_value);

@@ -8,7 +8,7 @@ use Rattle.dwarf_meaning.specs.Acts.{on_top, on_result, act, use_of}
 use Rattle.dwarf_meaning.specs.Decoding.{operation_at}
 use Rattle.dwarf_meaning.specs.Opcodes.{row_of}
 use Rattle.dwarf_meaning.specs.Stores.{push_value, push_piece, push_caller}
-use Rattle.dwarf_meaning.specs.Run.{most, run_for}
+use Rattle.dwarf_meaning.specs.Run.{most_operations, run_for}
 use Rattle.dwarf_meaning.specs.Meaning.{meaning}
 use Rattle.dwarf_meaning.specs.Rest.{State}
 use Rattle.dwarf_meaning.specs.Steps.{RequestReply, FaultReply}
@@ -30,7 +30,7 @@ frame_address = text (0x9c ∷ [])
 refused_by : (address : ℕ)
     → (new : State) × DoesAllWith (After 1 0) (fresh_state dwarf4 frame_address) (started_steps (NumberAnswer kind.CallFrameCfa address ∷ []))
     (RequestReply RequiresCallFrameCfa ∷ FaultReply StackFull ∷ []) new
-unfolding on_top on_result act use_of is_same_kind operation_at row_of push_value push_piece push_caller most run_for meaning
+unfolding on_top on_result act use_of is_same_kind operation_at row_of push_value push_piece push_caller most_operations run_for meaning
 refused_by address =
     let answer : Answer = NumberAnswer kind.CallFrameCfa address in
     refused_once (After 1 0) (inl refl) frame_address answer RequiresCallFrameCfa (open_at (0x9c ∷ []) 1 ∷ []) refl

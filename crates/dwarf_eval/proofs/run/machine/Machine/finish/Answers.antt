@@ -1,7 +1,7 @@
 use Rattle.std.proofs.Common.{ap, refl, sym, ◌∙◌, None}
 use Rattle.dwarf_base.specs.declared.errors.Error.TheVariants.{InvalidPiece}
 use Rattle.dwarf_meaning.specs.Locations.{InRegister}
-use Rattle.dwarf_meaning.specs.Meaning.{FaultOutcome, completion_of, finish_value, whole}
+use Rattle.dwarf_meaning.specs.Meaning.{FaultOutcome, completion_of, finish_value, whole_piece}
 use Rattle.dwarf_meaning.specs.Stores.{Nothing, Plain, Pieced, Pushed, Called, Located, push_piece}
 use Rattle.dwarf_op.specs.Views.{location_of}
 use Rattle.dwarf_eval.proofs.Finishing.{closes_else, closes_with, finish_as, finish_plain, mixed, stands}
@@ -39,13 +39,13 @@ pub returns-in-Register : goal.returns-in-Register
 returns-in-Register g c =
     let location = InRegister c.in-Register.register.0 in
     finish_as (Located location) c.args.self.now c.complete.new.self (c.location.ensures ∙ ap (λ l. Located (location_of g.R.Reader.text g.R.Offset.ReaderOffset.number l)) c.in-Register.is)
-    (closes_else 1 (λ s. FaultOutcome InvalidPiece) (λ s. completion_of None (push_piece c.args.self.now.setup (whole location) s)) c.args.self.now c.complete.new.self (sym c.has_pieces.ensures ∙ c.if-has_pieces.false)
-    (closes_with None _ (whole location) c.args.self.now c.complete.new.self c.whole.ensures c.complete.ensures))
+    (closes_else 1 (λ s. FaultOutcome InvalidPiece) (λ s. completion_of None (push_piece c.args.self.now.setup (whole_piece location) s)) c.args.self.now c.complete.new.self (sym c.has_pieces.ensures ∙ c.if-has_pieces.false)
+    (closes_with None _ (whole_piece location) c.args.self.now c.complete.new.self c.whole.ensures c.complete.ensures))
 
 pub returns : goal.returns
 returns g c =
     let location = location_of g.R.Reader.text g.R.Offset.ReaderOffset.number c.location-2.result.now in
-    let piece = whole location in
+    let piece = whole_piece location in
     finish_as (Located location) c.args.self.now c.complete-2.new.self c.location-2.ensures
     (closes_else 1 (λ s. FaultOutcome InvalidPiece) (λ s. completion_of None (push_piece c.args.self.now.setup piece s)) c.args.self.now c.complete-2.new.self (sym c.has_pieces.ensures ∙ c.if-has_pieces.false)
     (closes_with None _ piece c.args.self.now c.complete-2.new.self c.whole-2.ensures c.complete-2.ensures))

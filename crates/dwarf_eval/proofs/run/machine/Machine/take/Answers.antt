@@ -4,12 +4,12 @@ use Rattle.dwarf_meaning.specs.declared.kinds.WaitingKind.{WaitingKind}
 use Rattle.dwarf_meaning.specs.Requests.{OnAnswer}
 use Rattle.dwarf_meaning.specs.Rest.{State}
 use Rattle.dwarf_eval.specs.inner.Answers.{answer_of}
-use Rattle.dwarf_eval.specs.inner.StateChanges.{Takes}
+use Rattle.dwarf_eval.specs.inner.StateChanges.{TakesAnswer}
 use Rattle.dwarf_eval.specs.declared.run.states.Given.{Given}
 use Rattle.dwarf_eval.proofs.run.machine.Machine.take.Goals as goal
 
-taken_as : {R : Type 0} (text : R → Text) (kind : WaitingKind) (on_answer : OnAnswer) (x new : State) (given is : Given R) → given ≡ is → Takes on_answer (answer_of text kind is) x new → Takes on_answer (answer_of text kind given) x new
-taken_as text kind on_answer x new given is e h = subst (λ (z : Given _). Takes on_answer (answer_of text kind z) x new) (sym e) h
+taken_as : {R : Type 0} (text : R → Text) (kind : WaitingKind) (on_answer : OnAnswer) (x new : State) (given is : Given R) → given ≡ is → TakesAnswer on_answer (answer_of text kind is) x new → TakesAnswer on_answer (answer_of text kind given) x new
+taken_as text kind on_answer x new given is e h = subst (λ (z : Given _). TakesAnswer on_answer (answer_of text kind z) x new) (sym e) h
 
 pub returns-in-Value : goal.returns-in-Value
 returns-in-Value g c = λ kind. taken_as g.R.Reader.text kind _ c.args.self.now c.take_value.new.self _ _ c.in-Value.is (c.take_value.ensures kind)

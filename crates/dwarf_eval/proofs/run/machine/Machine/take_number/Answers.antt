@@ -4,7 +4,7 @@ use mir.Val.{SFits}
 use Rattle.dwarf_value.specs.declared.types.Value.TheVariants.{Generic}
 use Rattle.dwarf_meaning.specs.Requests.{OnAnswer, Add, NumberAnswer}
 use Rattle.dwarf_eval.specs.inner.Machine.{on_answer_of}
-use Rattle.dwarf_eval.specs.inner.StateChanges.{Takes}
+use Rattle.dwarf_eval.specs.inner.StateChanges.{TakesAnswer}
 use Rattle.dwarf_eval.proofs.AnswerUses.{plain}
 use Rattle.dwarf_eval.proofs.Resuming.{value_takes}
 use Rattle.dwarf_eval.proofs.run.machine.Machine.take_number.Goals as goal
@@ -12,7 +12,7 @@ use Rattle.dwarf_eval.proofs.run.machine.Machine.take_number.Goals as goal
 pub returns-in-Add : goal.returns-in-Add
 returns-in-Add g c = λ kind.
     let fits : SFits w64 c.in-Add.offset = search rules in
-    subst (λ (o : OnAnswer). Takes o (NumberAnswer kind c.args.number) c.args.self.now c.take_number_sum.new.self) (ap Add (to_z-of_z w64 c.in-Add.offset fits) ∙ sym (ap (on_answer_of g.R.Reader.text) c.in-Add.is))
+    subst (λ (o : OnAnswer). TakesAnswer o (NumberAnswer kind c.args.number) c.args.self.now c.take_number_sum.new.self) (ap Add (to_z-of_z w64 c.in-Add.offset fits) ∙ sym (ap (on_answer_of g.R.Reader.text) c.in-Add.is))
     (c.take_number_sum.ensures kind)
 
 pub returns-in_default : goal.returns-in_default

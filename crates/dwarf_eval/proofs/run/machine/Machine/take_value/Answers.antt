@@ -3,7 +3,7 @@ use Rattle.std.proofs.lemmas.Int.{to_z-of_z}
 use mir.Val.{SFits}
 use Rattle.dwarf_meaning.specs.Requests.{OnAnswer, Add, ValueAnswer}
 use Rattle.dwarf_eval.specs.inner.Machine.{on_answer_of}
-use Rattle.dwarf_eval.specs.inner.StateChanges.{Takes}
+use Rattle.dwarf_eval.specs.inner.StateChanges.{TakesAnswer}
 use Rattle.dwarf_eval.proofs.AnswerUses.{plain}
 use Rattle.dwarf_eval.proofs.Resuming.{value_takes}
 use Rattle.dwarf_eval.proofs.run.machine.Machine.take_value.Goals as goal
@@ -11,7 +11,7 @@ use Rattle.dwarf_eval.proofs.run.machine.Machine.take_value.Goals as goal
 pub returns-in-Add : goal.returns-in-Add
 returns-in-Add g c = λ kind.
     let fits : SFits w64 c.in-Add.offset = search rules in
-    subst (λ (o : OnAnswer). Takes o (ValueAnswer kind c.args.value) c.args.self.now c.take_value_sum.new.self) (ap Add (to_z-of_z w64 c.in-Add.offset fits) ∙ sym (ap (on_answer_of g.R.Reader.text) c.in-Add.is))
+    subst (λ (o : OnAnswer). TakesAnswer o (ValueAnswer kind c.args.value) c.args.self.now c.take_value_sum.new.self) (ap Add (to_z-of_z w64 c.in-Add.offset fits) ∙ sym (ap (on_answer_of g.R.Reader.text) c.in-Add.is))
     (c.take_value_sum.ensures kind)
 
 pub returns-in_default : goal.returns-in_default

@@ -229,11 +229,12 @@ def examples(folder):
 
 
 def stopped_at(folder, source, compiler, words, place):
-    """A process that stopped at a place of tests/stopped, or None."""
+    """A process that stopped at a place of a program in tests/stopped or tests/libdw, or None."""
     if not shutil.which(compiler):
         return left_out(f"{source} by {compiler}", compiler)
     program = folder / f"{source}-{compiler}{words[0]}"
-    call = [compiler, "-g", *words, TOP / "tests/stopped" / source, "-o", program]
+    path = next(filter(pathlib.Path.exists, (TOP / "tests" / it / source for it in ("stopped", "libdw"))))
+    call = [compiler, "-g", *words, path, "-o", program]
     return compare_gdb.stopped([program, place], folder) if check(f"{program.name}: build", call) else None
 
 

@@ -5,8 +5,8 @@
  *     frames members PID    place 1 of pieces.c
  *     frames pointers PID   place 10 of pieces.c, by gcc -O2, where `place` points into `local`
  *     frames arrays PID     place 5 of registers.c
- *     frames bases PID      bases.cpp, where `copied` has virtual bases
- *     frames bounds PID     bounds.f90, where an array's bounds stand in its descriptor
+ *     frames bases PID      bases.cpp beside this, where `copied` has virtual bases
+ *     frames bounds PID     bounds.f90 beside this, where an array's bounds stand in its descriptor
  *     frames signals PID    place 1 of signals.c, by clang -O2, which names a caller's register whatever a call changes */
 #include <dwarf.h>
 #include <pthread.h>

@@ -39,7 +39,7 @@ pub fn tight_bounds()
 ///
 /// It does nothing. Each clause of its contract gives what a bound still holds of, or what is next to that and it
 /// doesn't hold of.
-#[tactic(auto, unfolding(dwarf_meaning::specs::Run::most))]
+#[tactic(auto, unfolding(dwarf_meaning::specs::Run::most_operations))]
 pub fn bound_rows()
     ensures fault { DecodesOnce (in_fault (sample 1 2 [] [] [])) }
     ensures fault_decoded_twice { DecodesOnce (in_fault (sample 1 3 [] [] [])) → ⊥ }

@@ -540,7 +540,7 @@ impl<R: Reader + Copy, S: EvaluationStorage<R>> Machine<R, S> {
     }
 
     /// Stands as a fresh evaluation of another text, over the same lists, which keep their memory.
-    #[tactic(auto, unfolding(dwarf_meaning::specs::Run::most))]
+    #[tactic(auto, unfolding(dwarf_meaning::specs::Run::most_operations))]
     pub(crate) fn restart(&mut self, bytecode: R, encoding: Encoding)
         requires some { 0 < encoding.address_size }
         requires fits { encoding.address_size ≤ 8 }
@@ -563,7 +563,7 @@ impl<R: Reader + Copy, S: EvaluationStorage<R>> Machine<R, S> {
     }
 
     /// A fresh evaluation.
-    #[tactic(auto, unfolding(dwarf_meaning::specs::Run::most))]
+    #[tactic(auto, unfolding(dwarf_meaning::specs::Run::most_operations))]
     pub(crate) fn new_in(
         bytecode: R,
         encoding: Encoding,

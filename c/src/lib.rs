@@ -20,7 +20,7 @@ mod sources;
 
 mod exports;
 
-// Of rustc's own library, what divides numbers of 128 bits names a function that runs while a panic unwinds. None does.
+// Functions of rustc's own library name one that runs while a panic unwinds. No panic does.
 #[cfg(not(any(windows, target_vendor = "apple")))]
 core::arch::global_asm!(".weak rust_eh_personality", ".hidden rust_eh_personality", ".set rust_eh_personality, 0");
 #[cfg(target_vendor = "apple")]

@@ -54,26 +54,39 @@ def processor(target):
     return PROCESSORS.get(said["arch"], said["arch"]), int(said["pointer_width"]) // 8
 
 
-def prefix_of(target):
-    """What stands before the names of the tools for a target."""
+def name_of(target):
+    """What the names of the tools for a target begin with."""
     name = target.partition("-")[0]
-    return "" if target == here() else GNU.get(name, f"{name}-linux-gnu") + "-"
+    return GNU.get(name, f"{name}-linux-gnu")
 
 
 def compiler_of(target):
-    """The C compiler for a target, `None` if there is none. Debian has some with their version alone."""
-    names = [prefix_of(target) + "gcc", prefix_of(target) + "gcc-12"] if prefix_of(target) else ["cc"]
-    return next((name for name in names if shutil.which(name)), None)
+    """The words that call the C compiler for a target, `None` if there is none."""
+    if target == here():
+        return ["cc"]
+    # Debian has some with their version alone.
+    for name in (f"{name_of(target)}-gcc", f"{name_of(target)}-gcc-12"):
+        if shutil.which(name):
+            return [name]
+    # Where both are installed, this machine's compiler is one for i386 too.
+    both = ["gcc", "-m32"] if target.startswith("i686-") and here().startswith("x86_64-") else []
+    linked = ["-xc", "-", "-o", os.devnull]
+    return both if both and not commands.done(*both, *linked, given="int main(void) { return 0; }").returncode else None
+
+
+def tool_of(target, tool):
+    """The name of a tool of binutils for a target. This machine's reads files of another only if there is none."""
+    name = f"{name_of(target)}-{tool}"
+    return name if target != here() and shutil.which(name) else tool
 
 
 def join(archive, target):
     """Makes an archive of one object, in which the exports alone are global."""
-    tools = [prefix_of(target) + tool for tool in ("ld", "objcopy", "ar")]
-    if not all(map(shutil.which, tools)) or "linux" not in target:
+    cc, objcopy, ar = compiler_of(target), tool_of(target, "objcopy"), tool_of(target, "ar")
+    if not cc or not shutil.which(objcopy) or not shutil.which(ar) or "linux" not in target:
         return
-    linker, objcopy, ar = tools
     whole = archive.with_suffix(".o")
-    commands.run(linker, "-r", *(f"-u{name}" for name in exports()), archive, "-o", whole)
+    commands.run(*cc, "-r", "-nostdlib", *(f"-Wl,-u,{name}" for name in exports()), archive, "-o", whole)
     # What rustc keeps of its own functions for itself goes.
     words = ["--remove-section=.llvmbc", "--remove-section=.llvmcmd"]
     commands.run(objcopy, *words, *(f"--keep-global-symbol={name}" for name in exports()), whole)
@@ -92,10 +105,10 @@ def build(package, target):
     # The folder's name mustn't be in what is built.
     flags = f"-D warnings --remap-path-prefix={package}=."
     env = {**os.environ, "CARGO_TARGET_DIR": str(package / "target"), "RUSTFLAGS": flags}
-    linker = compiler_of(target)
-    if linker and target != here():
-        env[f"CARGO_TARGET_{target.upper().replace('-', '_')}_LINKER"] = linker
-    kinds = ["staticlib", "cdylib"] if linker else ["staticlib"]
+    cc = compiler_of(target)
+    if cc and target != here():
+        env[f"CARGO_TARGET_{target.upper().replace('-', '_')}_LINKER"] = cc[0]
+    kinds = ["staticlib", "cdylib"] if cc else ["staticlib"]
     for kind in kinds:
         words = ["cargo", "rustc", "--quiet", "--release", "--offline", "--lib", "--crate-type", kind]
         commands.run(*words, "--target", target, cwd=package, env=env)

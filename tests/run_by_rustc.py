@@ -8,8 +8,8 @@
 - tests/by_rustc/beside.c: beside the proved archive in one process, 1,000,000 made-up decodings, evaluations and
   computations on values, every byte of what both write. tests/run_c.py builds that archive.
 - examples/evaluate.py on the shared library.
-- For s390x, i686 and armv7 the callers, by Debian's cross compilers and under qemu-user, if rustc has its own library
-  for the target. The variable RUSTC may name another rustc, as that of a newer Debian.
+- For s390x, i686 and armv7 the callers, by Debian's cross compilers or `gcc -m32`, and under qemu-user, but for i686 on
+  x86-64, if rustc has its own library for the target. The variable RUSTC may name another rustc, as a newer Debian's.
 
 A wrong body changes a line of the exports, or of what a row wrote. tests/by_rustc/wrong-bodies has them: a name, a file
 under src, a text that stands in it once, and another. With --wrong-bodies it builds each: a caller or the comparison
@@ -37,11 +37,11 @@ from commands import TOP  # noqa: E402
 FOLDER = TOP / "tests" / "by_rustc"
 COUNT, WRONG_BODIES_COUNT = 1_000_000, 20_000
 CALLERS = sorted((TOP / "tests" / "c").glob("*.c"))
-# Each other target, its emulator, and the callers that it goes without: signals aren't the emulator's strength.
+# Each other target, and its emulator.
 TARGETS = {
-    "s390x-unknown-linux-gnu": ("qemu-s390x", {"signal", "guard"}),
-    "i686-unknown-linux-gnu": ("qemu-i386", {"signal", "guard"}),
-    "armv7-unknown-linux-gnueabihf": ("qemu-arm", {"signal", "guard"}),
+    "s390x-unknown-linux-gnu": "qemu-s390x",
+    "i686-unknown-linux-gnu": "qemu-i386",
+    "armv7-unknown-linux-gnueabihf": "qemu-arm",
 }
 PRINTED = "the frame base and -16\nat 0x2ff0\n"
 
@@ -55,7 +55,7 @@ def listed(kind):
 def symbols(static, shared, target):
     """The symbols of both libraries for a target, and the name of the shared one."""
     expect(set(by_rustc.exports()) == listed("exports"), "the exports are those of dwexpr.h")
-    said = run([f"{by_rustc.prefix_of(target)}nm", "-g", static]).stdout
+    said = run([by_rustc.tool_of(target, "nm"), "-g", static]).stdout
     defined = set(re.findall(r" [TDBRVW] (\w+)$", said, re.MULTILINE))
     needed = set(re.findall(r" [Uw] (\w+)$", said, re.MULTILINE))
     expect(defined == listed("exports"), "the static library's symbols", f"{sorted(defined)}")
@@ -100,9 +100,11 @@ def beside(static, folder, number):
 
 def elsewhere(package, target, folder):
     """The callers for another target, under an emulator."""
-    emulator, without = TARGETS[target]
-    cc = by_rustc.compiler_of(target)
-    lacks = [name for name, there in (("C compiler", cc), (emulator, shutil.which(emulator))) if not there]
+    cc, runner = by_rustc.compiler_of(target), [TARGETS[target]]
+    # It runs these itself; and in qemu-i386 7.2 a signal handler can't have a stack of its own.
+    if target.startswith("i686") and by_rustc.here().startswith("x86_64"):
+        runner = []
+    lacks = [name for name, there in (("C compiler", cc), *((it, shutil.which(it)) for it in runner)) if not there]
     if not lacks and not by_rustc.has(target):
         lacks = ["library of rustc's own"]
     if lacks:
@@ -110,7 +112,7 @@ def elsewhere(package, target, folder):
     before = checks.passed, checks.failed
     static, shared = by_rustc.build(package, target)
     symbols(static, shared, target)
-    run_c.callers(folder, static, {"": ["-O2", "-static"]}, (cc,), (emulator,), without, by_rustc.processor(target)[1])
+    run_c.callers(folder, static, {"": ["-O2", "-static"]}, cc, runner, by_rustc.processor(target)[1])
     print(f"   {target}: {checks.passed - before[0]} passed, {checks.failed - before[1]} failed")
     return None
 

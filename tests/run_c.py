@@ -162,7 +162,7 @@ def names():
     return "\n".join(f"{numbers[name]} {name}" for name in numbers)
 
 
-def callers(folder, library, kinds, cc=("cc",), runner=(), without=(), word=8):
+def callers(folder, library, kinds, cc=("cc",), runner=(), word=8):
     """Builds the callers with a library, in each of these kinds, by a compiler, and runs them by a runner. A word of the
     machine has so many bytes."""
     given = {"decode": vectors(word), "cut": expressions(), "names": names()}
@@ -172,7 +172,7 @@ def callers(folder, library, kinds, cc=("cc",), runner=(), without=(), word=8):
     for source in sorted((TOP / "tests" / "c").glob("*.c")):
         for kind, words in kinds.items():
             # A sanitizer keeps what it knows of memory on the stack, which then has to be larger than 16 KiB.
-            if source.stem in without or kind and source.stem == "signal":
+            if kind and source.stem == "signal":
                 continue
             program = folder / (source.stem + kind.replace(" ", "_"))
             run_library = folder / f"library{kind}" / "libdwexpr_run.a"

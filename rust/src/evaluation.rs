@@ -51,8 +51,8 @@ pub struct Evaluation<
 enum Start {
     Due,
     Made,
-    // It never is: an address of the encoding has this size.
-    Refused(u8),
+    // It never is: an address of the encoding has this size. `evaluate` may have said so.
+    Refused { size: u8, told: bool },
 }
 
 /// What the calls of the sources take of an encoding: they want addresses of 1 to 8 bytes.
@@ -60,7 +60,7 @@ enum Start {
 fn checked(encoding: Encoding) -> (Encoding, Start) {
     match encoding.address_size {
         1..=8 => (encoding, Start::Due),
-        size => (Encoding { address_size: 8, ..encoding }, Start::Refused(size)),
+        size => (Encoding { address_size: 8, ..encoding }, Start::Refused { size, told: false }),
     }
 }
 
@@ -151,8 +151,9 @@ impl<R: Reader + Copy, S: EvaluationStorage<R>> Evaluation<R, S> {
     /// If it was called before, or after `evaluate`.
     #[track_caller]
     pub fn set_initial_value(&mut self, value: u64) {
+        let is_told = matches!(self.start, Start::Refused { told: true, .. });
         let is_unset = self.inner.status() == Status::Start { initial: false };
-        assert!(is_unset, "`Evaluation::set_initial_value` was called twice, or after `evaluate`");
+        assert!(is_unset && !is_told, "`Evaluation::set_initial_value` was called twice, or after `evaluate`");
         self.inner.set_initial_value(value);
     }
 
@@ -209,7 +210,10 @@ impl<R: Reader + Copy, S: EvaluationStorage<R>> Evaluation<R, S> {
         match self.start {
             Start::Due => self.start = Start::Made,
             Start::Made => self.assert_no_request(),
-            Start::Refused(size) => return Err(Error::UnsupportedAddressSize(size)),
+            Start::Refused { size, .. } => {
+                self.start = Start::Refused { size, told: true };
+                return Err(Error::UnsupportedAddressSize(size));
+            }
         }
         self.inner.evaluate()
     }
@@ -242,7 +246,7 @@ impl<R: Reader + Copy, S: EvaluationStorage<R>> Evaluation<R, S> {
     #[inline]
     pub fn status(&self) -> Status {
         match self.start {
-            Start::Refused(size) => Status::Failed(Error::UnsupportedAddressSize(size)),
+            Start::Refused { size, .. } => Status::Failed(Error::UnsupportedAddressSize(size)),
             _ => self.inner.status(),
         }
     }
@@ -253,7 +257,7 @@ impl<R: Reader + Copy, S: EvaluationStorage<R>> Evaluation<R, S> {
     #[track_caller]
     fn out_of_turn(&self, call: &str) -> Result<EvaluationResult<R>> {
         match self.start {
-            Start::Refused(size) => Err(Error::UnsupportedAddressSize(size)),
+            Start::Refused { size, .. } => Err(Error::UnsupportedAddressSize(size)),
             _ => panic!("`Evaluation::{call}` was called, and no such request is open"),
         }
     }

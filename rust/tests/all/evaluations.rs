@@ -192,6 +192,7 @@ fn an_address_has_1_to_8_bytes() {
         it.set_object_address(1);
         it.set_initial_value(1);
         assert_eq!(it.status(), Status::Failed(refused));
+        assert!(panics(|| it.set_initial_value(1)));
         assert_eq!(it.evaluate(), Err(refused));
         assert_eq!(it.resume_with_tls(1), Err(refused));
         assert!(panics(|| it.value_result()));
@@ -199,6 +200,7 @@ fn an_address_has_1_to_8_bytes() {
         assert_eq!(it.evaluate(), Ok(Complete));
         it.restart(little(&[0x31]), Encoding { address_size, ..ENCODING });
         assert_eq!(it.evaluate(), Err(refused));
+        assert!(panics(|| it.set_initial_value(1)));
     }
     // DW_OP_lit0, DW_OP_not.
     for address_size in 1..=8 {

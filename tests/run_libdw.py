@@ -155,7 +155,8 @@ def changed_fields(folder, file):
     """examples/expressions.c tells each field of an operation that is changed."""
     words = ["-Wl,--wrap=dwexpr_decode", TOP / "tests/libdw/changed.c"]
     program = built(TOP / "examples/expressions.c", folder / "changed", *words)
-    places = re.findall(r"DWEXPR_AT\(dwexpr_operation, (\w+), (\d+)\)", (TOP / "include/dwexpr.h").read_text())
+    # The first of the three places is that of a machine whose words have 64 bits.
+    places = re.findall(r"DWEXPR_AT\(dwexpr_operation, (\w+), (\d+), ", (TOP / "include/dwexpr.h").read_text())
     if program and expect(len(places) == 14, "the fields of an operation", places):
         found = {name: compared(program, [file], env={"CHANGED": place}) for name, place in places}
         # That of a fault's code, which isn't compared.

@@ -11,6 +11,8 @@ import sources  # noqa: E402
 
 # What a compiler of C or C++ is told: to take no warning, and where the headers are.
 STRICT = ["-pedantic", "-Wall", "-Wextra", "-Werror", f"-I{pathlib.Path(__file__).resolve().parent.parent / 'include'}"]
+# What else the headers are read with, since a user may have it.
+OF_HEADERS = ["-Wshadow", "-Wconversion", "-Wsign-conversion"]
 # The compilers that have to read the headers, each by a standard.
 COMPILERS = [("cc", "c11"), ("cc", "c17"), ("c++", "c++17"), ("clang", "c11"), ("clang++", "c++17")]
 
@@ -65,7 +67,7 @@ def check_headers(*names):
     for compiler, standard in COMPILERS:
         what = f"{names[0]} by {compiler} -std={standard}"
         if shutil.which(compiler):
-            words = [f"-std={standard}", "-x", standard.rstrip("0123456789"), *STRICT, "-Wshadow", "-fsyntax-only", "-"]
+            words = [f"-std={standard}", "-x", standard.rstrip("0123456789"), *STRICT, *OF_HEADERS, "-fsyntax-only", "-"]
             check(what, [compiler, *words], input=text)
         else:
             left_out(what, compiler)

@@ -278,8 +278,14 @@ def by_libdw(package, folder, env):
     done = run(["pkg-config", "--cflags", "--libs", "dwexpr-libdw"], env=asked) if shutil.which("pkg-config") else None
     if not done or done.returncode or not (package / OVER_LIBDW[0]).exists():
         return left_out("examples/variable.c", "libdw for pkg-config")
-    source, variable = package / "share/dwexpr/examples/variable.c", folder / "variable"
-    check("variable.c by cc", ["cc", "-std=c11", source, *shlex.split(done.stdout), "-o", variable], env=env)
+    source, unit, variable = package / "share/dwexpr/examples/variable.c", folder / "variable.o", folder / "variable"
+    words = shlex.split(done.stdout)
+    check("variable.c by cc", ["cc", "-std=c11", source, *words, "-o", variable], env=env)
+    flags = [it for it in words if it.startswith("-I")]
+    if check("variable.c by cc, a unit", ["cc", "-std=c11", "-c", source, *flags, "-o", unit], env=env):
+        said = run(["nm", unit], env=env).stdout
+        kinds = set(re.findall(r" (\w) dwexpr_libdw_\w+$", said, re.MULTILINE))
+        expect(kinds == {"U"}, "a unit has no function of the library over libdw", said)
     loop, program = folder / "loop.c", folder / "loop"
     loop.write_text(LOOP)
     check("a program with a variable", ["cc", "-g", "-O0", loop, "-o", program], env=env)

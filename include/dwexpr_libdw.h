@@ -229,7 +229,7 @@ uint32_t dwexpr_libdw_variable(dwexpr_libdw_frame *frame, Dwarf_Die *variable, d
 uint32_t dwexpr_libdw_on_entry(dwexpr_libdw_frame *frame, Dwarf_Die *parameter, dwexpr_libdw_value **value);
 
 /* The number of an attribute, as a bound, a size, a count or a member's place: a constant, the value of an expression,
- * or of the variable that it names. `object` is the address of the object, or NULL.
+ * or of the variable or the object's member that it names. `object` is the address of the object, or NULL.
  *
  * Answers 0; DWEXPR_LIBDW_NO_NUMBER; or what dwexpr_libdw_variable does. */
 uint32_t dwexpr_libdw_number(dwexpr_libdw_frame *frame, Dwarf_Attribute *attribute, const uint64_t *object,

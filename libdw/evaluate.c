@@ -642,8 +642,28 @@ uint32_t dwexpr_libdw_points_into(const dwexpr_libdw_value *value, const dwexpr_
                : 0;
 }
 
-/* The number that a variable has, as a bound of an array. */
-static uint32_t variable_number(dwexpr_libdw_frame *frame, Dwarf_Die *variable, uint64_t *number)
+/* The value of a member of an object, in whole bytes at a place that is a number: a discriminant in Ada. */
+static uint32_t member_value(Dwarf_Die *member, const uint64_t *object, dwexpr_libdw_value **value)
+{
+    Dwarf_Attribute attribute;
+    Dwarf_Word place;
+    *value = NULL;
+    if (!object || dwarf_hasattr(member, DW_AT_bit_size) || dwarf_hasattr(member, DW_AT_data_bit_offset) ||
+        dwarf_formudata(dwarf_attr(member, DW_AT_data_member_location, &attribute), &place))
+        return DWEXPR_LIBDW_NO_NUMBER;
+    *value = (dwexpr_libdw_value *)calloc(1, sizeof **value);
+    if (!*value)
+        return DWEXPR_LIBDW_NO_MEMORY;
+    (*value)->outcome.request = DWEXPR_COMPLETE;
+    (*value)->outcome.pieces = 1;
+    (*value)->pieces[0].kind = DWEXPR_AT_ADDRESS;
+    (*value)->pieces[0].number = *object + place;
+    return dwexpr_libdw_encoding(attribute.cu, &(*value)->encoding);
+}
+
+/* The number that a variable has, or a member of an object, as a bound of an array. */
+static uint32_t variable_number(dwexpr_libdw_frame *frame, Dwarf_Die *variable, const uint64_t *object,
+                                uint64_t *number)
 {
     uint8_t bytes[8];
     dwexpr_libdw_value *value;
@@ -655,7 +675,8 @@ static uint32_t variable_number(dwexpr_libdw_frame *frame, Dwarf_Die *variable, 
         dwarf_formudata(dwarf_attr_integrate(&type, DW_AT_byte_size, &attribute), &size) || !size || size > 8 ||
         dwarf_formudata(dwarf_attr_integrate(&type, DW_AT_encoding, &attribute), &encoding))
         return DWEXPR_LIBDW_NO_NUMBER;
-    code = dwexpr_libdw_variable(frame, variable, &value);
+    code = dwarf_tag(variable) == DW_TAG_member ? member_value(variable, object, &value)
+                                                : dwexpr_libdw_variable(frame, variable, &value);
     if (!code)
         code = dwexpr_libdw_read(frame, value, 8 * size, bytes, NULL);
     if (!code) {
@@ -684,7 +705,7 @@ uint32_t dwexpr_libdw_number(dwexpr_libdw_frame *frame, Dwarf_Attribute *attribu
     if (!dwarf_formblock(attribute, &block) || form == DW_FORM_sec_offset || form == DW_FORM_loclistx)
         return attribute_number(FOR_VALUE, frame, attribute, object, is_on_object ? object : NULL, &left, number);
     if (dwarf_formref_die(attribute, &entry))
-        return variable_number(frame, &entry, number);
+        return variable_number(frame, &entry, object, number);
     if (dwarf_formudata(attribute, &found))
         return DWEXPR_LIBDW_NO_NUMBER;
     *number = found;

@@ -236,7 +236,9 @@ def stopped_at(folder, source, compiler, words, place):
     program = folder / f"{source}-{compiler}{words[0]}"
     path = next(filter(pathlib.Path.exists, (TOP / "tests" / it / source for it in ("stopped", "libdw"))))
     call = [compiler, "-g", *words, path, "-o", program]
-    return compare_gdb.stopped([program, place], folder) if check(f"{program.name}: build", call) else None
+    # gnatmake writes what it makes on the way where it is called
+    done = check(f"{program.name}: build", call, cwd=folder)
+    return compare_gdb.stopped([program, place], folder) if done else None
 
 
 # What tests/libdw/frames.c looks at, and the program for it.
@@ -248,6 +250,7 @@ FRAMES = [
     ("arrays", "registers.c", "gcc", ["-O0"], 5),
     ("bases", "bases.cpp", "g++", ["-O0"], 1),
     ("bounds", "bounds.f90", "gfortran", ["-O0"], 1),
+    ("variants", "variants.adb", "gnatmake", ["-O0"], 1),
     ("signals", "signals.c", "clang", ["-O2"], 1),
 ]
 

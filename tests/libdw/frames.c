@@ -7,7 +7,9 @@
  *     frames arrays PID     place 5 of registers.c
  *     frames bases PID      bases.cpp beside this, where `copied` has virtual bases
  *     frames bounds PID     bounds.f90 beside this, where an array's bounds stand in its descriptor
- *     frames signals PID    place 1 of signals.c, by clang -O2, which names a caller's register whatever a call changes */
+ *     frames variants PID   variants.adb beside this, where an array's bounds are members of the object
+ *     frames signals PID    place 1 of signals.c, by clang -O2, which names a caller's register whatever a call
+ *                           changes */
 #include <dwarf.h>
 #include <pthread.h>
 #include <stdlib.h>
@@ -330,14 +332,41 @@ static void check_bounds(void)
     }
 }
 
+/* `items` is (first .. count), which is (2 .. 5); as gdb has them. */
+static void check_variants(void)
+{
+    static const struct {
+        const char *name;
+        uint64_t begin, bits;
+    } rows[] = {{"first", 0, 32}, {"count", 32, 32}, {"last", 64, 32}, {"items", 96, 128}};
+    Dwarf_Die whole, member;
+    uint64_t object = 0, size = 0, begin = 0, bits = 0;
+    dwexpr_libdw_frame *frame = place_of("object", &whole, &object);
+    size_t i;
+    int more;
+    check(frame && !dwexpr_libdw_size(frame, &whole, &object, &size) && size == 28, "object", "its size");
+    check(frame && dwexpr_libdw_size(frame, &whole, NULL, &size), "object", "not without an object");
+    for (i = 0; frame && i < 4; i++) {
+        uint32_t code = DWEXPR_LIBDW_FAILED;
+        for (more = dwarf_child(&whole, &member); more == 0; more = dwarf_siblingof(&member, &member))
+            if (dwarf_diename(&member) && dwarf_tag(&member) == DW_TAG_member &&
+                !strcmp(dwarf_diename(&member), rows[i].name))
+                break;
+        if (more == 0)
+            code = dwexpr_libdw_member(frame, &member, &object, &begin, &bits);
+        check(!code && begin == rows[i].begin && bits == rows[i].bits, rows[i].name, dwexpr_libdw_code_name(code));
+    }
+    check(frame && dwexpr_libdw_member(frame, &member, NULL, &begin, &bits), "items", "not without an object");
+}
+
 int main(int argc, char **argv)
 {
     static const struct {
         const char *name;
         void (*checks)(void);
-    } kinds[] = {{"deep", check_deep}, {"members", check_members}, {"pointers", check_pointers},
+    } kinds[] = {{"deep", check_deep},     {"members", check_members}, {"pointers", check_pointers},
                  {"arrays", check_arrays}, {"bases", check_bases},     {"bounds", check_bounds},
-                 {"signals", check_signals}};
+                 {"variants", check_variants}, {"signals", check_signals}};
     size_t i;
     const pid_t *threads;
     uint32_t code;

@@ -167,7 +167,8 @@ def main():
     words.add_argument("count", metavar="COUNT", nargs="?", type=int, default=COUNT, help=said)
     words.add_argument("--wrong-bodies", action="store_true", help="try the wrong bodies of the library")
     words = parser.parse_args()
-    if missing := [tool for tool in ("cargo", "rustc", "rustfmt", "cc", "objcopy") if not shutil.which(tool)]:
+    tools = ("cargo", "rustc", "rustfmt", "cc", "objcopy", "nm", "readelf")
+    if missing := [tool for tool in tools if not shutil.which(tool)]:
         return left_out("the library for C by rustc", missing[0])
     with tempfile.TemporaryDirectory(prefix="by-rustc-") as name:
         folder = pathlib.Path(name)

@@ -282,7 +282,9 @@ def by_libdw(package, folder, env):
     words = shlex.split(done.stdout)
     check("variable.c by cc", ["cc", "-std=c11", source, *words, "-o", variable], env=env)
     flags = [it for it in words if it.startswith("-I")]
-    if check("variable.c by cc, a unit", ["cc", "-std=c11", "-c", source, *flags, "-o", unit], env=env):
+    if not shutil.which("nm"):
+        left_out("the functions of a unit", "nm")
+    elif check("variable.c by cc, a unit", ["cc", "-std=c11", "-c", source, *flags, "-o", unit], env=env):
         said = run(["nm", unit], env=env).stdout
         kinds = set(re.findall(r" (\w) dwexpr_libdw_\w+$", said, re.MULTILINE))
         expect(kinds == {"U"}, "a unit has no function of the library over libdw", said)

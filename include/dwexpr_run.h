@@ -54,9 +54,9 @@ typedef struct dwexpr_callbacks {
 
 /* Evaluates an expression with the settings, DWEXPR_SET_*, in an evaluation of the caller's, which was begun.
  *
- * Answers 0 if it is complete; a code; or DWEXPR_REFUSED if a callback gave another number than 0, which is then
- * written to `refusal` unless that is NULL. There may be any number of requests. If the table has no room for a called text, it
- * is DWEXPR_TOO_MANY_TEXTS. `texts->length` and `outcome` are written in each case.
+ * Answers 0 if it is complete; a code; DWEXPR_REFUSED if a callback gave another number than 0, which is then written
+ * to `refusal` unless that is NULL; or DWEXPR_TOO_MANY_TEXTS if the table has no room for a called text. There may be
+ * any number of requests. `texts->length` and `outcome` are written in each case.
  *
  * An expression may loop. Without a maximum it ends after 4294967295 operations, which takes about half a minute. */
 uint32_t dwexpr_run_in(dwexpr_evaluation *evaluation, const dwexpr_step *settings, size_t settings_length,

@@ -150,7 +150,8 @@ def known():
     for path in filter(lambda name: name.startswith("crates/"), files()):
         names.add(path.split("/")[1])
         if is_definitions(path):
-            names.update([pathlib.PurePath(path).stem, *sources.DEFINED.findall(read(path)), *MEMBER.findall(read(path))])
+            names.add(pathlib.PurePath(path).stem)
+            names.update([*sources.DEFINED.findall(read(path)), *MEMBER.findall(read(path))])
         elif "/src/" in path:
             names.update(public_names(read(path)))
     return names

@@ -3,9 +3,9 @@
 
 It wants cc, gdb with Python and libdw, and gcc or clang. Each program of tests/stopped is built at -O0 to -O3 in
 versions 4 and 5 of DWARF, and stopped at each of its places; words choose programs, compilers, levels and versions, as
-pieces.c gcc -O0 -O2 -gdwarf-5. Some are also built with split debug information, link-time optimization, type units, the
-64-bit format and for i386, if the compiler can. At each place `where` prints the stopped process. The process then goes
-on to its end by the same signal, and `where` prints the core dump that the kernel writes.
+pieces.c gcc -O0 -O2 -gdwarf-5. Some are also built with split debug information, link-time optimization, type units,
+the 64-bit format and for i386, if the compiler can. At each place `where` prints the stopped process. The process then
+goes on to its end by the same signal, and `where` prints the core dump that the kernel writes.
 
 Variables of each thread are compared, of the innermost function and of its callers up to three levels, or all, bit for
 bit, but for padding. Each variable that differs is a line. The status is 1 if one differs, and 2 if nothing was
@@ -54,9 +54,10 @@ OTHERS = [
         ["-gdwarf-5", "-gdwarf64"],
         ["-gdwarf-5", "-m32"],
     ]
-    for source, compiler in [("pieces.c", "gcc"), ("pieces.c", "clang"), ("scopes.cpp", "g++"), ("scopes.cpp", "clang++")]
-    # gdb 13 takes registers on entry of an inlined function on i386 as they are now, and doesn't find the location lists
-    # of clang's split debug information of version 5
+    for source, compilers in [("pieces.c", ["gcc", "clang"]), ("scopes.cpp", ["g++", "clang++"])]
+    for compiler in compilers
+    # gdb 13 takes registers on entry of an inlined function on i386 as they are now, and doesn't find the location
+    # lists of clang's split debug information of version 5
     for optimization in (["-O0"] if "-m32" in words or (compiler[:5], *words) == NO_LISTS else ["-O0", "-O2"])
 ]
 # What the gate compares: of each source, each compiler and each kind of debug information something.

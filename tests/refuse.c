@@ -1,5 +1,5 @@
-/* Refuses one call of a program: a library to load before the C library, by LD_PRELOAD. Each variable says which call of
-   its kind is refused, counted from 1; where it isn't set, none is.
+/* Refuses one call of a program: a library to load before the C library, by LD_PRELOAD. Each variable says which call
+   of its kind is refused, counted from 1; if it isn't set, none is.
    - REFUSED_ALLOCATION: malloc and realloc, which then give no memory.
    - REFUSED_READ, REFUSED_WRITE: read and write, which then fail. The others of that kind move one byte at a time.
    REFUSED_WITH is the error that a read or a write fails with, in place of EIO; 0 is none, and it moves no byte. */

@@ -163,8 +163,8 @@ def names():
 
 
 def callers(folder, library, kinds, cc=("cc",), runner=(), word=8):
-    """Builds the callers with a library, in each of these kinds, by a compiler, and runs them by a runner. A word of the
-    machine has so many bytes."""
+    """Builds the callers with a library, in each of these kinds, by a compiler, and runs them by a runner. A word of
+    the machine has so many bytes."""
     given = {"decode": vectors(word), "cut": expressions(), "names": names()}
     for kind, words in kinds.items():
         (folder / f"library{kind}").mkdir(parents=True)

@@ -169,11 +169,13 @@ LINK = re.compile(r"\]\(([^)]+)\)")
 PROVED = re.compile(r"libdwexpr.a \S+ for \S+\ncommit \S+\nkit \S.*\nsources ([0-9a-f]{64})\narchive [0-9a-f]{64}\n")
 BUILT = re.compile(
     r"libdwexpr.a, libdwexpr.so.0.1 \S+ for \S+, by rustc .*\n"
-    r"The proof is of the sources, and not of these libraries.\ncommit \S+\nsources ([0-9a-f]{64})\nlibdwexpr.a [0-9a-f]{64}\nlibdwexpr.so.0.1 [0-9a-f]{64}\n"
+    r"The proof is of the sources, and not of these libraries.\ncommit \S+\nsources ([0-9a-f]{64})\n"
+    r"libdwexpr.a [0-9a-f]{64}\nlibdwexpr.so.0.1 [0-9a-f]{64}\n"
 )
 
 WORDS = ["8", "4", "5", "le", "916c06"]
 WANTED = "0 DW_OP_fbreg -20\n2 DW_OP_deref\n"
+
 
 def check_decode(name, words, **more):
     done = run([*words, *WORDS], **more)

@@ -1,5 +1,6 @@
 /* Decodes and evaluates each expression of tests/rows and each of its fronts, and all expressions of two bytes: an
- * operation is no longer than what is left, and an evaluation of at most 16 operations ends after at most 16 answers. */
+ * operation is no longer than what is left, and an evaluation of at most 16 operations ends after at most 16 answers.
+ */
 #include "check.h"
 
 static const uint8_t nop[] = {0x96};

@@ -55,7 +55,7 @@ static void cut(const struct row *row)
     }
 }
 
-/* The rows of tests/vectors/decode.json, which tests/run_c.py writes as lines of numbers; whether a line has another. */
+/* The rows of tests/vectors/decode.json, which tests/run_c.py writes as lines of numbers; whether there is another. */
 static int next_row(struct row *row)
 {
     unsigned address_size, offset_size, version, big_endian;

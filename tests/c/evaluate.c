@@ -287,7 +287,8 @@ static void all_pieces(void)
     want.request = DWEXPR_WANTS_ENTRY_VALUE, want.block_text = 2, want.block_offset = 7, want.block_length = 1;
     expect();
 
-    begin("the same bytes in the called text", "9e 01 55 93 01 98 0500"), start(), step(DWEXPR_ANSWER_LOCATION, 0, 0, 2);
+    begin("the same bytes in the called text", "9e 01 55 93 01 98 0500"), start();
+    step(DWEXPR_ANSWER_LOCATION, 0, 0, 2);
     texts[2].bytes = (const uint8_t *)"\x96\x9e\x01\x55\x93\x01\x9e\x01\x55\x93\x01", texts[2].length = 11;
     run(LE8, 3);
     want.request = DWEXPR_COMPLETE, want.pieces = 3, expect();

@@ -361,8 +361,8 @@ static void check_operations(void)
     for (i = 0; i < sizeof operations / sizeof *operations; i++) {
         const dwexpr_encoding encoding = encoding_of(operations[i].address_size, operations[i].offset_size,
                                                      operations[i].version, operations[i].big_endian);
-        const uint32_t code = dwexpr_libdw_encode(operations[i].operations, operations[i].count, encoding, got, sizeof got,
-                                             &length);
+        const uint32_t code = dwexpr_libdw_encode(operations[i].operations, operations[i].count, encoding, got,
+                                                  sizeof got, &length);
         if (!operations[i].bytes) {
             check(code == DWEXPR_LIBDW_NOT_ENCODABLE, operations[i].name, "it has no bytes");
             continue;
@@ -391,7 +391,8 @@ int main(void)
     for (code = DWEXPR_LIBDW_FAILED; code <= DWEXPR_LIBDW_NO_NUMBER; code++)
         check(strcmp(dwexpr_libdw_code_name(code), "unknown code") != 0, "the name of a code", "it has one");
     check(!strcmp(dwexpr_libdw_code_name(DWEXPR_LIBDW_NO_NUMBER + 1), "unknown code"), "a code", "there is no such");
-    check(!strcmp(dwexpr_libdw_code_name(DWEXPR_LIBDW_WANTS + DWEXPR_WANTS_CFA), "the canonical frame address"), "a request", "its name");
+    check(!strcmp(dwexpr_libdw_code_name(DWEXPR_LIBDW_WANTS + DWEXPR_WANTS_CFA), "the canonical frame address"),
+          "a request", "its name");
     check(!strcmp(dwexpr_libdw_code_name(DWEXPR_DIVISION_BY_ZERO), "a division by zero"), "a fault", "its name");
     return finish();
 }

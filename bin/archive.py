@@ -1,7 +1,6 @@
 """Builds libdwexpr_c.a, the archive for C, and records what it was proved from. bin/package and the tests share it."""
 
 import contextlib
-import hashlib
 
 import commands
 import compiler
@@ -43,6 +42,4 @@ def proof_of(target=HERE):
     """The commit and the kit of the archive's proof, and the sums of all its sources and of the archive."""
     record = compiler.record_of(path_of(target)).read_text(encoding="utf-8").splitlines(keepends=True)
     remarks = "".join(line.removeprefix("# ") for line in record if line.startswith("#"))
-    *of_sources, of_archive = (line for line in record if not line.startswith("#"))
-    of_all = hashlib.sha256("".join(of_sources).encode()).hexdigest()
-    return f"{remarks}sources {of_all}\narchive {of_archive.split()[0]}\n"
+    return f"{remarks}sources {compiler.sum_of_sources(CRATE)}\narchive {record[-1].split()[0]}\n"

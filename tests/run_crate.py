@@ -26,62 +26,14 @@ from checks import check, commands, expect, left_out  # noqa: E402
 from commands import TOP  # noqa: E402
 
 checks.SECONDS = 600
+# A package that depends on the crate, a program without an allocator, which evaluates in arrays, and a program in C.
+PARTS = TOP / "tests" / "crate"
 
 # The crates that the features need: the variable, and what stands in if it names no folder.
 NEEDED = {
     "gimli": ("DWEXPR_GIMLI", '[package]\nname = "gimli"\nversion = "0.34.0"\n[features]\nread = []\n'),
     "arrayvec": ("DWEXPR_ARRAYVEC", '[package]\nname = "arrayvec"\nversion = "0.7.0"\n'),
 }
-
-# A package that depends on the crate.
-APP = """\
-[package]
-name = "app"
-version = "0.1.0"
-edition = "2024"
-
-[dependencies]
-dwexpr = { path = "../vendor/dwexpr" }
-"""
-
-# A program without an allocator, which evaluates in arrays.
-ALONE = f"""\
-[package]
-name = "arrays"
-version = "0.1.0"
-edition = "2024"
-
-[[bin]]
-name = "arrays"
-path = "{TOP}/bench/small/arrays.rs"
-
-[dependencies]
-layer = {{ package = "dwexpr", path = "../crate", default-features = false, features = ["arrayvec"] }}
-
-[profile.dev]
-panic = "abort"
-"""
-
-# It prints what the example says of its variables in a frame whose canonical frame address is 100000000000 in
-# hexadecimal. The place of a local variable is told from that of its own frame.
-PROGRAM = """\
-#include <stdio.h>
-
-#define PLACE(variable) ((unsigned long)&variable - (unsigned long)__builtin_dwarf_cfa() + 0x100000000000)
-
-int global = 5;
-static long hidden[3];
-
-int main(void) {
-    volatile int local = 1;
-    struct { int one, two; } both = {local, 2};
-    printf("global: at %#lx\\n", (unsigned long)&global);
-    printf("hidden: at %#lx\\n", (unsigned long)hidden);
-    printf("local: at %#lx\\n", PLACE(local));
-    printf("both: at %#lx\\n", PLACE(both));
-    return both.one - 1 + (int)hidden[0];
-}
-"""
 
 
 def find_crates(folder):
@@ -110,10 +62,8 @@ def printed_by(name, words, **settings):
 
 def write_app(top):
     """Writes a package that depends on the crate by its path."""
-    (top / "app/src").mkdir(parents=True)
+    shutil.copytree(PARTS / "app", top / "app")
     check("bin/crate for a package", [TOP / "bin/crate", top / "vendor/dwexpr"])
-    (top / "app/Cargo.toml").write_text(APP)
-    (top / "app/src/main.rs").write_text("fn main() { assert!(dwexpr::is_addr_mask(0xff)); }\n")
 
 
 def try_path():
@@ -134,8 +84,9 @@ def try_workspace(folder):
 
 def try_without_allocator(folder):
     """A program that has no allocator links, and finds a variable: it ends with the low byte of its address."""
-    (folder / "alone").mkdir()
-    (folder / "alone/Cargo.toml").write_text(ALONE)
+    shutil.copytree(PARTS / "alone", folder / "alone")
+    (folder / "alone/src").mkdir()
+    shutil.copy(TOP / "bench/small/arrays.rs", folder / "alone/src/main.rs")
     env = {**os.environ, "RUSTFLAGS": "-Clink-arg=-lc"}
     done = checks.run(["cargo", "run", "--quiet"], cwd=folder / "alone", env=env)
     expect(done.returncode == 0xF0, "a program without an allocator", done.stderr)
@@ -146,9 +97,8 @@ def run_example(cargo, features, folder):
     if not shutil.which("cc"):
         left_out("the example", "cc")
         return
-    source, program = folder / "program.c", folder / "program"
-    source.write_text(PROGRAM)
-    check("cc", ["cc", "-g", "-O0", "-no-pie", "-fno-omit-frame-pointer", source, "-o", program])
+    program = folder / "program"
+    check("cc", ["cc", "-g", "-O0", "-no-pie", "-fno-omit-frame-pointer", PARTS / "program.c", "-o", program])
     said = printed_by("the program", [program])
     printed = cargo("the example", "run", *features, "--example", "variables", program, "100000000000")
     if said and printed:

@@ -34,122 +34,8 @@ from commands import TOP  # noqa: E402
 ARM = "aarch64-unknown-linux-gnu"
 # The archive is proved for each processor.
 checks.SECONDS = 3600
-
-CMAKE = """\
-cmake_minimum_required(VERSION 3.19)
-project(user C)
-foreach(wanted "0.1" "0.1.0;EXACT" "0.1...0.2" "0.0.5...1" "0.0.5" "0.1.1" "0.2" "9.0" "0.1.1;EXACT" "0.0.1...0.0.9")
-  unset(dwexpr_DIR CACHE)
-  find_package(dwexpr ${wanted} QUIET)
-  message(STATUS "version ${wanted}: ${dwexpr_FOUND}")
-endforeach()
-set(CMAKE_SYSTEM_PROCESSOR "riscv64")
-unset(dwexpr_DIR CACHE)
-find_package(dwexpr QUIET)
-message(STATUS "riscv64: ${dwexpr_FOUND}")
-set(CMAKE_SYSTEM_PROCESSOR "${CMAKE_HOST_SYSTEM_PROCESSOR}")
-find_package(dwexpr 0.1 REQUIRED)
-add_executable(decode ${EXAMPLES}/decode.c)
-target_link_libraries(decode dwexpr::dwexpr)
-add_executable(run ${CALLERS}/run.c)
-target_link_libraries(run dwexpr::dwexpr)
-if(TARGET dwexpr::shared)
-  add_executable(shared ${EXAMPLES}/decode.c)
-  target_link_libraries(shared dwexpr::shared)
-endif()
-if(TARGET dwexpr::libdw)
-  add_executable(where ${EXAMPLES}/where.c)
-  target_link_libraries(where dwexpr::libdw)
-endif()
-"""
-
-# What it says of each version, and of another processor.
-FOUND = """\
--- version 0.1: 1
--- version 0.1.0;EXACT: 1
--- version 0.1...0.2: 1
--- version 0.0.5...1: 1
--- version 0.0.5: 0
--- version 0.1.1: 0
--- version 0.2: 0
--- version 9.0: 0
--- version 0.1.1;EXACT: 0
--- version 0.0.1...0.0.9: 0
--- riscv64: 0
-"""
-
-# DW_OP_fbreg -16, in a frame at 0x3000.
-CPP = """\
-#include <cstdio>
-#include <dwexpr.h>
-
-int main()
-{
-    const uint8_t bytes[] = {0x91, 0x70};
-    const dwexpr_text text = {bytes, sizeof bytes};
-    const dwexpr_encoding encoding = {8, 4, 0, 5};
-    dwexpr_step steps[2] = {};
-    steps[0].kind = DWEXPR_EVALUATE;
-    steps[1].kind = DWEXPR_ANSWER_FRAME_BASE;
-    steps[1].number = 0x3000;
-    dwexpr_outcome outcome;
-    dwexpr_piece piece;
-    const uint32_t code = dwexpr_evaluate(&text, 1, encoding, steps, 2, &outcome, &piece, 1);
-    std::printf("%u 0x%llx\\n", code, static_cast<unsigned long long>(piece.number));
-}
-"""
-
-# A call of a text that holds two bytes, after the frame address is dropped.
-RUN = """\
-#include <dwexpr_run.h>
-#include <stdio.h>
-
-static int give_cfa(void *context, uint64_t *address)
-{
-    *address = *(const uint64_t *)context;
-    return 0;
-}
-
-static int give_text(void *context, int in_debug_info, uint64_t offset, dwexpr_text *text)
-{
-    static const uint8_t bytes[] = {0x9e, 2, 0xaa, 0xbb};
-    (void)context;
-    text->bytes = bytes;
-    text->length = sizeof bytes;
-    return in_debug_info || offset != 5;
-}
-
-int main(void)
-{
-    static const uint8_t bytes[] = {0x9c, 0x13, 0x98, 5, 0};
-    const dwexpr_text text = {bytes, sizeof bytes};
-    const dwexpr_encoding encoding = {8, 4, 0, 5};
-    const dwexpr_callbacks calls = {.cfa = give_cfa, .location = give_text};
-    uint64_t frame = 0x3000;
-    dwexpr_text items[2];
-    dwexpr_texts texts = {items, 2, 0};
-    dwexpr_outcome outcome;
-    dwexpr_piece piece;
-    dwexpr_text block;
-    const uint32_t code = dwexpr_run(text, encoding, &calls, &frame, NULL, &texts, &outcome, &piece, 1);
-    block = dwexpr_piece_block(&piece, texts.items, texts.length);
-    if (block.length == 2)
-        printf("%u %02x%02x %s\\n", code, block.bytes[0], block.bytes[1], dwexpr_version());
-    return code != 0;
-}
-"""
-
-# It goes on until it is stopped, within the function whose variable is asked for.
-LOOP = """\
-int main(void)
-{
-    volatile int answer = 42;
-    while (answer == 42)
-        ;
-    return 0;
-}
-"""
-
+# The callers, and a CMake project of them.
+CALLERS = TOP / "tests" / "package"
 # What a package holds, besides the Rust crate.
 FILES = """
 include/dwexpr.h include/dwexpr_libdw.h include/dwexpr_names.h include/dwexpr_run.h lib/libdwexpr.a
@@ -260,17 +146,16 @@ def by_compilers(package, folder, env):
     program = folder / "decode"
     if check("decode.c by cc", ["cc", "-std=c11", source, *flags, "-o", program], env=env):
         check_decode("decode.c by cc, run", [program], env=env)
-    caller, program = folder / "run.c", folder / "run"
-    caller.write_text(RUN)
-    words = ["cc", "-std=c11", "-Wall", "-Wextra", caller, *flags, "-o", program]
+    program = folder / "run"
+    words = ["cc", "-std=c11", "-Wall", "-Wextra", CALLERS / "run.c", *flags, "-o", program]
     if check("a caller of dwexpr_run", words, env=env):
         done = run([program], env=env)
         expect(done.stdout == f"0 aabb {version}\n", "a caller of dwexpr_run, run", done.stdout + done.stderr)
     if not shutil.which("c++"):
         return left_out("a caller in C++", "c++")
-    caller, program = folder / "caller.cpp", folder / "caller"
-    caller.write_text(CPP)
-    if check("a caller in C++", ["c++", "-std=c++17", "-Wall", "-Wextra", caller, *flags, "-o", program], env=env):
+    program = folder / "caller"
+    words = ["c++", "-std=c++17", "-Wall", "-Wextra", CALLERS / "caller.cpp", *flags, "-o", program]
+    if check("a caller in C++", words, env=env):
         done = run([program], env=env)
         expect(done.stdout == "0 0x2ff0\n", "a caller in C++, run", done.stdout + done.stderr)
 
@@ -290,9 +175,8 @@ def by_libdw(package, folder, env):
         said = run(["nm", unit], env=env).stdout
         kinds = set(re.findall(r" (\w) dwexpr_libdw_\w+$", said, re.MULTILINE))
         expect(kinds == {"U"}, "a unit has no function of the library over libdw", said)
-    loop, program = folder / "loop.c", folder / "loop"
-    loop.write_text(LOOP)
-    check("a program with a variable", ["cc", "-g", "-O0", loop, "-o", program], env=env)
+    program = folder / "loop"
+    check("a program with a variable", ["cc", "-g", "-O0", CALLERS / "loop.c", "-o", program], env=env)
     with subprocess.Popen([program]) as process:
         time.sleep(1)
         process.send_signal(signal.SIGSTOP)
@@ -304,14 +188,10 @@ def by_libdw(package, folder, env):
 def by_cmake(package, folder, env):
     if not shutil.which("cmake"):
         return left_out("a CMake project", "cmake")
-    project = folder / "project"
-    project.mkdir()
-    (project / "CMakeLists.txt").write_text(CMAKE)
-    words = ["cmake", "-S", project, "-B", folder / "made", f"-DCMAKE_PREFIX_PATH={package}"]
-    words += [f"-DEXAMPLES={package / 'share/dwexpr/examples'}", f"-DCALLERS={folder}"]
-    done = check("CMake: configure", words, env=env)
-    if done and check("CMake: build", ["cmake", "--build", folder / "made"], env=env):
-        expect(FOUND in done.stdout, "CMake: the versions and the processor", done.stdout)
+    words = ["cmake", "-S", CALLERS, "-B", folder / "made", f"-DCMAKE_PREFIX_PATH={package}"]
+    words.append(f"-DEXAMPLES={package / 'share/dwexpr/examples'}")
+    configured = check("CMake: configure", words, env=env)
+    if configured and check("CMake: build", ["cmake", "--build", folder / "made"], env=env):
         check_decode("CMake: run", [folder / "made/decode"], env=env)
         if (package / SHARED).exists():
             check_decode("CMake: run, with the shared library", [folder / "made/shared"], env=env)

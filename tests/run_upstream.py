@@ -4,9 +4,8 @@
 FOLDER holds the test modules of gimli 0.34.0, which are no part of this repository: of src/read/value.rs as
 `tests-part1.rs.txt`, and of src/read/op.rs as `tests-part2.rs.txt`. Their `use` lines are changed to name this crate,
 and nothing else but what is left out, by name below. If the copy of op.rs ends within its last test, the rest of that
-test isn't run either, and this is said. A few lines stand in for the crate `test_assembler`, for `leb128::write`, and
-for a private function of gimli's. tests/gimli.json has to list the names of these tests, and says what carries their
-cases here.
+test isn't run either, and this is said. They run in the package of tests/upstream, which stands in for other crates.
+tests/gimli.json has to list the names of these tests, and says what carries their cases here.
 
 The last line is `N passed, M failed`.
 """
@@ -49,127 +48,6 @@ USES = [
     (r"use test_assembler::", "use crate::test_assembler::"),
 ]
 
-STAND_INS = """\
-#![allow(unused_imports, non_snake_case)]
-
-/// The type at offset 0.
-pub fn generic_type() -> dwexpr::UnitOffset {
-    dwexpr::UnitOffset(0)
-}
-
-pub mod leb128 {
-    pub mod write {
-        pub struct Leb128(Vec<u8>);
-
-        impl Leb128 {
-            pub fn unsigned(number: u64) -> Self {
-                Leb128::of(number.into(), |rest, _| rest == 0)
-            }
-
-            pub fn signed(number: i64) -> Self {
-                Leb128::of(number.into(), |rest, byte| rest == if byte & 0x40 == 0 { 0 } else { -1 })
-            }
-
-            fn of(number: i128, is_last: impl Fn(i128, u8) -> bool) -> Self {
-                let (mut rest, mut bytes) = (number, Vec::new());
-                loop {
-                    let byte = (rest & 0x7f) as u8;
-                    rest >>= 7;
-                    if is_last(rest, byte) {
-                        bytes.push(byte);
-                        return Leb128(bytes);
-                    }
-                    bytes.push(byte | 0x80);
-                }
-            }
-
-            pub fn bytes(&self) -> Vec<u8> {
-                self.0.clone()
-            }
-        }
-    }
-}
-
-pub mod test_assembler {
-    pub enum Endian {
-        Little,
-    }
-
-    pub struct Section(pub Vec<u8>);
-
-    impl Section {
-        pub fn with_endian(_: Endian) -> Self {
-            Section(Vec::new())
-        }
-
-        pub fn append_bytes(mut self, bytes: &[u8]) -> Self {
-            self.0.extend_from_slice(bytes);
-            self
-        }
-
-        pub fn D8(self, number: u8) -> Self {
-            self.append_bytes(&[number])
-        }
-
-        pub fn L16(self, number: u16) -> Self {
-            self.append_bytes(&number.to_le_bytes())
-        }
-
-        pub fn L32(self, number: u32) -> Self {
-            self.append_bytes(&number.to_le_bytes())
-        }
-
-        pub fn L64(self, number: u64) -> Self {
-            self.append_bytes(&number.to_le_bytes())
-        }
-
-        pub fn D32(self, number: u32) -> Self {
-            self.L32(number)
-        }
-
-        pub fn D64(self, number: u64) -> Self {
-            self.L64(number)
-        }
-
-        pub fn get_contents(self) -> Option<Vec<u8>> {
-            Some(self.0)
-        }
-    }
-}
-
-pub mod test_util {
-    use crate::leb128::write::Leb128;
-    use crate::test_assembler::Section;
-
-    pub trait GimliSectionMethods {
-        fn uleb(self, number: u64) -> Self;
-        fn sleb(self, number: i64) -> Self;
-    }
-
-    impl GimliSectionMethods for Section {
-        fn uleb(self, number: u64) -> Self {
-            self.append_bytes(&Leb128::unsigned(number).bytes())
-        }
-
-        fn sleb(self, number: i64) -> Self {
-            self.append_bytes(&Leb128::signed(number).bytes())
-        }
-    }
-}
-"""
-
-CARGO = """\
-[package]
-name = "upstream"
-version = "0.0.0"
-edition = "2024"
-
-[dependencies]
-dwexpr = { path = "../crate" }
-
-[workspace]
-"""
-
 
 def carried(text):
     """A test module in the form in which it runs here, and the names of its tests."""
@@ -195,17 +73,14 @@ def main():
         commands.run(TOP / "bin/crate", pathlib.Path(name) / "crate")
         find_crates(pathlib.Path(name))
         folder = pathlib.Path(name) / "upstream"
-        (folder / "src").mkdir(parents=True)
-        (folder / "Cargo.toml").write_text(CARGO)
-        root, all_names, unlisted = STAND_INS, [], set()
+        shutil.copytree(TOP / "tests/upstream", folder)
+        all_names, unlisted = [], set()
         known = json.loads((TOP / "tests/gimli.json").read_text(encoding="utf-8"))
         for part, file in PARTS.items():
             text, names = carried((words.tests / file).read_text())
             (folder / "src" / f"{part}.rs").write_text(text)
-            root += f"\n#[cfg(test)]\nmod {part};\n"
             all_names += names
             unlisted |= set(names) ^ known[f"{part}.rs"].keys()
-        (folder / "src/lib.rs").write_text(root)
         env = {**os.environ, "CARGO_TARGET_DIR": str(folder / "target")}
         done = run(["cargo", "test", "--quiet", "--lib"], cwd=folder, env=env)
     said = re.search(r"(\d+) passed; (\d+) failed", done.stdout)

@@ -1,0 +1,3 @@
+fn main() {
+    assert!(dwexpr::is_addr_mask(0xff));
+}

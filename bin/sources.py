@@ -3,6 +3,8 @@
 import re
 import typing
 
+from commands import Failure
+
 # A definition that contracts can cite: `abbrev pub NAME`, `pub data NAME`, `pub NAME : ..` and their like. In a module
 # of a file they stand further in.
 DEFINED = re.compile(
@@ -24,8 +26,8 @@ class Edit(typing.NamedTuple):
         return self.text.partition("\n")[0].removeprefix("file: ")
 
     def applied(self, text_of):
-        """The texts of its files with the changes made, one after another, or `None` if what one takes away doesn't
-        stand once in its file. A function gives the text of a file."""
+        """The texts of its files with the changes made, one after another. A function gives the text of a file. What is
+        taken away has to stand once in its file."""
         texts, file, old = {}, "", ""
         for line in self.text.splitlines():
             kind, _, said = line.partition(":")
@@ -36,17 +38,16 @@ class Edit(typing.NamedTuple):
             elif kind == "old":
                 old = said
             elif texts[file].count(old) != 1:
-                return None
+                raise Failure(f"{self.name} takes away what doesn't stand once in {file}")
             else:
                 texts[file] = texts[file].replace(old, said)
         return texts
 
     def apply(self, folder):
-        """Changes its files in a folder. Whether it can be applied."""
+        """Changes its files in a folder."""
         texts = self.applied(lambda file: (folder / file).read_text(encoding="utf-8"))
-        for file in texts or ():
-            (folder / file).write_text(texts[file], encoding="utf-8")
-        return texts is not None
+        for file, text in texts.items():
+            (folder / file).write_text(text, encoding="utf-8")
 
 
 def edits_in(path):

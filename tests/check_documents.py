@@ -294,8 +294,11 @@ def stale():
     for path in ["tests/wrong-bodies", *sorted(crates)]:
         folder = "" if path.startswith("tests/") else re.split("/(?:must-fail|wrong-bodies)", path)[0]
         for edit in sources.edits_in(TOP / path):
-            applied = edit.applied(lambda file: read(os.path.normpath(os.path.join(folder, file))))
-            yield f"{path}: {edit.name}: takes away what doesn't stand once in its file" if applied is None else None
+            try:
+                edit.applied(lambda file: read(os.path.normpath(os.path.join(folder, file))))
+                yield None
+            except commands.Failure as failure:
+                yield f"{path}: {failure}"
 
 
 CHECKS = [

@@ -1,12 +1,15 @@
 """What the scripts that run programs share: a count of checks, runs that end, and how C is compiled."""
 
+import concurrent.futures
 import pathlib
 import shutil
 import subprocess
 import sys
+import tempfile
 
 sys.path.insert(0, str(pathlib.Path(__file__).resolve().parent.parent / "bin"))
 import commands  # noqa: E402
+import compiler  # noqa: E402
 import sources  # noqa: E402
 
 # What a compiler of C or C++ is told: to take no warning, and where the headers are.
@@ -71,6 +74,28 @@ def check_headers(*names):
             check(what, [compiler, *words], input=text)
         else:
             left_out(what, compiler)
+
+
+def try_wrong_bodies(path, package, place, sees):
+    """Tries the wrong bodies in a file, each in a copy of a package, of files under a place in it. A function says what
+    sees the copy, which it gets with a folder to work in; "" if nothing does."""
+
+    def tried(edit):
+        with tempfile.TemporaryDirectory(prefix="wrong-body-") as name:
+            copy = pathlib.Path(name, "package")
+            shutil.copytree(package, copy, ignore=shutil.ignore_patterns("target"))
+            try:
+                edit.apply(copy / place)
+                by = sees(copy, pathlib.Path(name))
+            except commands.Failure as failure:
+                return False, f"{failure}\n{failure.said}"
+            return bool(by), by or "nothing sees it"
+
+    edits = sources.edits_in(path)
+    with concurrent.futures.ThreadPoolExecutor(compiler.JOBS) as pool:
+        for edit, (is_seen, said) in zip(edits, pool.map(tried, edits)):
+            print(f"{'seen' if is_seen else 'NOT SEEN'}: {edit.name}: {said}", flush=True)
+            expect(is_seen, f"{edit.name} is seen")
 
 
 def end_with(main):

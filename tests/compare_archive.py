@@ -12,7 +12,7 @@ under src/sources, a text that stands in it once, and another. The program has t
 The last line is `N passed, M failed`: kinds and rows, or wrong bodies.
 """
 
-import concurrent.futures
+import functools
 import json
 import os
 import pathlib
@@ -25,10 +25,9 @@ import tempfile
 sys.dont_write_bytecode = True
 import checks  # noqa: E402
 import run_rows  # noqa: E402
-from checks import commands, expect, left_out  # noqa: E402
+from checks import commands, left_out  # noqa: E402
 
 import archive  # noqa: E402
-import compiler  # noqa: E402
 import sources  # noqa: E402
 from commands import TOP, Failure  # noqa: E402
 
@@ -78,17 +77,14 @@ def archive_folder():
 
 
 def build(crate, folder):
-    """Builds the program with a crate, into a folder. What went wrong, or ""."""
+    """Builds the program with a crate, into a folder."""
     library = folder / "libdwexpr.rlib"
     uses = ["-L", archive_folder(), "--extern", f"dwexpr={library}"]
     for words in (
         ["--crate-type", "lib", "--crate-name", "dwexpr", crate / "src" / "lib.rs", "-o", library],
         ["-D", "warnings", *uses, PROGRAM / "main.rs", "-o", folder / "beside_archive"],
     ):
-        done = commands.done(*RUSTC, *words)
-        if done.returncode:
-            return done.stderr or commands.ended(done.returncode)
-    return ""
+        commands.run(*RUSTC, *words)
 
 
 def limit_memory():
@@ -96,53 +92,28 @@ def limit_memory():
 
 
 def run(folder, count, lines):
-    """Runs the program of a folder. What it printed, or `None` if it didn't come to its end."""
+    """Runs the program of a folder. What it printed."""
     words = [folder / "beside_archive", count, lines]
-    try:
-        done = commands.done(*words, seconds=SECONDS, stderr=None, preexec_fn=limit_memory)
-    except Failure:
-        return None
-    return done.stdout if sources.COUNTED.search(done.stdout) else None
+    done = commands.done(*words, seconds=SECONDS, stderr=None, preexec_fn=limit_memory)
+    if not sources.COUNTED.search(done.stdout):
+        raise Failure(f"the program {commands.ended(done.returncode)}, before its end")
+    return done.stdout
 
 
 def compare(crate, folder, lines, count):
     """Compares the crate with the archive."""
-    if failure := build(crate, folder):
-        raise Failure("the crate, or the program with it, isn't built", failure)
+    build(crate, folder)
     printed = run(folder, count, lines)
-    if printed is None:
-        raise Failure("the program didn't come to its end")
     print(printed.rstrip("\n").rpartition("\n")[0])
     checks.count(*sources.counted(printed), "the Rust crate beside the archive")
 
 
-def try_wrong_body(wrong_body, crate, lines):
-    """Compares the crate with a wrong body in place. Whether a difference was seen, and which."""
-    with tempfile.TemporaryDirectory(prefix="wrong-body-") as name:
-        folder = pathlib.Path(name)
-        shutil.copytree(crate, folder / "crate")
-        if not wrong_body.apply(folder / "crate" / "src" / "sources"):
-            return False, "it takes away what doesn't stand once in its file"
-        if failure := build(folder / "crate", folder):
-            return False, failure
-        printed = run(folder, WRONG_BODIES_COUNT, lines)
-    if printed is None:
-        return False, "the program didn't come to its end"
-    seen = DIFFERENCE.findall(printed)
-    if not seen:
-        return False, "no difference was seen"
-    kinds = ", ".join(dict.fromkeys(kind for kind, _ in seen))
-    return True, f"{kinds}\n    {min((said for _, said in seen), key=len)}"
-
-
-def try_wrong_bodies(crate, lines):
-    """Tries all wrong bodies."""
-    edits = sources.edits_in(PROGRAM / "wrong-bodies")
-    with concurrent.futures.ThreadPoolExecutor(compiler.JOBS) as pool:
-        tried = pool.map(lambda edit: try_wrong_body(edit, crate, lines), edits)
-        for edit, (is_seen, said) in zip(edits, tried):
-            print(f"{'seen' if is_seen else 'NOT SEEN'}: {edit.name}: {said}", flush=True)
-            expect(is_seen, f"{edit.name} is seen")
+def seen(crate, folder, lines):
+    """The kinds in which a crate with a wrong body differs, and the shortest difference; "" if there is none."""
+    build(crate, folder)
+    found = DIFFERENCE.findall(run(folder, WRONG_BODIES_COUNT, lines))
+    kinds = ", ".join(dict.fromkeys(kind for kind, _ in found))
+    return found and f"{kinds}\n    {min((said for _, said in found), key=len)}"
 
 
 def main():
@@ -161,7 +132,8 @@ def main():
         commands.run(TOP / "bin/crate", crate)
         lines.write_text(cases(), encoding="utf-8")
         if words.wrong_bodies:
-            try_wrong_bodies(crate, lines)
+            sees = functools.partial(seen, lines=lines)
+            checks.try_wrong_bodies(PROGRAM / "wrong-bodies", crate, "src/sources", sees)
         else:
             compare(crate, folder, lines, words.count)
     return None

@@ -2,10 +2,10 @@
 """Compares what examples/where.c prints of stopped programs, and of their core dumps, with what gdb says.
 
 It wants cc, gdb with Python and libdw, and gcc or clang. Each program of tests/stopped is built at -O0 to -O3 in
-versions 4 and 5 of DWARF, and stopped at each of its places; words choose programs, compilers, levels and versions, as
-pieces.c gcc -O0 -O2 -gdwarf-5. Some are also built with split debug information, link-time optimization, type units,
-the 64-bit format and for i386, if the compiler can. At each place `where` prints the stopped process. The process then
-goes on to its end by the same signal, and `where` prints the core dump that the kernel writes.
+versions 4 and 5 of DWARF, and stopped at each of its places; words as pieces.c gcc -O0 -gdwarf-5 choose those programs
+that have all of them. Some are also built with split debug information, link-time optimization, type units, the
+64-bit format and for i386, if the compiler can. At each place `where` prints the stopped process. The process then goes
+on to its end by the same signal, and `where` prints the core dump that the kernel writes.
 
 Variables of each thread are compared, of the innermost function and of its callers up to three levels, or all, bit for
 bit, but for padding. Each variable that differs is a line. The status is 1 if one differs, and 2 if nothing was
@@ -34,6 +34,7 @@ import libraries  # noqa: E402
 from commands import TOP  # noqa: E402
 
 ARCHIVE = TOP / "crates" / "dwexpr_c" / "out" / "libdwexpr_c.a"
+IN_GDB = TOP / "tests" / "libdw" / "in_gdb.py"
 SOURCES = {path.stem + path.suffix: path for path in sorted((TOP / "tests" / "stopped").iterdir())}
 COMPILERS = {".c": ["gcc", "clang"], ".cpp": ["g++", "clang++"], ".rs": ["rustc"]}
 OPTIMIZATIONS = ["-O0", "-O1", "-O2", "-O3"]
@@ -78,111 +79,13 @@ GATE = [
     *[job for job in OTHERS if job[:2] == ("pieces.c", "gcc") and job[2] == ["-O2", "-gdwarf-5", "-flto"]],
 ]
 
-# Runs in gdb: prints a line of JSON for each place, with the variables of each frame: its thread, its level, which of
-# the functions that are inlined there, the function, a name, and bits as numbers: of the variable's value, which of
-# them are known, and which were optimized away.
-IN_GDB = r"""
-import gdb, json, struct
-WHOLE = {gdb.TYPE_CODE_INT, gdb.TYPE_CODE_CHAR, gdb.TYPE_CODE_BOOL, gdb.TYPE_CODE_ENUM, gdb.TYPE_CODE_PTR}
-REFERENCES = {gdb.TYPE_CODE_REF, gdb.TYPE_CODE_RVALUE_REF}
-FLOATS = {4: ("f", "I"), 8: ("d", "Q")}
-LONG_DOUBLE = 80
-def number_of(value, kind):
-    if kind.code == gdb.TYPE_CODE_PTR and "synthetic pointer" in value.format_string():
-        return None
-    if kind.code in REFERENCES:
-        if "synthetic pointer" in value.format_string():
-            return None
-        return int(value.referenced_value().address)
-    if kind.code == gdb.TYPE_CODE_FLT and kind.sizeof in FLOATS:
-        form, whole = FLOATS[kind.sizeof]
-        return struct.unpack("<" + whole, struct.pack("<" + form, float(value)))[0]
-    return int(value.format_string(format="x"), 16) if kind.code == gdb.TYPE_CODE_FLT else int(value)
-def parts(value, place, size):
-    kind = value.type.strip_typedefs()
-    if kind.code in WHOLE | REFERENCES or kind.code == gdb.TYPE_CODE_FLT and kind.sizeof in (4, 8, 12, 16):
-        try:
-            number = None if value.is_optimized_out else number_of(value, kind)
-        except gdb.error as error:
-            if "optimized out" not in str(error):
-                raise
-            number = None
-        bits = LONG_DOUBLE if kind.code == gdb.TYPE_CODE_FLT and kind.sizeof > 8 else 8 * kind.sizeof
-        yield place, size or bits, number
-    elif kind.code == gdb.TYPE_CODE_ARRAY:
-        for index in range(kind.range()[1] + 1):
-            yield from parts(value[index], place + 8 * index * kind.target().sizeof, 0)
-    elif kind.code == gdb.TYPE_CODE_STRUCT:
-        for field in kind.fields():
-            if hasattr(field, "bitpos"):
-                yield from parts(value[field], place + field.bitpos, field.bitsize)
-def content(value):
-    bits = known = lost = 0
-    for place, size, number in parts(value, 0, 0):
-        mask = ((1 << size) - 1) << place
-        if number is None:
-            lost |= mask
-        else:
-            known |= mask
-            bits |= number << place & mask
-    return bits, known, lost
-def variables(frame, *place):
-    block = frame.block()
-    while block is not None and not block.is_global and not block.is_static:
-        for symbol in block:
-            # that one of libc has numbers that differ in each process
-            if (symbol.is_variable or symbol.is_argument) and symbol.name != "unwind_buf":
-                size = symbol.type.strip_typedefs().sizeof
-                try:
-                    value = symbol.value(frame)
-                    size = value.type.sizeof
-                    found = content(value)
-                except gdb.error as error:
-                    found = str(error)
-                yield *place, frame.name(), symbol.name, size, found
-        if block.function:
-            break
-        block = block.superblock
-def of_thread(thread):
-    level, inlined = 0, []
-    frame = gdb.newest_frame()
-    while frame is not None and level < LEVELS:
-        kind = frame.type()
-        if kind not in (gdb.SIGTRAMP_FRAME, gdb.TAILCALL_FRAME):
-            if frame.find_sal().symtab is None:
-                break
-            inlined.append(frame)
-        if kind not in (gdb.INLINE_FRAME, gdb.TAILCALL_FRAME):
-            # gdb hides a function if it stops where it is inlined: so they are counted from the outermost one
-            for number, each in enumerate(reversed(inlined)):
-                yield from variables(each, thread, level, number)
-            level, inlined = level + 1, []
-        if (frame.name() or "").split("::")[-1] == "main":
-            break
-        frame = frame.older()
-gdb.execute("set backtrace past-main on")
-gdb.execute("handle SIGSEGV SIGALRM nostop noprint pass", to_string=True)
-for place in range(1, PLACES + 1):
-    gdb.execute("run %d" % place, to_string=True)
-    found = []
-    for number, thread in enumerate(sorted(gdb.selected_inferior().threads(), key=lambda it: it.num)):
-        thread.switch()
-        found += of_thread(number)
-    if found:
-        print("@@" + json.dumps([place, found]))
-"""
-
-
 def run(words, **more):
-    words = [str(word) for word in words]
-    return subprocess.run(words, text=True, capture_output=True, errors="replace", timeout=300, **more)
+    return commands.done(*words, seconds=300, **more)
 
 
-def of_gdb(program, places, levels, folder):
-    script = folder / "in_gdb.py"
-    script.write_text(IN_GDB.replace("PLACES", str(places)).replace("LEVELS", str(levels)))
-    words = ["gdb", "-nx", "-batch", "-ex", "set exec-wrapper env -i", "-x", script, program]
-    lines = run(words).stdout.splitlines()
+def of_gdb(program, places, levels):
+    words = ["-ex", "set exec-wrapper env -i", "-ex", f"python PLACES, LEVELS = {places}, {levels}", "-x", IN_GDB]
+    lines = run(["gdb", "-nx", "-batch", *words, program]).stdout.splitlines()
     return dict(json.loads(line[2:]) for line in lines if line.startswith("@@"))
 
 
@@ -265,13 +168,6 @@ def bits_of(text, size):
     return int.from_bytes(known, "little"), int.from_bytes(unknown, "little")
 
 
-SAME = {
-    "equal",
-    "equal, in part optimized away",
-    "optimized away on both sides",
-    "an implicit pointer on both sides",
-    "refused by both",
-}
 # A call may change these registers, and the compiler isn't GCC, which would say so. gdb takes them as unchanged.
 CHANGED = "in a register that a call may change, refused here alone"
 # An operation on a generic value and one of a base type, which DWARF 5 (section 2.5.1.4) doesn't allow. gdb takes both
@@ -325,7 +221,7 @@ def compare(name, variables, ours, sums):
         if what == "different" and function == "even" and said == "unknown: an entry value":
             what = CHANGED_ON_THE_WAY
         sums[what] += 1
-        if what not in SAME | {CHANGED_ON_THE_WAY, CHANGED, MIXED, NO_PIECE, BEYOND, LOST, NO_OFFSET}:
+        if what == "different":
             lines.append(f"{name}, level {level}: {function}: {variable}: gdb {theirs}, here {said}")
     return lines
 
@@ -351,7 +247,7 @@ def compare_program(where, source, compiler, words):
         if built.returncode != 0:
             return sums, [f"left out: {source.name} by {compiler} {' '.join(words)}: it isn't built"]
         levels = LEVELS.get(source.name, FEW_LEVELS)
-        for place, variables in of_gdb(program, places, levels, folder).items():
+        for place, variables in of_gdb(program, places, levels).items():
             name = f"{source.name} {compiler} {' '.join(words)}, place {place}"
             process = stopped([program, place], folder)
             if not process:
@@ -378,11 +274,7 @@ def compare_all(where, jobs):
 
 
 def jobs_of(words):
-    """What the words choose of all that can be built."""
-
-    def chosen(names):
-        return [name for name in names if name in words] or names
-
+    """What can be built, and has all of these words."""
     jobs = [
         (source, compiler, [optimization, version])
         for source in SOURCES
@@ -390,29 +282,14 @@ def jobs_of(words):
         for optimization in OPTIMIZATIONS
         for version in (VERSIONS if compiler != "rustc" else VERSIONS[:1])
     ]
-    every = {word for source, compiler, options in [*jobs, *OTHERS] for word in [source, compiler, *options]}
-    if unknown := set(words) - every:
-        raise commands.Failure(f"unknown word: {unknown.pop()}", status=2)
-    kinds = [list(SOURCES), sum(COMPILERS.values(), []), OPTIMIZATIONS, VERSIONS]
-    kinds.append([word for word in words if word not in sum(kinds, [])])
-    wanted = [set(chosen(kind)) for kind in kinds[:4]]
-    others = set(kinds[4])
-    return [
-        (source, compiler, options)
-        for source, compiler, options in [*jobs, *OTHERS]
-        if shutil.which(compiler)
-        and source in wanted[0]
-        and compiler in wanted[1]
-        and options[0] in wanted[2]
-        and options[1] in wanted[3]
-        and (not others or others & set(options))
-    ]
+    return [job for job in [*jobs, *OTHERS] if {*words} <= {*job[:2], *job[2]} and shutil.which(job[1])]
 
 
 def main():
     parser = commands.parser(__doc__)
     _, words = parser.parse_known_args()
-    jobs = jobs_of(words)
+    if not (jobs := jobs_of(words)):
+        raise commands.Failure("no program has all of these words, or its compiler is missing", status=2)
     with tempfile.TemporaryDirectory() as made:
         where = pathlib.Path(made) / "where"
         links = [libraries.build("libdw", where.parent, "-O2"), ARCHIVE, "-ldw", "-lelf", "-o", where]

@@ -16,7 +16,7 @@ under src, a text that stands in it once, and another. With --wrong-bodies it bu
 has to fail. What is missing is left out, and said so. The last line is `N passed, M failed`.
 """
 
-import concurrent.futures
+import functools
 import pathlib
 import re
 import shutil
@@ -30,8 +30,6 @@ from checks import STRICT, check, commands, count_of, expect, left_out, run  # n
 
 import archive  # noqa: E402
 import by_rustc  # noqa: E402
-import compiler  # noqa: E402
-import sources  # noqa: E402
 from commands import TOP  # noqa: E402
 
 FOLDER = TOP / "tests" / "by_rustc"
@@ -117,47 +115,32 @@ def elsewhere(package, target, folder):
     return None
 
 
-def sees(wrong_body, package, given):
-    """What sees a wrong body: a caller, or the comparison; "" if nothing does."""
-    with tempfile.TemporaryDirectory(prefix="wrong-body-") as name:
-        folder = pathlib.Path(name)
-        copy = folder / "package"
-        shutil.copytree(package, copy, ignore=shutil.ignore_patterns("target"))
-        if not wrong_body.apply(copy / "src"):
-            raise commands.Failure(f"{wrong_body.name} takes away what doesn't stand once in its file")
-        # Quicker to build than what a user gets.
-        words = ["--edition=2024", "--crate-name=dwexpr", "--crate-type=staticlib", "-Copt-level=1", "-Cpanic=abort"]
-        static = folder / "libdwexpr.a"
-        done = commands.done("rustc", *words, "-Cdebug-assertions=on", copy / "src/lib.rs", "-o", static)
-        if "assertion failed: size_of" in done.stderr:
-            return "rustc, at a claim about sizes"
+def seen(package, folder, given):
+    """What sees a wrong body in a package: a caller, or the comparison; "" if nothing does."""
+    # Quicker to build than what a user gets.
+    words = ["--edition=2024", "--crate-name=dwexpr", "--crate-type=staticlib", "-Copt-level=1", "-Cpanic=abort"]
+    static = folder / "libdwexpr.a"
+    done = commands.done("rustc", *words, "-Cdebug-assertions=on", package / "src/lib.rs", "-o", static)
+    if "assertion failed: size_of" in done.stderr:
+        return "rustc, at a claim about sizes"
+    if done.returncode:
+        raise commands.Failure("it isn't built", done.stderr)
+    for caller in ("beside", "decode", "evaluate", "values", "held"):
+        program = folder / caller
+        if caller == "beside":
+            if not archive.is_built():
+                continue
+            words, said = beside_words(static, folder), [str(WRONG_BODIES_COUNT)]
+        else:
+            words, said = ["cc", "-std=c11", *STRICT, TOP / f"tests/c/{caller}.c", static, "-o", program], []
+        commands.run(*words)
+        try:
+            done = commands.done(program, *said, given=given.get(caller), seconds=60)
+        except commands.Failure:
+            return f"{caller}, which took too long"
         if done.returncode:
-            raise commands.Failure(f"{wrong_body.name} isn't built", done.stderr)
-        for caller in ("beside", "decode", "evaluate", "values", "held"):
-            program = folder / caller
-            if caller == "beside":
-                if not archive.is_built():
-                    continue
-                words, said = beside_words(static, folder), [str(WRONG_BODIES_COUNT)]
-            else:
-                words, said = ["cc", "-std=c11", *STRICT, TOP / f"tests/c/{caller}.c", static, "-o", program], []
-            commands.run(*words)
-            try:
-                done = commands.done(program, *said, given=given.get(caller), seconds=60)
-            except commands.Failure:
-                return f"{caller}, which took too long"
-            if done.returncode:
-                return caller
+            return caller
     return ""
-
-
-def try_wrong_bodies(package):
-    """Tries all wrong bodies."""
-    edits, given = sources.edits_in(FOLDER / "wrong-bodies"), {"decode": run_c.vectors()}
-    with concurrent.futures.ThreadPoolExecutor(compiler.JOBS) as pool:
-        for edit, by in zip(edits, pool.map(lambda it: sees(it, package, given), edits)):
-            print(f"{'seen' if by else 'NOT SEEN'}: {edit.name}{by and f': by {by}'}", flush=True)
-            expect(by, f"{edit.name} is seen")
 
 
 def main():
@@ -175,7 +158,8 @@ def main():
         package = folder / "package"
         by_rustc.write(package)
         if words.wrong_bodies:
-            return try_wrong_bodies(package)
+            sees = functools.partial(seen, given={"decode": run_c.vectors()})
+            return checks.try_wrong_bodies(FOLDER / "wrong-bodies", package, "src", sees)
         done = check("cargo tree", ["cargo", "tree", "--offline"], cwd=package)
         expect(done and len(done.stdout.splitlines()) == 1, "it takes no other crate")
         check("cargo fmt --check", ["cargo", "fmt", "--check"], cwd=package)

@@ -1,0 +1,108 @@
+"""Runs in gdb, which is told PLACES and LEVELS before: prints a line of JSON for each place of a program, with the
+variables of each frame: its thread, its level, which of the functions that are inlined there, the function, a name, and
+bits as numbers: of the variable's value, which of them are known, and which were optimized away."""
+
+import json
+import struct
+
+import gdb
+
+WHOLE = {gdb.TYPE_CODE_INT, gdb.TYPE_CODE_CHAR, gdb.TYPE_CODE_BOOL, gdb.TYPE_CODE_ENUM, gdb.TYPE_CODE_PTR}
+REFERENCES = {gdb.TYPE_CODE_REF, gdb.TYPE_CODE_RVALUE_REF}
+FLOATS = {4: ("f", "I"), 8: ("d", "Q")}
+LONG_DOUBLE = 80
+
+
+def number_of(value, kind):
+    if kind.code == gdb.TYPE_CODE_PTR and "synthetic pointer" in value.format_string():
+        return None
+    if kind.code in REFERENCES:
+        if "synthetic pointer" in value.format_string():
+            return None
+        return int(value.referenced_value().address)
+    if kind.code == gdb.TYPE_CODE_FLT and kind.sizeof in FLOATS:
+        form, whole = FLOATS[kind.sizeof]
+        return struct.unpack("<" + whole, struct.pack("<" + form, float(value)))[0]
+    return int(value.format_string(format="x"), 16) if kind.code == gdb.TYPE_CODE_FLT else int(value)
+
+
+def parts(value, place, size):
+    kind = value.type.strip_typedefs()
+    if kind.code in WHOLE | REFERENCES or kind.code == gdb.TYPE_CODE_FLT and kind.sizeof in (4, 8, 12, 16):
+        try:
+            number = None if value.is_optimized_out else number_of(value, kind)
+        except gdb.error as error:
+            if "optimized out" not in str(error):
+                raise
+            number = None
+        bits = LONG_DOUBLE if kind.code == gdb.TYPE_CODE_FLT and kind.sizeof > 8 else 8 * kind.sizeof
+        yield place, size or bits, number
+    elif kind.code == gdb.TYPE_CODE_ARRAY:
+        for index in range(kind.range()[1] + 1):
+            yield from parts(value[index], place + 8 * index * kind.target().sizeof, 0)
+    elif kind.code == gdb.TYPE_CODE_STRUCT:
+        for field in kind.fields():
+            if hasattr(field, "bitpos"):
+                yield from parts(value[field], place + field.bitpos, field.bitsize)
+
+
+def content(value):
+    bits = known = lost = 0
+    for place, size, number in parts(value, 0, 0):
+        mask = ((1 << size) - 1) << place
+        if number is None:
+            lost |= mask
+        else:
+            known |= mask
+            bits |= number << place & mask
+    return bits, known, lost
+
+
+def variables(frame, *place):
+    block = frame.block()
+    while block is not None and not block.is_global and not block.is_static:
+        for symbol in block:
+            # that one of libc has numbers that differ in each process
+            if (symbol.is_variable or symbol.is_argument) and symbol.name != "unwind_buf":
+                size = symbol.type.strip_typedefs().sizeof
+                try:
+                    value = symbol.value(frame)
+                    size = value.type.sizeof
+                    found = content(value)
+                except gdb.error as error:
+                    found = str(error)
+                yield *place, frame.name(), symbol.name, size, found
+        if block.function:
+            break
+        block = block.superblock
+
+
+def of_thread(thread):
+    level, inlined = 0, []
+    frame = gdb.newest_frame()
+    while frame is not None and level < LEVELS:
+        kind = frame.type()
+        if kind not in (gdb.SIGTRAMP_FRAME, gdb.TAILCALL_FRAME):
+            if frame.find_sal().symtab is None:
+                break
+            inlined.append(frame)
+        if kind not in (gdb.INLINE_FRAME, gdb.TAILCALL_FRAME):
+            # gdb hides a function if it stops where it is inlined: so they are counted from the outermost one
+            for number, each in enumerate(reversed(inlined)):
+                yield from variables(each, thread, level, number)
+            level, inlined = level + 1, []
+        if (frame.name() or "").split("::")[-1] == "main":
+            break
+        frame = frame.older()
+
+
+gdb.execute("set backtrace past-main on")
+gdb.execute("handle SIGSEGV SIGALRM nostop noprint pass", to_string=True)
+for place in range(1, PLACES + 1):
+    gdb.execute("run %d" % place, to_string=True)
+    found = []
+    for number, thread in enumerate(sorted(gdb.selected_inferior().threads(), key=lambda it: it.num)):
+        thread.switch()
+        found += of_thread(number)
+    if found:
+        print("@@" + json.dumps([place, found]))

@@ -13,7 +13,6 @@ headers of libdw. What is missing is left out, and said so. The last line is `N 
 
 import pathlib
 import re
-import shutil
 import signal
 import subprocess
 import sys
@@ -21,8 +20,11 @@ import tempfile
 
 sys.dont_write_bytecode = True
 import checks  # noqa: E402
-from checks import commands, expect, left_out, run  # noqa: E402
+from checks import commands, expect, lacks, left_out, run  # noqa: E402
 from commands import TOP  # noqa: E402
+
+sys.path.insert(0, str(TOP / "tests" / "libdw"))
+from unit import Unit  # noqa: E402
 
 PAGES = {name: (TOP / name).read_text(encoding="utf-8") for name in ("README.md", "docs/GUIDE.md")}
 # A command and what it prints, up to an empty line or the next command.
@@ -54,42 +56,8 @@ PATIENCE = 5
 LIBDW = ["/usr/include/elfutils/libdw.h", "/usr/include/elfutils/libdwfl.h"]
 
 # A unit, a base type with its encoding and size, and a variable with its type and location (DWARF 4, section 7.5.3).
-ABBREVIATIONS = """\
-    .section .debug_abbrev
-    .byte 1, 0x11, 1, 0x03, 0x08, 0, 0
-    .byte 2, 0x24, 0, 0x03, 0x08, 0x3e, 0x0b, 0x0b, 0x0b, 0, 0
-    .byte 3, 0x34, 0, 0x03, 0x08, 0x49, 0x13, 0x02, 0x18, 0, 0
-    .byte 0
-    .section .debug_info
-"""
-UNIT = """\
-    .long end{0} - begin{0}
-begin{0}:
-    .value 4
-    .long 0
-    .byte {0}, 1
-    .asciz "unit"
-type{0}:
-    .byte 2
-    .asciz "number"
-    .byte 5, 8
-{1}    .byte 0
-end{0}:
-"""
-VARIABLE = """\
-    .byte 3
-    .asciz "{1}"
-    .long type{0} - begin{0} + 4
-    .byte {2}
-"""
-
-
-def lacks(what, *tools):
-    """Whether a tool is missing, which is then said."""
-    missing = [tool for tool in tools if not shutil.which(tool)]
-    if missing:
-        left_out(what, missing[0])
-    return bool(missing)
+ABBREVIATIONS = bytes([1, 0x11, 1, 0x03, 0x08, 0, 0, 2, 0x24, 0, 0x03, 0x08, 0x3E, 0x0B, 0x0B, 0x0B, 0, 0])
+ABBREVIATIONS += bytes([3, 0x34, 0, 0x03, 0x08, 0x49, 0x13, 0x02, 0x18, 0, 0, 0])
 
 
 def sessions():
@@ -146,16 +114,18 @@ def in_rust():
             yield None if said.stdout == wanted else f"{page}: a program in Rust prints\n{said.stdout}{said.stderr}"
 
 
-def assembly():
-    """The source of the object file for gdb."""
-    text = ABBREVIATIONS
+def units():
+    """The object file for gdb."""
+    info = b""
     for size, variables in VARIABLES.items():
-        entries = ""
+        unit, entries = Unit(size, 4, 4, "le"), b"\1unit\0"
+        kind = unit.pack("I", len(unit.length(0) + unit.header() + entries))
+        entries += b"\2number\0\5\10"
         for name, (digits, _) in variables.items():
             block = bytes.fromhex(digits)
-            entries += VARIABLE.format(size, name, ", ".join(map(str, [len(block), *block])))
-        text += UNIT.format(size, entries)
-    return text
+            entries += b"\3" + name.encode() + b"\0" + kind + bytes([len(block)]) + block
+        info += unit.info(entries + b"\0")
+    return Unit(8, 4, 4, "le").elf({".debug_abbrev": ABBREVIATIONS, ".debug_info": info})
 
 
 def is_printed(file, name, pattern):
@@ -172,7 +142,7 @@ def is_printed(file, name, pattern):
 
 def of_gdb():
     """gdb prints what the table says."""
-    if lacks("what gdb prints", "cc", "gdb"):
+    if lacks("what gdb prints", "gdb"):
         return
     version = run(["gdb", "--version"]).stdout.split("\n")[0]
     named = re.search(r"gdb (\d+\.\d+)", PAGES["README.md"])[1]
@@ -180,11 +150,8 @@ def of_gdb():
         left_out(f"what gdb prints, since {version} is there", f"gdb {named}")
         return
     with tempfile.TemporaryDirectory() as folder:
-        source, made = pathlib.Path(folder, "units.s"), pathlib.Path(folder, "units.o")
-        source.write_text(assembly())
-        if run(["cc", "-c", source, "-o", made]).returncode:
-            left_out("what gdb prints", "cc for x86-64")
-            return
+        made = pathlib.Path(folder, "units.o")
+        made.write_bytes(units())
         for variables in VARIABLES.values():
             for name, (digits, pattern) in variables.items():
                 yield None if is_printed(made, name, pattern) else f"gdb prints something else for {digits}"

@@ -50,6 +50,14 @@ def left_out(what, lack):
     print(f"left out: {what}: there is no {lack}")
 
 
+def lacks(what, *tools):
+    """Whether a tool is missing, for want of which something is left out."""
+    missing = [tool for tool in tools if not shutil.which(tool)]
+    if missing:
+        left_out(what, missing[0])
+    return bool(missing)
+
+
 def run(words, input=None, **more):
     """Runs a program. The status is 1 if it can't be run or takes too long."""
     try:

@@ -18,14 +18,13 @@ import os
 import pathlib
 import re
 import resource
-import shutil
 import sys
 import tempfile
 
 sys.dont_write_bytecode = True
 import checks  # noqa: E402
 import run_rows  # noqa: E402
-from checks import commands, left_out  # noqa: E402
+from checks import commands, lacks  # noqa: E402
 
 import archive  # noqa: E402
 import sources  # noqa: E402
@@ -123,8 +122,8 @@ def main():
     words.add_argument("count", metavar="COUNT", nargs="?", type=int, default=COUNT, help=said)
     words.add_argument("--wrong-bodies", action="store_true", help="try the wrong bodies of the crate")
     words = parser.parse_args()
-    if missing := [tool for tool in ("rustc", "rustfmt") if not shutil.which(tool)]:
-        return left_out("the Rust crate beside the archive", missing[0])
+    if lacks("the Rust crate beside the archive", "rustc", "rustfmt"):
+        return
     archive_folder()
     with tempfile.TemporaryDirectory(prefix="beside-archive-") as name:
         folder = pathlib.Path(name)
@@ -136,7 +135,6 @@ def main():
             checks.try_wrong_bodies(PROGRAM / "wrong-bodies", crate, "src/sources", sees)
         else:
             compare(crate, folder, lines, words.count)
-    return None
 
 
 if __name__ == "__main__":

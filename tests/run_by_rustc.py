@@ -26,7 +26,7 @@ import tempfile
 sys.dont_write_bytecode = True
 import checks  # noqa: E402
 import run_c  # noqa: E402
-from checks import STRICT, check, commands, count_of, expect, left_out, run  # noqa: E402
+from checks import STRICT, check, commands, count_of, expect, lacks, left_out, run  # noqa: E402
 
 import archive  # noqa: E402
 import by_rustc  # noqa: E402
@@ -150,9 +150,8 @@ def main():
     words.add_argument("count", metavar="COUNT", nargs="?", type=int, default=COUNT, help=said)
     words.add_argument("--wrong-bodies", action="store_true", help="try the wrong bodies of the library")
     words = parser.parse_args()
-    tools = ("cargo", "rustc", "rustfmt", "cc", "objcopy", "nm", "readelf")
-    if missing := [tool for tool in tools if not shutil.which(tool)]:
-        return left_out("the library for C by rustc", missing[0])
+    if lacks("the library for C by rustc", "cargo", "rustc", "rustfmt", "cc", "objcopy", "nm", "readelf"):
+        return None
     with tempfile.TemporaryDirectory(prefix="by-rustc-") as name:
         folder = pathlib.Path(name)
         package = folder / "package"

@@ -22,7 +22,7 @@ import tempfile
 
 sys.dont_write_bytecode = True
 import checks  # noqa: E402
-from checks import check, commands, expect, left_out  # noqa: E402
+from checks import check, commands, expect, lacks  # noqa: E402
 from commands import TOP  # noqa: E402
 
 checks.SECONDS = 600
@@ -94,8 +94,7 @@ def try_without_allocator(folder):
 
 def run_example(cargo, features, folder):
     """Compares what the example says of a program's variables with what the program says."""
-    if not shutil.which("cc"):
-        left_out("the example", "cc")
+    if lacks("the example", "cc"):
         return
     program = folder / "program"
     check("cc", ["cc", "-g", "-O0", "-no-pie", "-fno-omit-frame-pointer", PARTS / "program.c", "-o", program])
@@ -110,8 +109,8 @@ def main():
     said = "a folder for what Cargo builds; without one it is a temporary folder"
     parser.add_argument("kept", metavar="KEPT", nargs="?", type=pathlib.Path, help=said)
     words = parser.parse_args()
-    if missing := [it for it in ("cargo", "rustfmt") if not shutil.which(it)]:
-        return left_out("the Rust crate", missing[0])
+    if lacks("the Rust crate", "cargo", "rustfmt"):
+        return
     with tempfile.TemporaryDirectory() as name:
         folder = pathlib.Path(name)
         crate = folder / "crate"
@@ -155,7 +154,6 @@ def main():
         cargo("package", "package")
         if "gimli" in found:
             run_example(cargo, ["--features", ",".join(found)], folder)
-    return None
 
 
 if __name__ == "__main__":

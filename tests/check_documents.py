@@ -2,8 +2,7 @@
 """What the documents name is there, and what they have to name is named.
 
 - Each definition under `specs/` has a comment.
-- Each name in docs/DEFINITIONS.md is one of `specs/` (a file, a definition, a field, a constructor), a public one of
-  `src/` (an item, a field, a variant, a method, a module), or a crate.
+- Each name in docs/DEFINITIONS.md is one of the code, of the definitions or of a file of theirs.
 - Each path in README.md, CHANGELOG.md, CONTRIBUTING.md, SECURITY.md, bench/README.md and docs/ leads to a file or
   folder of the repository; what is built, gimli's files and the web aside. Each link to a part of a page finds its
   heading. Each file in a crate's table in docs/PROOFS.md is one of that crate, or of the crate that is named after it.
@@ -84,21 +83,11 @@ LIMIT = re.compile(r"#define DWEXPR_MAX_(?:VALUES|CALLERS|PIECES) (\d+)")
 RATIO = re.compile(r"(?<!Rust )\b\d\.\d\d\b")
 LOGIC = re.compile(r"`([0-9a-f]{16})`")
 
-# Within a record or a data type: a field `pub NAME : ..` or a constructor `NAME : ..`.
-MEMBER = re.compile(r"^  (?:pub )?(\w+) :", re.MULTILINE)
-# In the code: a module; a public item or method; a public field.
-ITEMS = [
-    re.compile(r"^(?:pub )?mod (\w+)", re.MULTILINE),
-    re.compile(r"^ *pub (?:const |extern \"C\" )?(?:fn|struct|enum|trait|type|const) (\w+)", re.MULTILINE),
-    re.compile(r"^ *pub (\w+):", re.MULTILINE),
-]
-# A public enum or trait, up to the brace at a line's beginning that ends it; the variants of an enum and their fields;
-# the members of a trait.
-OPENED = re.compile(r"^pub (enum|trait) .*?\{\n(.*?)^\}", re.MULTILINE | re.DOTALL)
-INSIDE = {
-    "enum": [re.compile(r"^    ([A-Z]\w*)", re.MULTILINE), re.compile(r"^        (\w+):", re.MULTILINE)],
-    "trait": [re.compile(r"^    (?:fn|ghost|type|const) (\w+)", re.MULTILINE)],
-}
+# A comment of the code or of definitions.
+COMMENT = re.compile(r"(?://|--).*")
+# The variants of the enum of errors, each at the beginning of a line.
+ERRORS = re.compile(r"^pub enum Error .*?\n}", re.MULTILINE | re.DOTALL)
+VARIANT = re.compile(r"^    [A-Z]", re.MULTILINE)
 
 
 @functools.cache
@@ -126,35 +115,17 @@ def documents():
     return [name for name in files() if name in pages or name.startswith("docs/")]
 
 
-def is_definitions(path):
-    return path.startswith("crates/") and "/specs/" in path and path.endswith(".antt")
-
-
 def glossary():
     """No definition lacks its comment."""
     yield "bin/glossary: a definition lacks its comment" if run([TOP / "bin/glossary"]).returncode else None
 
 
-def public_names(code):
-    """The modules, public items, fields, variants and promised methods of a file of code."""
-    names = {name for pattern in ITEMS for name in pattern.findall(code)}
-    for kind, body in OPENED.findall(code):
-        names.update(name for pattern in INSIDE[kind] for name in pattern.findall(body))
-    return names
-
-
 @functools.cache
 def known():
-    """What a reader may be pointed to: all that is defined, and what is public in the code."""
-    names = set()
-    for path in filter(lambda name: name.startswith("crates/"), files()):
-        names.add(path.split("/")[1])
-        if is_definitions(path):
-            names.add(pathlib.PurePath(path).stem)
-            names.update([*sources.DEFINED.findall(read(path)), *MEMBER.findall(read(path))])
-        elif "/src/" in path:
-            names.update(public_names(read(path)))
-    return names
+    """All names of the code and of definitions, and of their crates, files and modules."""
+    found = [path for path in files() if re.match(r"crates/\w+/(?:src|specs)/", path)]
+    words = (WORD.findall(path.rpartition(".")[0] + COMMENT.sub("", read(path))) for path in found)
+    return {word for of_file in words for word in of_file}
 
 
 def unknown():
@@ -163,7 +134,7 @@ def unknown():
         words = quoted.split("::")
         if all(map(WORD.fullmatch, words)):
             missing = not known().issuperset(words)
-            yield f"{DEFINITIONS} names `{quoted}`, which is neither defined nor public" if missing else None
+            yield f"{DEFINITIONS} names `{quoted}`, which no crate names" if missing else None
 
 
 def is_there(path, near):
@@ -237,8 +208,7 @@ def figures():
     for page in filter(SPEED.__ne__, documents()):
         for named in LIMITS.findall(read(page)):
             yield None if named == limits else f"{page} names the limits {named}, and they are {limits}"
-    body = dict(OPENED.findall(read("crates/dwarf_base/src/errors.rt")))["enum"]
-    faults = str(len(INSIDE["enum"][0].findall(body)))
+    faults = str(len(VARIANT.findall(ERRORS.search(read("crates/dwarf_base/src/errors.rt"))[0])))
     for page in documents():
         for named in FAULTS.findall(read(page)):
             yield None if named == faults else f"{page} names {named} faults, and there are {faults}"

@@ -103,8 +103,8 @@ def in_rust():
     with tempfile.TemporaryDirectory() as folder:
         made = run([TOP / "bin/crate", f"{folder}/crate"])
         yield f"bin/crate: {made.stdout}{made.stderr}" if made.returncode else None
-        # Without Cargo, which would look for the crates of the features.
-        words = ["rustc", "--edition", "2024"]
+        # Without Cargo, which would look for the crates of the features. It would turn on the default one.
+        words = ["rustc", "--edition", "2024", "--cfg", 'feature="alloc"']
         built = run([*words, "--crate-type", "lib", "--crate-name", "dwexpr", "crate/src/lib.rs"], cwd=folder)
         yield f"the crate by rustc: {built.stderr}" if built.returncode else None
         for page, _, program, wanted in programs("rust", "fn main("):

@@ -6,8 +6,9 @@
 - Each path in README.md, CHANGELOG.md, CONTRIBUTING.md, SECURITY.md, bench/README.md and docs/ leads to a file or
   folder of the repository; what is built, gimli's files and the web aside. Each link to a part of a page finds its
   heading. Each file in a crate's table in docs/PROOFS.md is one of that crate, or of the crate that is named after it.
-- docs/GUIDE.md lists exactly the operations that are known. The number of faults, the limits of the archive's lists,
-  the size of an evaluation there, the logic's sum and README.md's ratios are those of the sources and docs/SPEED.md.
+- docs/GUIDE.md names exactly the operations that are known and aren't the standard's. The number of faults, the limits
+  of the archive's lists, the size of an evaluation there, the logic's sum and README.md's ratios are those of the
+  sources and docs/SPEED.md.
 - The figures in CONTRIBUTING.md are those that `bin/figures` prints.
 - docs/ARCHITECTURE.md has a row for each crate.
 - No line of a page but a table's row has more than 120 columns.
@@ -72,10 +73,10 @@ PATH = re.compile(r"[\w.*/-]*(?:/[\w.*-]*|\.(?:rt|antt|edit|md|py|json|txt|rs|c|
 # A block whose fence names a file after its language.
 BLOCK = re.compile(r"^```\w+ (\S+)\n(.*?)^```$", re.MULTILINE | re.DOTALL)
 
-# The name of an opcode's constant; a name or a range of names in a list of operations; a name within a range of the
-# decoder's table, which names its ends.
-CONSTANT = re.compile(r"^pub const (DW_OP_\w+): DwOp = ", re.MULTILINE)
-LISTED = re.compile(r"`(DW_OP_\w+?)(\d*)`(?: to `DW_OP_\w+?(\d+)`)?")
+# An opcode's constant and its number; the first number that isn't the standard's (DW_OP_lo_user); a name within a range
+# of the decoder's table, which names its ends.
+CONSTANT = re.compile(r"^pub const (DW_OP_\w+): DwOp = DwOp\(0x(\w+)\);", re.MULTILINE)
+FIRST_OF_OTHERS = 0xE0
 WITHIN = re.compile(r"DW_OP_b?(?:lit|reg)(?:[1-9]|[12]\d|30)")
 LIMITS = re.compile(r"(\d+)\s+values,\s+(\d+)\s+callers\s+and\s+(\d+)\s+pieces")
 FAULTS = re.compile(r"\b(\d+)\s+(?:faults|errors)\b")
@@ -189,13 +190,13 @@ def strange():
 
 
 def operations():
-    """The operations that are known: those of the guide's list, of the constants and of the decoder's table."""
-    constants = CONSTANT.findall(read("crates/dwarf_base/src/constants.rt"))
-    of_guide = read(GUIDE).split("\n## The operations\n")[1].split("\n## ")[0].split("\n\n`DW_OP")[0]
-    listed = []
-    for name, first, last in LISTED.findall(of_guide):
-        listed += [f"{name}{number}" for number in range(int(first), int(last) + 1)] if last else [name + first]
-    yield None if sorted(listed) == sorted(constants) else f"{GUIDE} lists other operations than are known"
+    """The operations that are known: those of the constants and of the decoder's table; the guide names the standard's
+    by its section, and all others."""
+    constants = dict(CONSTANT.findall(read("crates/dwarf_base/src/constants.rt")))
+    of_guide = read(GUIDE).split("\n## The operations\n")[1].split("\n## ")[0]
+    others = {name for name, number in constants.items() if int(number, 16) >= FIRST_OF_OTHERS}
+    same = set(re.findall(r"`(DW_OP_\w+)`", of_guide)) == others
+    yield None if same else f"{GUIDE} names other operations of vendors than are known"
     rows = set(re.findall(r"\bDW_OP_\w+\b(?!`)", read("crates/dwarf_op/src/opcodes.rt")))
     same = rows == {name for name in constants if not WITHIN.fullmatch(name)}
     yield None if same else "the decoder's table names other operations than there are constants"

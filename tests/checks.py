@@ -72,16 +72,20 @@ def check(name, words, **more):
     return done if expect(done.returncode == 0, name, done.stdout + done.stderr) else None
 
 
+def check_by_valgrind(name, words):
+    """Runs a program under valgrind, which has to find nothing."""
+    if not lacks(f"{name} under valgrind", "valgrind"):
+        check(f"{name} under valgrind", ["valgrind", "-q", "--error-exitcode=9", *words])
+
+
 def check_headers(*names):
     """Has each compiler read these headers."""
     text = "".join(f'#include "{name}"\n' for name in names)
     for compiler, standard in COMPILERS:
         what = f"{names[0]} by {compiler} -std={standard}"
-        if shutil.which(compiler):
+        if not lacks(what, compiler):
             words = [f"-std={standard}", "-x", standard.rstrip("0123456789"), *STRICT, *OF_HEADERS, "-fsyntax-only", "-"]
             check(what, [compiler, *words], input=text)
-        else:
-            left_out(what, compiler)
 
 
 def try_wrong_bodies(path, package, place, sees):

@@ -71,10 +71,7 @@ def symbols(static, shared, target):
 def unset(static, folder):
     program = folder / "unset"
     if check("unset.c: build", ["cc", "-std=c11", "-O1", "-g", *STRICT, FOLDER / "unset.c", static, "-o", program]):
-        if shutil.which("valgrind"):
-            check("unset.c under valgrind", ["valgrind", "-q", "--error-exitcode=9", program])
-        else:
-            left_out("memory that nothing has set", "valgrind")
+        checks.check_by_valgrind("unset.c", [program])
 
 
 def beside_words(static, folder, *words):

@@ -30,7 +30,7 @@ import tempfile
 sys.dont_write_bytecode = True
 import checks  # noqa: E402
 import compare_gdb  # noqa: E402
-from checks import STRICT, check, check_headers, commands, count, count_of, expect, left_out, run  # noqa: E402
+from checks import STRICT, check, check_headers, commands, count, count_of, expect, lacks, left_out, run  # noqa: E402
 
 import archive  # noqa: E402
 import libraries  # noqa: E402
@@ -39,6 +39,7 @@ from commands import TOP  # noqa: E402
 ARCHIVE = archive.path_of()
 LINKS = ["-ldw", "-lelf"]
 SANITIZERS = ["-g", "-fsanitize=address,undefined", "-fno-sanitize-recover=all"]
+NO_LEAKS = {"ASAN_OPTIONS": "detect_leaks=0"}
 DEBUG = pathlib.Path("/usr/lib/debug")
 ALL = "--all" in sys.argv
 if ALL:
@@ -89,16 +90,12 @@ def callers(folder):
             if not program:
                 continue
             # libdwfl keeps some memory
-            done = run([program, *given], env={"ASAN_OPTIONS": "detect_leaks=0"} if name == "rules" else {})
+            done = run([program, *given], env=NO_LEAKS if name == "rules" else {})
             count_of(f"{name}.c{kind}", done)
 
 
 def compilers(what):
-    for compiler in ["gcc", "clang"]:
-        if shutil.which(compiler):
-            yield compiler
-        else:
-            left_out(f"{what} of {compiler}", compiler)
+    return [compiler for compiler in ("gcc", "clang") if not lacks(f"{what} of {compiler}", compiler)]
 
 
 def programs(folder):
@@ -174,6 +171,13 @@ INNERMOST = "inner = 43"
 WANTED = ["in middle", INNERMOST, "n = 6", "square = 36", "in outermost", "n = 3", "twice = 6", "in main", "argc = 2"]
 
 
+def but_for_libdw(folder):
+    """What tells a sanitizer to report leaks of memory but for libdw's own."""
+    suppressed = folder / "suppressed"
+    suppressed.write_text("leak:libdw\n")
+    return {"LSAN_OPTIONS": f"suppressions={suppressed}:print_suppressions=0"}
+
+
 def where_on(folder, words, where, checked):
     """examples/where.c by itself, with the sanitizers and under valgrind."""
     done = check(f"examples/where.c {words[0]}", [where, *words])
@@ -182,18 +186,12 @@ def where_on(folder, words, where, checked):
     lines = done.stdout.splitlines()
     good = all(line in lines for line in WANTED)
     expect(good, f"examples/where.c {words[0]}: variables", done.stdout)
-    suppressed = folder / "suppressed"
-    suppressed.write_text("leak:libdw\n")
     # a sanitizer of leaks can't trace a process that it is to read itself
-    leaks = "detect_leaks=0" if words[0] == "--pid" else "detect_leaks=1"
-    env = {"ASAN_OPTIONS": leaks, "LSAN_OPTIONS": f"suppressions={suppressed}:print_suppressions=0"}
+    env = NO_LEAKS if words[0] == "--pid" else but_for_libdw(folder)
     again = check(f"examples/where.c {words[0]} with sanitizers", [checked, *words], env=env)
     if again:
         expect(again.stdout == done.stdout, "the same with sanitizers", again.stdout)
-    if shutil.which("valgrind"):
-        check(f"examples/where.c {words[0]} under valgrind", ["valgrind", "-q", "--error-exitcode=9", where, *words])
-    else:
-        left_out(f"examples/where.c {words[0]} under valgrind", "valgrind")
+    checks.check_by_valgrind(f"examples/where.c {words[0]}", [where, *words])
 
 
 def examples(folder):
@@ -231,8 +229,8 @@ def examples(folder):
 
 def stopped_at(folder, source, compiler, words, place):
     """A process that stopped at a place of a program in tests/stopped or tests/libdw, or None."""
-    if not shutil.which(compiler):
-        return left_out(f"{source} by {compiler}", compiler)
+    if lacks(f"{source} by {compiler}", compiler):
+        return None
     program = folder / f"{source}-{compiler}{words[0]}"
     path = next(filter(pathlib.Path.exists, (TOP / "tests" / it / source for it in ("stopped", "libdw"))))
     call = [compiler, "-g", *words, path, "-o", program]
@@ -263,7 +261,7 @@ def frames(folder):
             process = stopped_at(folder, source, compiler, words, place)
             if not program or not process:
                 continue
-            done = run([program, which, process.pid], env={"ASAN_OPTIONS": "detect_leaks=0"})
+            done = run([program, which, process.pid], env=NO_LEAKS)
             process.kill()
             process.wait()
             count_of(f"frames.c, {which}, {' '.join(words)}{kind}", done)
@@ -336,9 +334,7 @@ def hostile(folder):
     program = built(TOP / "tests/libdw/hostile.c", folder / "hostile", "-O1", *SANITIZERS)
     if not program or platform.machine() != "x86_64":
         return left_out("hostile debug information", "x86-64")
-    suppressed = folder / "suppressed"
-    suppressed.write_text("leak:libdw\n")
-    env = {"LSAN_OPTIONS": f"suppressions={suppressed}:print_suppressions=0"}
+    env = but_for_libdw(folder)
     numbers = 4000 if ALL else 130
     jobs = []
     for compiler in compilers("hostile debug information"):

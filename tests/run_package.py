@@ -28,7 +28,7 @@ import time
 
 sys.dont_write_bytecode = True
 import checks  # noqa: E402
-from checks import check, commands, expect, left_out, run  # noqa: E402
+from checks import check, commands, expect, lacks, left_out, run  # noqa: E402
 from commands import TOP  # noqa: E402
 
 ARM = "aarch64-unknown-linux-gnu"
@@ -132,17 +132,21 @@ def files_of(package, by):
     return said and said[1]
 
 
+def flags_of(package, name, env):
+    """The words that pkg-config has for a name in the package, `None` without pkg-config or a library that it wants."""
+    if not shutil.which("pkg-config"):
+        return None
+    asked = {**env, "PKG_CONFIG_PATH": str(package / "lib/pkgconfig")}
+    done = run(["pkg-config", "--cflags", "--libs", name], env=asked)
+    return None if done.returncode else shlex.split(done.stdout)
+
+
 def by_compilers(package, folder, env):
     version = re.search(r'DWEXPR_VERSION "(.*)"', (package / "include/dwexpr.h").read_text())[1]
     source = package / "share/dwexpr/examples/decode.c"
     flags = [f"-I{package / 'include'}", f"-L{package / 'lib'}", "-ldwexpr_run", "-ldwexpr"]
-    if shutil.which("pkg-config"):
-        asked = {**env, "PKG_CONFIG_PATH": str(package / "lib/pkgconfig")}
-        done = run(["pkg-config", "--cflags", "--libs", "dwexpr"], env=asked)
-        expect(done.returncode == 0, "pkg-config", done.stderr)
-        flags = shlex.split(done.stdout)
-    else:
-        left_out("the words of pkg-config", "pkg-config")
+    if not lacks("the words of pkg-config", "pkg-config"):
+        flags = flags_of(package, "dwexpr", env) or []
     program = folder / "decode"
     if check("decode.c by cc", ["cc", "-std=c11", source, *flags, "-o", program], env=env):
         check_decode("decode.c by cc, run", [program], env=env)
@@ -151,8 +155,8 @@ def by_compilers(package, folder, env):
     if check("a caller of dwexpr_run", words, env=env):
         done = run([program], env=env)
         expect(done.stdout == f"0 aabb {version}\n", "a caller of dwexpr_run, run", done.stdout + done.stderr)
-    if not shutil.which("c++"):
-        return left_out("a caller in C++", "c++")
+    if lacks("a caller in C++", "c++"):
+        return
     program = folder / "caller"
     words = ["c++", "-std=c++17", "-Wall", "-Wextra", CALLERS / "caller.cpp", *flags, "-o", program]
     if check("a caller in C++", words, env=env):
@@ -161,17 +165,13 @@ def by_compilers(package, folder, env):
 
 
 def by_libdw(package, folder, env):
-    asked = {**env, "PKG_CONFIG_PATH": str(package / "lib/pkgconfig")}
-    done = run(["pkg-config", "--cflags", "--libs", "dwexpr-libdw"], env=asked) if shutil.which("pkg-config") else None
-    if not done or done.returncode or not (package / OVER_LIBDW[0]).exists():
+    flags = flags_of(package, "dwexpr-libdw", env)
+    if not flags:
         return left_out("examples/variable.c", "libdw for pkg-config")
     source, unit, variable = package / "share/dwexpr/examples/variable.c", folder / "variable.o", folder / "variable"
-    words = shlex.split(done.stdout)
-    check("variable.c by cc", ["cc", "-std=c11", source, *words, "-o", variable], env=env)
-    flags = [it for it in words if it.startswith("-I")]
-    if not shutil.which("nm"):
-        left_out("the functions of a unit", "nm")
-    elif check("variable.c by cc, a unit", ["cc", "-std=c11", "-c", source, *flags, "-o", unit], env=env):
+    check("variable.c by cc", ["cc", "-std=c11", source, *flags, "-o", variable], env=env)
+    words = ["cc", "-std=c11", "-c", source, *(it for it in flags if it.startswith("-I")), "-o", unit]
+    if not lacks("the functions of a unit", "nm") and check("variable.c by cc, a unit", words, env=env):
         said = run(["nm", unit], env=env).stdout
         kinds = set(re.findall(r" (\w) dwexpr_libdw_\w+$", said, re.MULTILINE))
         expect(kinds == {"U"}, "a unit has no function of the library over libdw", said)
@@ -182,12 +182,12 @@ def by_libdw(package, folder, env):
         process.send_signal(signal.SIGSTOP)
         done = run([variable, process.pid, "answer"], env=env)
         process.kill()
-    expect(done.stdout == "answer = 42\n", "variable.c, run", done.stdout + done.stderr)
+    return expect(done.stdout == "answer = 42\n", "variable.c, run", done.stdout + done.stderr)
 
 
 def by_cmake(package, folder, env):
-    if not shutil.which("cmake"):
-        return left_out("a CMake project", "cmake")
+    if lacks("a CMake project", "cmake"):
+        return
     words = ["cmake", "-S", CALLERS, "-B", folder / "made", f"-DCMAKE_PREFIX_PATH={package}"]
     words.append(f"-DEXAMPLES={package / 'share/dwexpr/examples'}")
     configured = check("CMake: configure", words, env=env)
@@ -214,11 +214,9 @@ def by_rustc(folder, env, sources):
     by_compilers(here, folder, env)
     by_libdw(here, folder, env)
     by_cmake(here, folder, env)
-    if shutil.which("pkg-config"):
-        asked = {**env, "PKG_CONFIG_PATH": str(here / "lib/pkgconfig")}
-        done = run(["pkg-config", "--cflags", "--libs", "dwexpr-shared"], env=asked)
+    if flags := flags_of(here, "dwexpr-shared", env):
         program = folder / "with_shared"
-        words = ["cc", here / "share/dwexpr/examples/decode.c", *shlex.split(done.stdout), "-o", program]
+        words = ["cc", here / "share/dwexpr/examples/decode.c", *flags, "-o", program]
         if check("decode.c with the shared library", words, env=env):
             found = {**env, "LD_LIBRARY_PATH": str(here / "lib")}
             check_decode("decode.c with the shared library, run", [program], env=found)
@@ -229,12 +227,8 @@ def by_rustc(folder, env, sources):
 
 def for_arm(folder, env):
     compiler, runner = "aarch64-linux-gnu-gcc", "qemu-aarch64"
-    for program in (compiler, runner):
-        if not shutil.which(program):
-            return left_out(f"the package for {ARM}", program)
-    package = packed(ARM)
-    if not package:
-        return None
+    if lacks(f"the package for {ARM}", compiler, runner) or not (package := packed(ARM)):
+        return
     package = unpacked(package, folder)
     program = folder / "decode_arm"
     words = [compiler, "-static", package / "share/dwexpr/examples/decode.c", f"-I{package / 'include'}"]

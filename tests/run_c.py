@@ -5,8 +5,7 @@
   handler; as they are, and built with the sanitizers of addresses and of undefined behaviour. decode.c is given the
   vectors of tests/vectors/decode.json, cut.c the expressions of tests/rows, and names.c the names of libdw's dwarf.h,
   or the repository's if that lacks them.
-- include: the headers, without a warning as C11, C17 and C++17. The structs of the crate have the fields of dwexpr.h,
-  by name, type and order, and the size. The header asserts the place of each.
+- include: the headers, without a warning as C11, C17 and C++17.
 - examples/decode.c is compared with what it is to print.
 - The archive needs `memset`, and nothing else that it doesn't define.
 
@@ -30,49 +29,14 @@ import libraries  # noqa: E402
 from commands import TOP  # noqa: E402
 
 ARCHIVE = archive.path_of()
-CRATE = TOP / "crates" / archive.CRATE
 SANITIZERS = ["-g", "-fsanitize=address,undefined", "-fno-sanitize-recover=all"]
 # How callers are built here.
 KINDS = {"": ["-O2"], " with sanitizers": SANITIZERS}
 
-STRUCTS = ["encoding", "operation", "text", "step", "value", "outcome", "piece"]
-C_TYPES = {
-    "u8": "uint8_t",
-    "u32": "uint32_t",
-    "u64": "uint64_t",
-    "i64": "int64_t",
-    "usize": "size_t",
-    "*const u8": "const uint8_t *",
-}
 
-
-def fields_of(text, name):
-    """The fields of a repr(C) struct of Rattle or Rust, as C declares them: a slice is a pointer and a length."""
-    head = r"#\[repr\(C\)\]\n#\[derive[^\n]*\n(?:pub )?struct "
-    body = re.search(rf"{head}{name}(?:<'a>)? {{\n(.*?)\n}}", text, re.DOTALL)
-    fields = []
-    for field, kind in re.findall(r"^    (?:pub )?(\w+): (.*),$", body.group(1) if body else "", re.MULTILINE):
-        if kind == "&'a [u8]":
-            fields += [(field, C_TYPES["*const u8"]), ("length", "size_t")]
-        else:
-            fields.append((field, C_TYPES[kind]))
-    return fields
-
-
-def layout():
-    """The crate's structs are those of the header, which asserts the place of each field on each kind of machine."""
+def versions():
+    """The header, the crate and the package for C by rustc have one version."""
     header = (TOP / "include/dwexpr.h").read_text()
-    crate = "\n".join(path.read_text() for path in sorted((CRATE / "src").glob("*.rt")))
-    for name in STRUCTS:
-        body = re.search(rf"typedef struct dwexpr_{name} {{\n(.*?)\n}} dwexpr_{name};", header, re.DOTALL)
-        declared = re.findall(r"^    (const uint8_t \*|\w+)\s*(\w+);", body.group(1), re.MULTILINE)
-        wanted = [(field, kind) for kind, field in declared]
-        asserted = re.findall(rf"DWEXPR_AT\(dwexpr_{name}, (\w+), \d+, \d+, \d+\);", header)
-        in_crate = re.findall(rf"size_of::<Dwexpr{name.title()}>\(\) == (\d+)", crate)
-        in_header = re.findall(rf"DWEXPR_SIZE\(dwexpr_{name}, (\d+), \d+, \d+\);", header)
-        count_one(f"layout of {name}: the crate", fields_of(crate, f"Dwexpr{name.title()}"), wanted)
-        count_one(f"layout of {name}: the fields whose places are asserted", asserted, [field for field, _ in wanted])
-        count_one(f"layout of {name}: the size", (in_crate, len(in_header)), (in_header, 1))
     version = re.search(r'DWEXPR_VERSION "(.*)"', header).group(1)
     for manifest in ("rust/Cargo.toml", "c/Cargo.toml"):
         of_crate = re.search(r'^version = "(.*)"', (TOP / manifest).read_text(), re.MULTILINE).group(1)
@@ -216,7 +180,7 @@ def main():
     with tempfile.TemporaryDirectory() as name:
         folder = pathlib.Path(name)
         check_headers("dwexpr_run.h")
-        layout()
+        versions()
         needs()
         callers(folder, ARCHIVE, KINDS)
         decode(folder)

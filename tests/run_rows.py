@@ -59,8 +59,7 @@ OUTPUTS = {"output", "output_pattern"}
 ERRORS = {"error", "error_pattern"}
 FIELDS = {"name", "words", "program", "by", "status", "input_times", "output_to", "megabytes"}
 FIELDS |= INPUTS | OUTPUTS | ERRORS
-# The faults that carry a number, and what stands in the names of variants as it does in those of C.
-NUMBERED = {"UNSUPPORTED_ADDRESS_SIZE", "UNSUPPORTED_REGISTER", "INVALID_EXPRESSION", "INVALID_PIECE_SIZE"}
+# What stands in the names of variants as it does in those of C.
 ABBREVIATIONS = {"TLS", "CFA"}
 # What bin/dwexpr and bin/build say of a program that isn't proved.
 UNPROVED = re.compile(rb"^bin/.*\n", re.MULTILINE)
@@ -74,7 +73,7 @@ def variant_of(name):
 def listing_of(vector):
     """The row of a vector."""
     words, code = ["ops", *vector["in"].split(), vector["bytes"]], vector.get("code")
-    number = f" {vector.get('detail', 0)}" if code in NUMBERED else ""
+    number = f" {vector['detail']}" if "detail" in vector else ""
     said = f"fault {variant_of(code)}{number}" if code else f"{vector['bytes']} {variant_of(vector['kind'])}"
     name = " ".join(words[1:])
     return {"name": name, "words": words, "input": "", "output": f"0 {said}\n", "status": int(bool(code))}

@@ -14,6 +14,7 @@ import shutil
 import signal
 import subprocess
 import sys
+import tempfile
 import threading
 
 TOP = pathlib.Path(__file__).resolve().parent.parent
@@ -132,6 +133,13 @@ def alone():
             tell("waiting for another command that builds in this checkout")
             fcntl.flock(file, fcntl.LOCK_EX)
         yield
+
+
+@contextlib.contextmanager
+def temporary(**settings):
+    """A folder that is there within a block."""
+    with tempfile.TemporaryDirectory(**settings) as name:
+        yield pathlib.Path(name)
 
 
 def remove(path):

@@ -16,7 +16,6 @@ import re
 import signal
 import subprocess
 import sys
-import tempfile
 
 sys.dont_write_bytecode = True
 import checks  # noqa: E402
@@ -86,11 +85,11 @@ def in_c():
     if not ARCHIVE.exists():
         left_out("the programs in C", "archive that is built")
         return
-    with tempfile.TemporaryDirectory() as folder:
+    with commands.temporary() as folder:
         packed = run([TOP / "bin/package", "--prefix", f"{folder}/package"])
         yield f"bin/package: {packed.stderr}" if packed.returncode else None
         for page, before, program, wanted in programs("c", "int main("):
-            pathlib.Path(folder, "program.c").write_text(program)
+            (folder / "program.c").write_text(program)
             command = BUILD.findall(before)[-1].replace("DIR", f"{folder}/package")
             said = run(["bash", "-ec", f"{command}\n./a.out"], cwd=folder)
             yield None if said.stdout == wanted else f"{page}: a program in C prints\n{said.stdout}{said.stderr}"
@@ -100,7 +99,7 @@ def in_rust():
     """Each program in Rust prints what it says."""
     if lacks("the programs in Rust", "rustc", "rustfmt"):
         return
-    with tempfile.TemporaryDirectory() as folder:
+    with commands.temporary() as folder:
         made = run([TOP / "bin/crate", f"{folder}/crate"])
         yield f"bin/crate: {made.stdout}{made.stderr}" if made.returncode else None
         # Without Cargo, which would look for the crates of the features. It would turn on the default one.
@@ -108,7 +107,7 @@ def in_rust():
         built = run([*words, "--crate-type", "lib", "--crate-name", "dwexpr", "crate/src/lib.rs"], cwd=folder)
         yield f"the crate by rustc: {built.stderr}" if built.returncode else None
         for page, _, program, wanted in programs("rust", "fn main("):
-            pathlib.Path(folder, "program.rs").write_text(program)
+            (folder / "program.rs").write_text(program)
             built = run([*words, "--extern", "dwexpr=libdwexpr.rlib", "program.rs"], cwd=folder)
             said = built if built.returncode else run(["./program"], cwd=folder)
             yield None if said.stdout == wanted else f"{page}: a program in Rust prints\n{said.stdout}{said.stderr}"
@@ -149,8 +148,8 @@ def of_gdb():
     if not version.endswith(f" {named}"):
         left_out(f"what gdb prints, since {version} is there", f"gdb {named}")
         return
-    with tempfile.TemporaryDirectory() as folder:
-        made = pathlib.Path(folder, "units.o")
+    with commands.temporary() as folder:
+        made = folder / "units.o"
         made.write_bytes(units())
         for variables in VARIABLES.values():
             for name, (digits, pattern) in variables.items():

@@ -5,7 +5,6 @@ import pathlib
 import shutil
 import subprocess
 import sys
-import tempfile
 
 sys.path.insert(0, str(pathlib.Path(__file__).resolve().parent.parent / "bin"))
 import commands  # noqa: E402
@@ -93,12 +92,12 @@ def try_wrong_bodies(path, package, place, sees):
     sees the copy, which it gets with a folder to work in; "" if nothing does."""
 
     def tried(edit):
-        with tempfile.TemporaryDirectory(prefix="wrong-body-") as name:
-            copy = pathlib.Path(name, "package")
+        with commands.temporary(prefix="wrong-body-") as name:
+            copy = name / "package"
             shutil.copytree(package, copy, ignore=shutil.ignore_patterns("target"))
             try:
                 edit.apply(copy / place)
-                by = sees(copy, pathlib.Path(name))
+                by = sees(copy, name)
             except commands.Failure as failure:
                 return False, f"{failure}\n{failure.said}"
             return bool(by), by or "nothing sees it"

@@ -19,7 +19,6 @@ import pathlib
 import re
 import resource
 import sys
-import tempfile
 
 sys.dont_write_bytecode = True
 import checks  # noqa: E402
@@ -125,8 +124,7 @@ def main():
     if lacks("the Rust crate beside the archive", "rustc", "rustfmt"):
         return
     archive_folder()
-    with tempfile.TemporaryDirectory(prefix="beside-archive-") as name:
-        folder = pathlib.Path(name)
+    with commands.temporary(prefix="beside-archive-") as folder:
         crate, lines = folder / "crate", folder / "cases"
         commands.run(TOP / "bin/crate", crate)
         lines.write_text(cases(), encoding="utf-8")

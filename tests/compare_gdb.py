@@ -24,7 +24,6 @@ import shutil
 import signal
 import subprocess
 import sys
-import tempfile
 import time
 
 sys.dont_write_bytecode = True
@@ -55,8 +54,8 @@ OTHERS = [
         ["-gdwarf-5", "-gdwarf64"],
         ["-gdwarf-5", "-m32"],
     ]
-    for source, compilers in [("pieces.c", ["gcc", "clang"]), ("scopes.cpp", ["g++", "clang++"])]
-    for compiler in compilers
+    for source in ("pieces.c", "scopes.cpp")
+    for compiler in COMPILERS[pathlib.Path(source).suffix]
     # gdb 13 takes registers on entry of an inlined function on i386 as they are now, and doesn't find the location
     # lists of clang's split debug information of version 5
     for optimization in (["-O0"] if "-m32" in words or (compiler[:5], *words) == NO_LISTS else ["-O0", "-O2"])
@@ -240,8 +239,7 @@ def compare_program(where, source, compiler, words):
     sums = {"process": collections.Counter(), "core dump": collections.Counter()}
     lines = []
     places = max(int(number) for number in re.findall(r"(?i)stop!?\((\d+)\)", source.read_text()))
-    with tempfile.TemporaryDirectory() as made:
-        folder = pathlib.Path(made)
+    with commands.temporary() as folder:
         program = folder / "stopped"
         built = run([*build_words(source, compiler, words), program], cwd=folder)
         if built.returncode != 0:
@@ -290,8 +288,8 @@ def main():
     _, words = parser.parse_known_args()
     if not (jobs := jobs_of(words)):
         raise commands.Failure("no program has all of these words, or its compiler is missing", status=2)
-    with tempfile.TemporaryDirectory() as made:
-        where = pathlib.Path(made) / "where"
+    with commands.temporary() as made:
+        where = made / "where"
         links = [libraries.build("libdw", where.parent, "-O2"), ARCHIVE, "-ldw", "-lelf", "-o", where]
         commands.run("cc", "-std=c11", "-O2", f"-I{TOP / 'include'}", TOP / "examples/where.c", *links)
         sums = compare_all(where, jobs)

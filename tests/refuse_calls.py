@@ -22,9 +22,7 @@ The last line is `N passed, M failed`, of the runs; the status is 1 if a run fai
 import errno
 import itertools
 import os
-import pathlib
 import sys
-import tempfile
 
 sys.dont_write_bytecode = True
 import checks  # noqa: E402
@@ -54,8 +52,8 @@ def wanted_of(row):
 
 
 def run(library, refused, row, failure=errno.EIO, text=None):
-    """What a row prints on its input or this one, its status, and what it says on standard error, if these calls, one of
-    a kind, are refused."""
+    """What a row prints on its input or this one, its status, and what it says on standard error, if these calls, one
+    of a kind, are refused."""
     numbers = {f"REFUSED_{kind}": str(number) for kind, number in refused.items()}
     env = {**os.environ, "LD_PRELOAD": str(library), "REFUSED_WITH": str(failure), **numbers}
     words = [run_rows.bytes_of(word).decode() for word in row["words"]]
@@ -126,8 +124,8 @@ def interrupt(library, kind, buffer):
 def main():
     commands.words_of(__doc__)
     commands.run(TOP / "bin/build", stderr=None)
-    with tempfile.TemporaryDirectory() as folder:
-        library = pathlib.Path(folder) / "refuse.so"
+    with commands.temporary() as folder:
+        library = folder / "refuse.so"
         words = ["cc", "-std=c11", "-O1", "-Wall", "-Wextra", "-Werror", "-shared", "-fPIC"]
         words += [str(TOP / "tests" / "refuse.c"), "-o", str(library)]
         commands.run(*words)

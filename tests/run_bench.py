@@ -7,10 +7,8 @@ is left out.
 """
 
 import os
-import pathlib
 import re
 import sys
-import tempfile
 
 sys.dont_write_bytecode = True
 import checks  # noqa: E402
@@ -28,8 +26,8 @@ def main():
     commands.words_of(__doc__)
     if not (os.environ.get("DWEXPR_GIMLI") and os.environ.get("DWEXPR_ARRAYVEC")):
         return left_out("bench", "folder with gimli, or with arrayvec, that is named")
-    with tempfile.TemporaryDirectory() as folder:
-        one = pathlib.Path(folder, "one.tsv")
+    with commands.temporary() as folder:
+        one = folder / "one.tsv"
         one.write_text(EXPRESSION, encoding="ascii")
         said = commands.run(TOP / "bench/run", "no work", one)
     print(said, end="")

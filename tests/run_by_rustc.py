@@ -17,11 +17,9 @@ has to fail. What is missing is left out, and said so. The last line is `N passe
 """
 
 import functools
-import pathlib
 import re
 import shutil
 import sys
-import tempfile
 
 sys.dont_write_bytecode = True
 import checks  # noqa: E402
@@ -149,8 +147,7 @@ def main():
     words = parser.parse_args()
     if lacks("the library for C by rustc", "cargo", "rustc", "rustfmt", "cc", "objcopy", "nm", "readelf"):
         return None
-    with tempfile.TemporaryDirectory(prefix="by-rustc-") as name:
-        folder = pathlib.Path(name)
+    with commands.temporary(prefix="by-rustc-") as folder:
         package = folder / "package"
         by_rustc.write(package)
         if words.wrong_bodies:

@@ -13,11 +13,9 @@ It wants cc; what else is missing is left out, and said so. The last line is `N 
 """
 
 import json
-import pathlib
 import re
 import shutil
 import sys
-import tempfile
 
 sys.dont_write_bytecode = True
 import checks  # noqa: E402
@@ -177,8 +175,7 @@ def main():
     commands.need("cc")
     with commands.alone():
         archive.build()
-    with tempfile.TemporaryDirectory() as name:
-        folder = pathlib.Path(name)
+    with commands.temporary() as folder:
         check_headers("dwexpr_run.h")
         versions()
         needs()

@@ -18,7 +18,6 @@ import pathlib
 import re
 import shutil
 import sys
-import tempfile
 
 sys.dont_write_bytecode = True
 import checks  # noqa: E402
@@ -68,8 +67,8 @@ def write_app(top):
 
 def try_path():
     """Such a package needs none of the crates of features that are off."""
-    with tempfile.TemporaryDirectory() as top:
-        write_app(pathlib.Path(top))
+    with commands.temporary() as top:
+        write_app(top)
         check("a package without other crates", ["cargo", "run", "--quiet", "--offline"], cwd=f"{top}/app")
 
 
@@ -111,8 +110,7 @@ def main():
     words = parser.parse_args()
     if lacks("the Rust crate", "cargo", "rustfmt"):
         return
-    with tempfile.TemporaryDirectory() as name:
-        folder = pathlib.Path(name)
+    with commands.temporary() as folder:
         crate = folder / "crate"
         commands.run(TOP / "bin/crate", crate)
         found = find_crates(folder)

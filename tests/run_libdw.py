@@ -25,7 +25,6 @@ import re
 import shutil
 import struct
 import sys
-import tempfile
 
 sys.dont_write_bytecode = True
 import checks  # noqa: E402
@@ -368,8 +367,7 @@ def main():
     parser.add_argument("--all", action="store_true", help=said)
     parser.parse_args()
     commands.need("cc")
-    with tempfile.TemporaryDirectory() as name:
-        folder = pathlib.Path(name)
+    with commands.temporary() as folder:
         if not has_libdw(folder):
             return left_out("include/dwexpr_libdw.h and the examples over it", "libdw")
         with commands.alone():

@@ -23,7 +23,6 @@ import signal
 import subprocess
 import sys
 import tarfile
-import tempfile
 import time
 
 sys.dont_write_bytecode = True
@@ -102,8 +101,8 @@ def environment(home):
 
 def crate_files(packed):
     """The names of the files of the Rust crate, which are those that were packed."""
-    with tempfile.TemporaryDirectory() as name:
-        crate = pathlib.Path(name, "dwexpr")
+    with commands.temporary() as name:
+        crate = name / "dwexpr"
         check("bin/crate", [TOP / "bin/crate", crate])
         names = [it.relative_to(crate) for it in crate.rglob("*") if it.is_file()]
         same = all((packed / it).exists() and (packed / it).read_bytes() == (crate / it).read_bytes() for it in names)
@@ -238,8 +237,7 @@ def for_arm(folder, env):
 
 def main():
     commands.words_of(__doc__)
-    with tempfile.TemporaryDirectory() as name:
-        folder = pathlib.Path(name)
+    with commands.temporary() as folder:
         home = folder / "home"
         home.mkdir()
         env = environment(home)

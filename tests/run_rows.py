@@ -31,13 +31,11 @@ import collections
 import contextlib
 import json
 import os
-import pathlib
 import re
 import resource
 import shutil
 import subprocess
 import sys
-import tempfile
 
 sys.dont_write_bytecode = True
 import checks  # noqa: E402
@@ -236,8 +234,7 @@ def gimli_complaints():
 
 def unproved_complaints(rows):
     """What is wrong with the answers of bin/dwexpr where there is no proved program: by each row's name."""
-    with tempfile.TemporaryDirectory() as folder:
-        top = pathlib.Path(folder)
+    with commands.temporary() as top:
         for name in ("bin", "crates", "include"):
             shutil.copytree(TOP / name, top / name, ignore=shutil.ignore_patterns("out"))
         shutil.copy(TOP / "crates.txt", top)

@@ -16,7 +16,6 @@ import pathlib
 import re
 import shutil
 import sys
-import tempfile
 
 sys.dont_write_bytecode = True
 import checks  # noqa: E402
@@ -69,10 +68,10 @@ def main():
     words = parser.parse_args()
     if not shutil.which("cargo"):
         return left_out("gimli's own tests", "cargo")
-    with tempfile.TemporaryDirectory() as name:
-        commands.run(TOP / "bin/crate", pathlib.Path(name) / "crate")
-        find_crates(pathlib.Path(name))
-        folder = pathlib.Path(name) / "upstream"
+    with commands.temporary() as name:
+        commands.run(TOP / "bin/crate", name / "crate")
+        find_crates(name)
+        folder = name / "upstream"
         shutil.copytree(TOP / "tests/upstream", folder)
         all_names, unlisted = [], set()
         known = json.loads((TOP / "tests/gimli.json").read_text(encoding="utf-8"))

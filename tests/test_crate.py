@@ -11,12 +11,10 @@ import importlib.machinery
 import importlib.util
 import itertools
 import os
-import pathlib
 import resource
 import shutil
 import subprocess
 import sys
-import tempfile
 
 sys.dont_write_bytecode = True
 import checks  # noqa: E402
@@ -129,14 +127,14 @@ def written(crates, folder, kind=crate.RUST):
 
 def with_change(module, old, new, kind):
     """What is written if one file has a change."""
-    with tempfile.TemporaryDirectory() as folder:
-        crates, path = pathlib.Path(folder) / "crates", path_of(module, kind)
+    with commands.temporary() as folder:
+        crates, path = folder / "crates", path_of(module, kind)
         for name in kind.crates:
             shutil.copytree(TOP / "crates" / name / "src", crates / name / "src")
         text = (crates / path).read_text()
         expect(old in text, f"{path} has no {old!r}")
         (crates / path).write_text(text.replace(old, new, 1))
-        return written(crates, pathlib.Path(folder) / "sources", kind)
+        return written(crates, folder / "sources", kind)
 
 
 def without_commas(found):
@@ -310,8 +308,7 @@ def try_kind(folder, kind, refused, taken, looked_at):
 
 def main():
     commands.words_of(__doc__)
-    with tempfile.TemporaryDirectory() as folder:
-        folder = pathlib.Path(folder)
+    with commands.temporary() as folder:
         try_kind(folder, crate.RUST, REFUSED, TAKEN, ("base/mod", "value/word", "eval/store/lists"))
         try_kind(folder, crate.C, REFUSED_OF_C, TAKEN_OF_C, ("c/mod", "c/held", "c/pieces"))
         try_other_text(folder)

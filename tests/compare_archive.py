@@ -37,6 +37,7 @@ SECONDS = 3600
 # Wrong bodies may fill what memory there is.
 MEMORY = 4 << 30
 RUSTC = ["rustc", "--edition", "2024", "-O", "-C", "overflow-checks=on", "-C", "debug-assertions=on"]
+CRATE = ["--crate-type", "lib", "--crate-name", "dwexpr", "--cfg", 'feature="alloc"']
 EXPRESSION = re.compile(r"(eval|ops) ([1-8]) ([48]) ([2-5]) (le|be) ((?:[0-9a-fA-F]{2})+|-)")
 DIFFERENCE = re.compile(r"^DIFFERS (.*?): (.*\n.*\n.*)\n", re.MULTILINE)
 
@@ -79,7 +80,7 @@ def build(crate, folder):
     library = folder / "libdwexpr.rlib"
     uses = ["-L", archive_folder(), "--extern", f"dwexpr={library}"]
     for words in (
-        ["--crate-type", "lib", "--crate-name", "dwexpr", crate / "src" / "lib.rs", "-o", library],
+        [*CRATE, crate / "src" / "lib.rs", "-o", library],
         ["-D", "warnings", *uses, PROGRAM / "main.rs", "-o", folder / "beside_archive"],
     ):
         commands.run(*RUSTC, *words)

@@ -2,7 +2,7 @@
 """Makes the library for C by rustc, of the package that `bin/crate --c` writes, and tests it.
 
 - Cargo builds it without a warning and without another crate. The static library's global symbols and the shared one's
-  are the exports of tests/by_rustc/exports alone, what they need is in that list, and the shared one has its soname.
+  are the calls of dwexpr.h alone, tests/by_rustc/needs has what they need, and the shared one has its soname.
 - The callers of tests/c, as they are and with the sanitizers.
 - Calls with memory that nothing has set, under valgrind.
 - tests/by_rustc/beside.c: beside the proved archive in one process, 1,000,000 made-up decodings, evaluations and
@@ -31,6 +31,7 @@ import by_rustc  # noqa: E402
 from commands import TOP  # noqa: E402
 
 FOLDER = TOP / "tests" / "by_rustc"
+SONAME = "libdwexpr.so.0.1"
 COUNT, WRONG_BODIES_COUNT = 1_000_000, 20_000
 CALLERS = sorted((TOP / "tests" / "c").glob("*.c"))
 # Each other target, and its emulator.
@@ -42,28 +43,23 @@ TARGETS = {
 PRINTED = "the frame base and -16\nat 0x2ff0\n"
 
 
-def listed(kind):
-    """What the list says of the libraries."""
-    lines = (FOLDER / "exports").read_text(encoding="utf-8").splitlines()
-    return {line.partition(" ")[2] for line in lines if line.startswith(f"{kind} ")}
-
-
 def symbols(static, shared, target):
     """The symbols of both libraries for a target, and the name of the shared one."""
-    expect(set(by_rustc.exports()) == listed("exports"), "the exports are those of dwexpr.h")
+    exports, lines = set(by_rustc.exports()), (FOLDER / "needs").read_text(encoding="utf-8").splitlines()
+    allowed = {line for line in lines if not line.startswith("#")}
     said = run([by_rustc.tool_of(target, "nm"), "-g", static]).stdout
     defined = set(re.findall(r" [TDBRVW] (\w+)$", said, re.MULTILINE))
     needed = set(re.findall(r" [Uw] (\w+)$", said, re.MULTILINE))
-    expect(defined == listed("exports"), "the static library's symbols", f"{sorted(defined)}")
-    expect(needed <= listed("needs"), "what the static library needs", f"{sorted(needed)}")
+    expect(defined == exports, "the static library's symbols", f"{sorted(defined)}")
+    expect(needed <= allowed, "what the static library needs", f"{sorted(needed)}")
     if not shared:
         return
     said = run(["readelf", "--dyn-syms", "-dW", shared]).stdout
     names = re.findall(r" (GLOBAL|WEAK) +DEFAULT +(\w+) (\w+)", said)
-    expect({name for _, at, name in names if at != "UND"} == listed("exports"), "the shared library's symbols", said)
+    expect({name for _, at, name in names if at != "UND"} == exports, "the shared library's symbols", said)
     needed = {name for bound, at, name in names if at == "UND" and bound == "GLOBAL"}
-    expect(needed <= listed("needs"), "what the shared library needs", f"{sorted(needed)}")
-    expect(set(re.findall(r"soname: \[(.*)\]", said)) == listed("soname"), "the shared library's name", said)
+    expect(needed <= allowed, "what the shared library needs", f"{sorted(needed)}")
+    expect(re.findall(r"soname: \[(.*)\]", said) == [SONAME], "the shared library's name", said)
 
 
 def unset(static, folder):

@@ -13,7 +13,6 @@ import itertools
 import os
 import resource
 import shutil
-import subprocess
 import sys
 
 sys.dont_write_bytecode = True
@@ -190,7 +189,7 @@ def try_wrong_deletions(folder):
 
 
 def run(*words, **settings):
-    return subprocess.run([TOP / "bin/crate", *words], capture_output=True, text=True, check=False, **settings)
+    return checks.run([TOP / "bin/crate", *words], **settings)
 
 
 def contents(folder):

@@ -52,7 +52,7 @@ def case_of(row):
         return None
     command, *columns = said.groups()
     if command == "eval":
-        columns += run_rows.input_bytes_of(row).decode().replace("\r\n", "\n").splitlines()
+        columns += run_rows.bytes_of(row["input"]).decode().replace("\r\n", "\n").splitlines()
     return "\t".join(columns)
 
 

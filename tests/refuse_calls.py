@@ -43,7 +43,7 @@ FEW = [row for row in ROWS if row not in MANY]
 
 
 def input_of(row):
-    return run_rows.input_bytes_of(row).decode()
+    return run_rows.bytes_of(row["input"]).decode()
 
 
 def wanted_of(row):

@@ -1,11 +1,10 @@
 #!/usr/bin/env python3
 """Runs each row of tests/rows on the built program and compares what it prints and its status.
 
-A row has a name, the program's words, its input (`input`, or `input_hex` for bytes that aren't text), and the output
-and the status that are wanted. A word, an input or an output is a text; `{"hex": ..}`, its bytes as digits; or a list
-of parts, each a text or a pair of a text and how often it stands. A row may say besides
+A row has a name, the program's words, its input, and the output and the status that are wanted. A word, an input or an
+output is a text; `{"hex": ..}`, its bytes as digits; or a list of parts, each a text or a pair of a text and how often
+it stands. A row may say besides
 - `program`: the program's name, the word before its words;
-- `input_times`: how often the input stands, one after another;
 - `input_from`: in place of an input, a `directory`, whose read fails, or a pipe that stays `open` and gives nothing;
 - `output_to`: `full`, a device on which every write fails, or `closed`, a pipe that nobody reads, with the signal of
   that ignored;
@@ -52,10 +51,10 @@ UNPROVED_PROGRAM = PROGRAM.parent / "unproved" / PROGRAM.name
 SECONDS = 60
 # Of a row whose program may have to be built.
 BUILD_SECONDS = 600
-INPUTS = {"input", "input_hex", "input_from"}
+INPUTS = {"input", "input_from"}
 OUTPUTS = {"output", "output_pattern"}
 ERRORS = {"error", "error_pattern"}
-FIELDS = {"name", "words", "program", "by", "status", "input_times", "output_to", "megabytes"}
+FIELDS = {"name", "words", "program", "by", "status", "output_to", "megabytes"}
 FIELDS |= INPUTS | OUTPUTS | ERRORS
 # What stands in the names of variants as it does in those of C.
 ABBREVIATIONS = {"TLS", "CFA"}
@@ -114,12 +113,6 @@ def bytes_of(text):
     return b"".join(part.encode("utf-8") * times for part, times in parts)
 
 
-def input_bytes_of(row):
-    """The bytes of the row's input."""
-    text = bytes.fromhex(row["input_hex"]) if "input_hex" in row else bytes_of(row.get("input", ""))
-    return text * row.get("input_times", 1)
-
-
 @contextlib.contextmanager
 def input_of(row):
     """What the program reads from: bytes, a directory, or a pipe that nobody writes to."""
@@ -137,7 +130,7 @@ def input_of(row):
             os.close(reader)
             os.close(writer)
     else:
-        yield {"input": input_bytes_of(row)}
+        yield {"input": bytes_of(row["input"])}
 
 
 @contextlib.contextmanager

@@ -83,7 +83,8 @@ def check_headers(*names):
     for compiler, standard in COMPILERS:
         what = f"{names[0]} by {compiler} -std={standard}"
         if not lacks(what, compiler):
-            words = [f"-std={standard}", "-x", standard.rstrip("0123456789"), *STRICT, *OF_HEADERS, "-fsyntax-only", "-"]
+            language = standard.rstrip("0123456789")
+            words = [f"-std={standard}", "-x", language, *STRICT, *OF_HEADERS, "-fsyntax-only", "-"]
             check(what, [compiler, *words], input=text)
 
 

@@ -278,8 +278,7 @@ impl<R: Reader + Copy, S: EvaluationStorage<R>> Evaluation<R, S> {
     }
 }
 
-/// The resumes, each with the kind of request that has to be open.
-macro_rules! resumes {
+macro_rules! checked_resumes {
     ($($(#[$doc:meta])+ $name:ident($argument:ident: $type:ty) for $kind:ident;)+) => {
         impl<R: Reader + Copy, S: EvaluationStorage<R>> Evaluation<R, S> {
             $(
@@ -305,33 +304,7 @@ macro_rules! resumes {
     };
 }
 
-resumes! {
-    /// Answers `RequiresMemory` with the content of memory.
-    resume_with_memory(value: Value) for Memory;
-    /// Answers `RequiresRegister` with the content of the register.
-    resume_with_register(value: Value) for Register;
-    /// Answers `RequiresWasmLocal`, `RequiresWasmGlobal` or `RequiresWasmStack`.
-    resume_with_wasm_value(value: Value) for WasmValue;
-    /// Answers `RequiresFrameBase` with the frame base.
-    resume_with_frame_base(frame_base: u64) for FrameBase;
-    /// Answers `RequiresTls` with the address in thread-local storage.
-    resume_with_tls(value: u64) for Tls;
-    /// Answers `RequiresCallFrameCfa` with the canonical frame address.
-    resume_with_call_frame_cfa(cfa: u64) for CallFrameCfa;
-    /// Answers `RequiresAtLocation` with the expression to evaluate in the call's place, which is empty if the entry
-    /// has none. It is read in its own byte order.
-    resume_with_at_location(bytes: R) for AtLocation;
-    /// Answers `RequiresEntryValue` with the value of the expression at the function's entry.
-    resume_with_entry_value(entry_value: Value) for EntryValue;
-    /// Answers `RequiresParameterRef` with the value of the parameter.
-    resume_with_parameter_ref(parameter_value: u64) for ParameterRef;
-    /// Answers `RequiresRelocatedAddress` with the relocated address.
-    resume_with_relocated_address(address: u64) for RelocatedAddress;
-    /// Answers `RequiresIndexedAddress` with the address or the constant at the index.
-    resume_with_indexed_address(address: u64) for IndexedAddress;
-    /// Answers `RequiresBaseType` with the base type.
-    resume_with_base_type(base_type: ValueType) for BaseType;
-}
+resumes!(checked_resumes);
 
 impl<R: Reader + Copy, S: EvaluationStorage<R>> fmt::Debug for Evaluation<R, S> {
     fn fmt(&self, f: &mut fmt::Formatter<'_>) -> fmt::Result {

@@ -261,7 +261,7 @@ fn InvalidPieceSize(_: u64) -> gimli::Error {
 
 /// The same of types of which gimli's has more values: `From` into gimli's, and what comes of these.
 macro_rules! into_gimli {
-    ($type:ident: $($name:ident $(($x:ident))?)+) => {
+    ($type:ident: $($name:ident $(($x:ident))? $($text:literal;)?)+) => {
         impl From<$type> for gimli::$type {
             #[inline]
             fn from(ours: $type) -> Self {
@@ -292,9 +292,4 @@ macro_rules! into_gimli {
 
 into_gimli!(both ValueType: Generic I8 U8 I16 U16 I32 U32 I64 U64);
 into_gimli!(both Value: Generic(x) I8(x) U8(x) I16(x) U16(x) I32(x) U32(x) I64(x) U64(x));
-into_gimli! { Error:
-    UnexpectedEof(x) BadUnsignedLeb128 BadSignedLeb128 UnsupportedAddressSize(x) UnsupportedOffset
-    UnsupportedRegister(x) InvalidExpression(x) InvalidPieceSize(x) UnsupportedTypeOperation TypeMismatch DivisionByZero
-    InvalidShiftExpression NotEnoughStackItems InvalidDerefSize(x) InvalidPushObjectAddress UnsupportedEvaluation
-    BadBranchTarget(x) TooManyIterations InvalidPiece InvalidExpressionTerminator(x) StackFull
-}
+errors!(into_gimli);

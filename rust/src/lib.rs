@@ -44,6 +44,11 @@ extern crate alloc;
 #[rustfmt::skip]
 mod sources;
 
+#[macro_use]
+// Which of them are taken depends on the features.
+#[allow(unused_macros)]
+mod lists;
+
 #[cfg(feature = "gimli")]
 mod conversions;
 mod errors;

@@ -1,6 +1,5 @@
 //! Conversions between operations, and between requests, here and in gimli. Before 0.34 gimli has fewer of both.
 
-use crate::operations::operations;
 use crate::{EvaluationResult, GimliReader, Operation};
 
 /// Conversions both ways between types of the same name, whose variants have the same fields. One in brackets is a
@@ -32,10 +31,4 @@ macro_rules! as_gimlis {
 }
 
 operations!(as_gimlis);
-
-as_gimlis! { EvaluationResult:
-    Complete, RequiresMemory { address size space base_type }, RequiresRegister { register base_type },
-    RequiresWasmLocal { index }, RequiresWasmGlobal { index }, RequiresWasmStack { index }, RequiresFrameBase,
-    RequiresTls(x), RequiresCallFrameCfa, RequiresAtLocation(x), RequiresEntryValue(x), RequiresParameterRef(x),
-    RequiresRelocatedAddress(x), RequiresIndexedAddress { index relocate }, RequiresBaseType(x),
-}
+replies!(as_gimlis);

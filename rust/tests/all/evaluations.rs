@@ -15,17 +15,6 @@ fn a_call_out_of_turn_panics() {
     assert_eq!(breg7.evaluate(), Ok(RequiresRegister { register: Register(7), base_type: UnitOffset(0) }));
     assert!(panics(|| breg7.evaluate()));
     assert!(panics(|| breg7.set_initial_value(1)));
-    assert!(panics(|| breg7.resume_with_memory(Value::Generic(1))));
-    assert!(panics(|| breg7.resume_with_wasm_value(Value::Generic(1))));
-    assert!(panics(|| breg7.resume_with_frame_base(1)));
-    assert!(panics(|| breg7.resume_with_tls(1)));
-    assert!(panics(|| breg7.resume_with_call_frame_cfa(1)));
-    assert!(panics(|| breg7.resume_with_at_location(little(&[]))));
-    assert!(panics(|| breg7.resume_with_entry_value(Value::Generic(1))));
-    assert!(panics(|| breg7.resume_with_parameter_ref(1)));
-    assert!(panics(|| breg7.resume_with_relocated_address(1)));
-    assert!(panics(|| breg7.resume_with_indexed_address(1)));
-    assert!(panics(|| breg7.resume_with_base_type(ValueType::I8)));
     assert!(panics(|| breg7.value_result()));
     assert_eq!(breg7.resume_with_register(Value::Generic(0x7000)), Ok(Complete));
     assert!(panics(|| breg7.resume_with_register(Value::Generic(1))));
@@ -38,64 +27,76 @@ fn a_call_out_of_turn_panics() {
     assert!(panics(|| lit1.result()));
 }
 
+/// What a resume is handed: 5, no bytes, or a type.
+trait Sample {
+    fn sample() -> Self;
+}
+
+macro_rules! samples {
+    ($($type:ty: $sample:expr;)+) => {
+        $(impl Sample for $type {
+            fn sample() -> Self {
+                $sample
+            }
+        })+
+    };
+}
+
+samples! { Value: Value::Generic(5); u64: 5; Little<'_>: little(&[]); ValueType: ValueType::I8; }
+
+macro_rules! answer_in_turn {
+    ($($(#[$doc:meta])+ $name:ident($argument:ident: $type:ty) for $kind:ident;)+) => {
+        /// Makes the call of each resume, of which one alone is allowed. That completes the evaluation. Its kind.
+        fn answer_in_turn(it: &mut Evaluation<Little<'_>>) -> WaitingKind {
+            let Status::Waiting(open) = it.status() else { panic!("{it:?}") };
+            $(if open != WaitingKind::$kind {
+                assert!(panics(|| it.$name(Sample::sample())), "{open:?} by {}", stringify!($name));
+            })+
+            match open {
+                $(WaitingKind::$kind => assert_eq!(it.$name(Sample::sample()), Ok(Complete)),)+
+            }
+            open
+        }
+    };
+}
+
+resumes!(answer_in_turn);
+
 #[test]
 fn each_request_is_answered_by_its_resume() {
-    fn ends(evaluation: Evaluation<Little<'_>>, top: u64) {
-        assert_eq!(evaluation.value_result(), Some(Value::Generic(top)));
+    let rows: [(&[u8], Value); 15] = [
+        // DW_OP_lit1, DW_OP_deref; DW_OP_breg7 1; DW_OP_fbreg 1; DW_OP_call_frame_cfa.
+        (&[0x31, 0x06], Value::Generic(5)),
+        (&[0x77, 1], Value::Generic(6)),
+        (&[0x91, 1], Value::Generic(6)),
+        (&[0x9c], Value::Generic(5)),
+        // DW_OP_lit1, DW_OP_form_tls_address; DW_OP_entry_value of DW_OP_reg5; DW_OP_GNU_parameter_ref 9.
+        (&[0x31, 0x9b], Value::Generic(5)),
+        (&[0xa3, 1, 0x55], Value::Generic(5)),
+        (&[0xfa, 9, 0, 0, 0], Value::Generic(5)),
+        // DW_OP_addr 1; DW_OP_addrx 2; DW_OP_constx 2.
+        (&[0x03, 1, 0, 0, 0, 0, 0, 0, 0], Value::Generic(5)),
+        (&[0xa1, 2], Value::Generic(5)),
+        (&[0xa2, 2], Value::Generic(5)),
+        // DW_OP_WASM_location: a local, a global and an item of the stack, each with the index 3.
+        (&[0xed, 0, 3], Value::Generic(5)),
+        (&[0xed, 1, 3], Value::Generic(5)),
+        (&[0xed, 2, 3], Value::Generic(5)),
+        // DW_OP_lit4, DW_OP_call2 5; DW_OP_const_type of the type at 4, with one byte.
+        (&[0x34, 0x98, 5, 0], Value::Generic(4)),
+        (&[0xa4, 4, 1, 0xff], Value::I8(-1)),
+    ];
+    let mut kinds = Vec::new();
+    for (bytes, value) in rows {
+        let mut it = evaluation(bytes);
+        it.evaluate().unwrap();
+        let kind = answer_in_turn(&mut it);
+        assert_eq!(it.value_result(), Some(value));
+        if !kinds.contains(&kind) {
+            kinds.push(kind);
+        }
     }
-    // DW_OP_lit1, DW_OP_deref; DW_OP_fbreg 1; DW_OP_call_frame_cfa; DW_OP_lit1, DW_OP_form_tls_address.
-    let mut it = evaluation(&[0x31, 0x06]);
-    let memory = RequiresMemory { address: 1, size: 8, space: None, base_type: UnitOffset(0) };
-    assert_eq!(it.evaluate(), Ok(memory));
-    assert_eq!(it.resume_with_memory(Value::Generic(5)), Ok(Complete));
-    ends(it, 5);
-    let mut it = evaluation(&[0x91, 1]);
-    assert_eq!(it.evaluate(), Ok(RequiresFrameBase));
-    assert_eq!(it.resume_with_frame_base(5), Ok(Complete));
-    ends(it, 6);
-    let mut it = evaluation(&[0x9c]);
-    assert_eq!(it.evaluate(), Ok(RequiresCallFrameCfa));
-    assert_eq!(it.resume_with_call_frame_cfa(5), Ok(Complete));
-    ends(it, 5);
-    let mut it = evaluation(&[0x31, 0x9b]);
-    assert_eq!(it.evaluate(), Ok(RequiresTls(1)));
-    assert_eq!(it.resume_with_tls(5), Ok(Complete));
-    ends(it, 5);
-    // DW_OP_entry_value of DW_OP_reg5; DW_OP_GNU_parameter_ref 9; DW_OP_addr 1; DW_OP_addrx 2; DW_OP_constx 2.
-    let mut it = evaluation(&[0xa3, 1, 0x55]);
-    assert_eq!(it.evaluate(), Ok(RequiresEntryValue(Expression(little(&[0x55])))));
-    assert_eq!(it.resume_with_entry_value(Value::Generic(5)), Ok(Complete));
-    ends(it, 5);
-    let mut it = evaluation(&[0xfa, 9, 0, 0, 0]);
-    assert_eq!(it.evaluate(), Ok(RequiresParameterRef(UnitOffset(9))));
-    assert_eq!(it.resume_with_parameter_ref(5), Ok(Complete));
-    ends(it, 5);
-    let mut it = evaluation(&[0x03, 1, 0, 0, 0, 0, 0, 0, 0]);
-    assert_eq!(it.evaluate(), Ok(RequiresRelocatedAddress(1)));
-    assert_eq!(it.resume_with_relocated_address(5), Ok(Complete));
-    ends(it, 5);
-    for (opcode, relocate) in [(0xa1, true), (0xa2, false)] {
-        let bytes = [opcode, 2];
-        let mut it = evaluation(&bytes);
-        assert_eq!(it.evaluate(), Ok(RequiresIndexedAddress { index: dwexpr::DebugAddrIndex(2), relocate }));
-        assert_eq!(it.resume_with_indexed_address(5), Ok(Complete));
-        ends(it, 5);
-    }
-    // DW_OP_WASM_location: a local, a global and an item of the stack, each with the index 3.
-    for (kind, request) in
-        [(0, RequiresWasmLocal { index: 3 }), (1, RequiresWasmGlobal { index: 3 }), (2, RequiresWasmStack { index: 3 })]
-    {
-        let bytes = [0xed, kind, 3];
-        let mut it = evaluation(&bytes);
-        assert_eq!(it.evaluate(), Ok(request));
-        assert_eq!(it.resume_with_wasm_value(Value::Generic(5)), Ok(Complete));
-        ends(it, 5);
-    }
-    // DW_OP_const_type of the type at 4, with one byte.
-    let mut it = evaluation(&[0xa4, 4, 1, 0xff]);
-    assert_eq!(it.evaluate(), Ok(RequiresBaseType(UnitOffset(4))));
-    assert_eq!(it.resume_with_base_type(ValueType::I8), Ok(Complete));
-    assert_eq!(it.value_result(), Some(Value::I8(-1)));
+    assert_eq!(kinds.len(), 12);
 }
 
 #[test]

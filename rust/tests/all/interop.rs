@@ -1,6 +1,7 @@
 //! gimli's readers and types.
 
 use super::panics;
+use super::plain::ERRORS;
 use dwexpr::EvaluationResult::*;
 use dwexpr::{Error, Evaluation, Expression, GimliOffset, GimliReader, Location, Operation, Piece, Value, ValueType};
 use gimli::Reader as _;
@@ -254,18 +255,10 @@ fn pieces_convert() {
 
 #[test]
 fn errors_become_gimlis() {
-    macro_rules! assert_same {
-        ($($name:ident $(($x:expr))?;)+) => {
-            $(assert_eq!(gimli::Error::from(Error::$name $(($x.into()))?), gimli::Error::$name $(($x))?);)+
-        };
+    for (error, _) in ERRORS {
+        let (ours, theirs) = (format!("{error:?}"), format!("{:?}", gimli::Error::from(error)));
+        // gimli 0.32 has no such error.
+        let lacks = matches!(error, Error::InvalidPieceSize(_)) && theirs == "InvalidPiece";
+        assert!(theirs == ours || lacks, "{ours} becomes {theirs}");
     }
-    assert_same! {
-        UnexpectedEof(gimli::ReaderOffsetId(1)); BadUnsignedLeb128; BadSignedLeb128; UnsupportedAddressSize(9_u8);
-        UnsupportedOffset; UnsupportedRegister(1_u64); InvalidExpression(gimli::DwOp(1)); UnsupportedTypeOperation; TypeMismatch; DivisionByZero; InvalidShiftExpression; NotEnoughStackItems;
-        InvalidDerefSize(9_u8); InvalidPushObjectAddress; UnsupportedEvaluation; BadBranchTarget(1_u64);
-        TooManyIterations; InvalidPiece; InvalidExpressionTerminator(1_u64); StackFull;
-    }
-    // gimli 0.32 has no such error.
-    let shown = format!("{:?}", gimli::Error::from(Error::InvalidPieceSize(1)));
-    assert!(shown == "InvalidPieceSize(1)" || shown == "InvalidPiece");
 }

@@ -1,5 +1,10 @@
 //! What gimli's own tests don't show: calls out of turn, restarts, storages, readers of the user's, errors.
 
+#[macro_use]
+#[path = "../../src/lists.rs"]
+#[allow(unused_macros)]
+mod lists;
+
 mod evaluations;
 #[cfg(feature = "gimli")]
 mod interop;

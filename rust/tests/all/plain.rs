@@ -8,31 +8,34 @@ use dwexpr::{
 use std::collections::{BTreeMap, HashSet};
 use std::fmt::Debug;
 
+/// Each error, and what it says.
+pub const ERRORS: [(Error, &str); 21] = [
+    (Error::UnexpectedEof(ReaderOffsetId(5)), "the bytes end within an operation or a value"),
+    (Error::BadUnsignedLeb128, "an unsigned LEB128 number is too large"),
+    (Error::BadSignedLeb128, "a signed LEB128 number is too large"),
+    (Error::UnsupportedAddressSize(9), "an address can't have this size in bytes: 9"),
+    (Error::UnsupportedOffset, "an offset is too large"),
+    (Error::UnsupportedRegister(65536), "a register's number is too large: 65536"),
+    (Error::InvalidExpression(DwOp(1)), "the opcode is unknown: 0x01"),
+    (Error::InvalidPieceSize(1 << 61), "a piece of this size in bytes is too large: 2305843009213693952"),
+    (Error::UnsupportedTypeOperation, "the operation isn't defined for values of this type"),
+    (Error::TypeMismatch, "two values have different types"),
+    (Error::DivisionByZero, "division by zero"),
+    (Error::InvalidShiftExpression, "shift by a negative number"),
+    (Error::NotEnoughStackItems, "a value is missing on the stack"),
+    (Error::InvalidDerefSize(16), "a dereference is larger than an address: 16"),
+    (Error::InvalidPushObjectAddress, "no object address is set"),
+    (Error::UnsupportedEvaluation, "the operation can be decoded, but not evaluated"),
+    (Error::BadBranchTarget(18), "a branch leaves the expression: 0x12"),
+    (Error::TooManyIterations, "the maximum of operations is reached"),
+    (Error::InvalidPiece, "the last piece is missing"),
+    (Error::InvalidExpressionTerminator(3), "a location is followed by another operation than a piece: 0x3"),
+    (Error::StackFull, "a list is full, or memory is refused"),
+];
+
 #[test]
 fn each_error_says_what_it_is() {
-    for (error, text) in [
-        (Error::UnexpectedEof(ReaderOffsetId(5)), "the bytes end within an operation or a value"),
-        (Error::BadUnsignedLeb128, "an unsigned LEB128 number is too large"),
-        (Error::BadSignedLeb128, "a signed LEB128 number is too large"),
-        (Error::UnsupportedAddressSize(9), "an address can't have this size in bytes: 9"),
-        (Error::UnsupportedOffset, "an offset is too large"),
-        (Error::UnsupportedRegister(65536), "a register's number is too large: 65536"),
-        (Error::InvalidExpression(DwOp(1)), "the opcode is unknown: 0x01"),
-        (Error::InvalidPieceSize(1 << 61), "a piece of this size in bytes is too large: 2305843009213693952"),
-        (Error::UnsupportedTypeOperation, "the operation isn't defined for values of this type"),
-        (Error::TypeMismatch, "two values have different types"),
-        (Error::DivisionByZero, "division by zero"),
-        (Error::InvalidShiftExpression, "shift by a negative number"),
-        (Error::NotEnoughStackItems, "a value is missing on the stack"),
-        (Error::InvalidDerefSize(16), "a dereference is larger than an address: 16"),
-        (Error::InvalidPushObjectAddress, "no object address is set"),
-        (Error::UnsupportedEvaluation, "the operation can be decoded, but not evaluated"),
-        (Error::BadBranchTarget(18), "a branch leaves the expression: 0x12"),
-        (Error::TooManyIterations, "the maximum of operations is reached"),
-        (Error::InvalidPiece, "the last piece is missing"),
-        (Error::InvalidExpressionTerminator(3), "a location is followed by another operation than a piece: 0x3"),
-        (Error::StackFull, "a list is full, or memory is refused"),
-    ] {
+    for (error, text) in ERRORS {
         let source: &dyn std::error::Error = &error;
         assert_eq!(source.to_string(), text);
         assert!(text.starts_with(error.description()));

@@ -1,8 +1,9 @@
 //! Operations and requests, which gimli 0.34 has too.
 
 use super::interop::{Bytes, ENCODING, Relocating, little};
-use dwexpr::{Evaluation, Expression, GimliReader, Operation, Value};
+use dwexpr::{Evaluation, GimliReader, Operation, Value};
 use gimli::ReaderOffset as _;
+use std::collections::HashSet;
 
 /// gimli's bounds are enough, and its types come back: this is the loop of an unwinder over gimli's.
 fn unwind<R: gimli::Reader + Copy>(rule: gimli::Expression<R>, encoding: gimli::Encoding, cfa: u64) -> Option<u64> {
@@ -58,46 +59,21 @@ fn operations_convert_and_are_shown_alike() {
     assert!(seen > 4 * 160);
 }
 
+/// What each opcode asks, after two literals and with operands that differ, as gimli's evaluation does; and the end.
 #[test]
 fn requests_convert() {
-    use gimli::EvaluationResult::*;
-    let (unit, register) = (gimli::UnitOffset(3), gimli::Register(7));
-    for (theirs, shown) in [
-        (Complete, "Complete"),
-        (
-            RequiresMemory { address: 1, size: 2, space: Some(4), base_type: unit },
-            "RequiresMemory { address: 1, size: 2, space: Some(4), base_type: UnitOffset(3) }",
-        ),
-        (
-            RequiresRegister { register, base_type: unit },
-            "RequiresRegister { register: Register(7), base_type: UnitOffset(3) }",
-        ),
-        (RequiresWasmLocal { index: 5 }, "RequiresWasmLocal { index: 5 }"),
-        (RequiresWasmGlobal { index: 5 }, "RequiresWasmGlobal { index: 5 }"),
-        (RequiresWasmStack { index: 5 }, "RequiresWasmStack { index: 5 }"),
-        (RequiresFrameBase, "RequiresFrameBase"),
-        (RequiresTls(8), "RequiresTls(8)"),
-        (RequiresCallFrameCfa, "RequiresCallFrameCfa"),
-        (RequiresAtLocation(gimli::DieReference::UnitRef(unit)), "RequiresAtLocation(UnitRef(UnitOffset(3)))"),
-        (
-            RequiresAtLocation(gimli::DieReference::DebugInfoRef(gimli::DebugInfoOffset(9))),
-            "RequiresAtLocation(DebugInfoRef(DebugInfoOffset(9)))",
-        ),
-        (RequiresParameterRef(unit), "RequiresParameterRef(UnitOffset(3))"),
-        (RequiresRelocatedAddress(8), "RequiresRelocatedAddress(8)"),
-        (
-            RequiresIndexedAddress { index: gimli::DebugAddrIndex(6), relocate: true },
-            "RequiresIndexedAddress { index: DebugAddrIndex(6), relocate: true }",
-        ),
-        (RequiresBaseType(unit), "RequiresBaseType(UnitOffset(3))"),
-    ] {
-        assert_eq!(format!("{theirs:?}"), shown);
-        let ours: dwexpr::EvaluationResult<Bytes> = theirs.into();
+    let mut names = HashSet::new();
+    let of_opcode =
+        |opcode| (0..=3).map(move |kind| vec![0x38, 0x34, opcode, kind, 2, 3, 4, 5, 6, 7, 8, 9, 10, 11, 12]);
+    for bytes in (0..=255).flat_map(of_opcode).chain([vec![0x38]]) {
+        let bytes = little(bytes.leak());
+        let Ok(theirs) = gimli::Evaluation::new(bytes, ENCODING).evaluate() else { continue };
+        let ours = Evaluation::new(GimliReader(bytes), ENCODING.into()).evaluate().unwrap();
+        let shown = format!("{theirs:?}");
         assert_eq!(format!("{ours:?}"), shown);
-        assert_eq!(format!("{:?}", gimli::EvaluationResult::from(ours)), shown);
+        assert_eq!(gimli::EvaluationResult::from(ours), theirs);
+        assert_eq!(dwexpr::EvaluationResult::from(theirs), ours);
+        names.insert(shown.split([' ', '(']).next().unwrap().to_owned());
     }
-    let asked = RequiresEntryValue(gimli::Expression(little(&[0x50])));
-    let ours: dwexpr::EvaluationResult<Bytes> = asked.into();
-    assert_eq!(ours, dwexpr::EvaluationResult::RequiresEntryValue(Expression(GimliReader(little(&[0x50])))));
-    assert_eq!(gimli::EvaluationResult::from(ours), RequiresEntryValue(gimli::Expression(little(&[0x50]))));
+    assert_eq!(names.len(), 15, "{names:?}");
 }

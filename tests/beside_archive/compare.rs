@@ -5,10 +5,10 @@ use crate::cases::{Case, EVALUATE, INITIAL_VALUE, MAXIMUM, OBJECT_ADDRESS};
 use crate::made_up;
 use crate::met::Met;
 use crate::numbers::Numbers;
-use crate::shown::{self, Text, type_of, value_of};
+use crate::shown::{self, Text, number_within, once, type_of, value_of};
 use dwexpr::{
     Encoding, Evaluation, EvaluationResult, EvaluationStorage, Expression, Format, Operation, Piece, RunTimeEndian,
-    SliceVec, StoreInSlices, StoreOnHeap, Value,
+    SliceVec, StoreInSlices, StoreOnHeap, Value, ValueType,
 };
 use std::fmt::Debug;
 use std::panic::{AssertUnwindSafe, catch_unwind};
@@ -93,6 +93,53 @@ fn decode(case: &Case, index: usize, met: &mut Met) -> Compared {
 
 type Answered<'a> = dwexpr::Result<EvaluationResult<Text<'a>>>;
 
+/// What a step hands to its resume.
+trait Argument<'a> {
+    fn of(step: &Step, case: &'a Case) -> Self;
+}
+
+impl Argument<'_> for u64 {
+    fn of(step: &Step, _: &Case) -> Self {
+        step.number
+    }
+}
+
+impl Argument<'_> for Value {
+    fn of(step: &Step, _: &Case) -> Self {
+        value_of(step.value_type, step.number)
+    }
+}
+
+impl Argument<'_> for ValueType {
+    fn of(step: &Step, _: &Case) -> Self {
+        type_of(step.value_type)
+    }
+}
+
+impl<'a> Argument<'a> for Text<'a> {
+    fn of(step: &Step, case: &'a Case) -> Self {
+        text_of(case, step.text)
+    }
+}
+
+macro_rules! resume {
+    ($($(#[$doc:meta])+ $name:ident($argument:ident: $type:ty) for $kind:ident;)+) => {
+        /// Calls the resume of the step's kind.
+        fn resume<'a, S: EvaluationStorage<Text<'a>>>(
+            evaluation: &mut Evaluation<Text<'a>, S>,
+            case: &'a Case,
+            step: &Step,
+        ) -> Answered<'a> {
+            $(if step.kind == once!(number_within("DWEXPR_ANSWER_", stringify!($name))) {
+                return evaluation.$name(Argument::of(step, case));
+            })+
+            unreachable!("there is no step of kind {}", step.kind)
+        }
+    };
+}
+
+resumes!(resume);
+
 /// Takes a step; `None` if it is a setting.
 fn take<'a, S: EvaluationStorage<Text<'a>>>(
     evaluation: &mut Evaluation<Text<'a>, S>,
@@ -100,25 +147,12 @@ fn take<'a, S: EvaluationStorage<Text<'a>>>(
     step: &Step,
 ) -> Option<Answered<'a>> {
     let number = step.number;
-    let value = || value_of(step.value_type, number);
     match step.kind {
         INITIAL_VALUE => evaluation.set_initial_value(number),
         OBJECT_ADDRESS => evaluation.set_object_address(number),
         MAXIMUM => evaluation.set_max_iterations(u32::try_from(number).expect("a maximum has 32 bits")),
         EVALUATE => return Some(evaluation.evaluate()),
-        5 => return Some(evaluation.resume_with_memory(value())),
-        6 => return Some(evaluation.resume_with_register(value())),
-        7 => return Some(evaluation.resume_with_wasm_value(value())),
-        8 => return Some(evaluation.resume_with_entry_value(value())),
-        9 => return Some(evaluation.resume_with_frame_base(number)),
-        10 => return Some(evaluation.resume_with_tls(number)),
-        11 => return Some(evaluation.resume_with_call_frame_cfa(number)),
-        12 => return Some(evaluation.resume_with_parameter_ref(number)),
-        13 => return Some(evaluation.resume_with_relocated_address(number)),
-        14 => return Some(evaluation.resume_with_indexed_address(number)),
-        15 => return Some(evaluation.resume_with_at_location(text_of(case, step.text))),
-        16 => return Some(evaluation.resume_with_base_type(type_of(step.value_type))),
-        kind => unreachable!("there is no step of kind {kind}"),
+        _ => return Some(resume(evaluation, case, step)),
     }
     None
 }

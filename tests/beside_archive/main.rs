@@ -6,6 +6,10 @@
 //! It prints a line for each kind, and each difference in a small case. The last line is `N passed, M failed`: kinds
 //! and lines.
 
+#[macro_use]
+#[path = "../../rust/src/lists.rs"]
+mod lists;
+
 mod archive;
 mod cases;
 mod compare;

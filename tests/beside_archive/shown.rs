@@ -2,8 +2,8 @@
 
 use crate::archive::{self, COMPLETE};
 use dwexpr::{
-    DieReference, EndianSlice, Error, EvaluationResult, Location, Operation, Piece, Reader, RunTimeEndian, Value,
-    ValueType,
+    DebugAddrIndex, DebugInfoOffset, DieReference, DwOp, EndianSlice, Error, EvaluationResult, Expression, Location,
+    Operation, Piece, Reader, ReaderOffsetId, Register, RunTimeEndian, UnitOffset, Value, ValueType,
 };
 
 pub type Text<'a> = EndianSlice<'a, RunTimeEndian>;
@@ -47,32 +47,158 @@ pub fn numbers_of(value: Value) -> archive::Value {
     archive::Value { value_type, content }
 }
 
+/// The number of the one constant of the header whose name begins so, and whose rest is accepted.
+fn constant(prefix: &str, is_it: impl Fn(&str) -> bool) -> u32 {
+    let lines = include_str!("../../include/dwexpr.h").lines();
+    let mut found = lines.filter_map(|line| line.trim().strip_prefix(prefix)?.split_once(" = "));
+    let (_, rest) = found.find(|(name, _)| is_it(name)).expect("the header has the constant");
+    assert!(!found.any(|(name, _)| is_it(name)), "the header has two such constants");
+    let number = rest.split(|it: char| !it.is_ascii_digit()).next();
+    number.and_then(|it| it.parse().ok()).expect("a constant is a number")
+}
+
+/// A name as the header writes it: `BAD_SIGNED_LEB128` for `BadSignedLeb128`.
+fn as_constant(name: &str) -> String {
+    let mut written = String::new();
+    for (index, letter) in name.char_indices() {
+        if letter.is_uppercase() && name[..index].ends_with(char::is_lowercase) {
+            written.push('_');
+        }
+        written.push(letter.to_ascii_uppercase());
+    }
+    written
+}
+
+/// The number of the constant of this name.
+fn number_named(prefix: &str, name: &str) -> u32 {
+    let name = as_constant(name);
+    constant(prefix, |it| it == name)
+}
+
+/// The number of the constant whose name is a part of this one: of `DWEXPR_ANSWER_CFA` for
+/// `resume_with_call_frame_cfa`.
+pub fn number_within(prefix: &str, name: &str) -> u32 {
+    let name = as_constant(name);
+    constant(prefix, |it| name.contains(it))
+}
+
+/// Looks a number up once.
+macro_rules! once {
+    ($number:expr) => {{
+        static NUMBER: std::sync::LazyLock<u32> = std::sync::LazyLock::new(|| $number);
+        *NUMBER
+    }};
+}
+pub(crate) use once;
+
+/// What operations, replies and errors carry, under the names of the archive's fields.
+#[derive(Default)]
+struct Fields<'a> {
+    number: u64,
+    signed_number: i64,
+    base_type: u64,
+    register_number: u32,
+    size: u32,
+    flag: u32,
+    bit_offset_or_space: u64,
+    block: Option<Text<'a>>,
+}
+
+/// A part of an operation, a reply or an error. Its type says which field it is, and for some types its name.
+trait Part<'a> {
+    fn show(self, name: &str, shown: &mut Fields<'a>);
+}
+
+macro_rules! parts {
+    ($($type:ty: |$it:ident, $name:ident, $shown:ident| $show:expr;)+) => {
+        $(impl<'a> Part<'a> for $type {
+            fn show(self, $name: &str, $shown: &mut Fields<'a>) {
+                let $it = self;
+                $show
+            }
+        })+
+    };
+}
+
+parts! {
+    u8: |it, name, shown| if name == "size" { shown.size = it.into() } else { shown.number = it.into() };
+    u32: |it, _name, shown| shown.number = it.into();
+    u64: |it, _name, shown| shown.number = it;
+    i16: |it, _name, shown| shown.signed_number = it.into();
+    i64: |it, _name, shown| shown.signed_number = it;
+    bool: |it, _name, shown| shown.flag = it.into();
+    Option<u64>: |it, _name, shown| (shown.flag, shown.bit_offset_or_space) = option(it);
+    DwOp: |it, _name, shown| shown.number = it.0.into();
+    ReaderOffsetId: |_it, _name, _shown| ();
+    Register: |it, _name, shown| shown.register_number = it.0.into();
+    DebugAddrIndex: |it, _name, shown| shown.number = it.0 as u64;
+    DebugInfoOffset: |it, _name, shown| shown.number = it.0 as u64;
+    UnitOffset: |it, name, shown| if matches!(name, "base_type" | "RequiresBaseType") {
+        shown.base_type = it.0 as u64;
+    } else {
+        shown.number = it.0 as u64;
+    };
+    DieReference: |it, _name, shown| (shown.number, shown.flag) = match it {
+        DieReference::UnitRef(offset) => (offset.0 as u64, 0),
+        DieReference::DebugInfoRef(offset) => (offset.0 as u64, 1),
+    };
+    Text<'a>: |it, _name, shown| shown.block = Some(it);
+    Expression<Text<'a>>: |it, _name, shown| shown.block = Some(it.0);
+}
+
+macro_rules! code_and_fields {
+    ($type:ident: $($name:ident $(($x:ident))? $text:literal;)+) => {
+        fn code_and_fields(error: $type, shown: &mut Fields<'_>) -> u32 {
+            match error {
+                $($type::$name $(($x))? => {
+                    $($x.show("", shown);)?
+                    once!(number_named("DWEXPR_", stringify!($name)))
+                })+
+                other => panic!("the archive has no {other:?}"),
+            }
+        }
+    };
+}
+
+macro_rules! kind_and_fields {
+    ($type:ident: $($name:ident $({ $($field:ident)+ })? $([$block:ident])?,)+) => {
+        fn kind_and_fields<'a>(operation: $type<Text<'a>>, shown: &mut Fields<'a>) -> u32 {
+            match operation {
+                $($type::$name { $($($field,)+)? $($block)? } => {
+                    $($($field.show(stringify!($field), shown);)+)?
+                    $($block.show("", shown);)?
+                    once!(number_named("DWEXPR_OP_", stringify!($name)))
+                })+
+            }
+        }
+    };
+}
+
+macro_rules! request_and_fields {
+    ($type:ident: $($name:ident $(($x:ident))? $({ $($field:ident)+ })?,)+) => {
+        fn request_and_fields<'a>(reply: $type<Text<'a>>, shown: &mut Fields<'a>) -> u32 {
+            match reply {
+                $($type::$name { $(0: $x)? $($($field),+)? } => {
+                    $($x.show(stringify!($name), shown);)?
+                    $($($field.show(stringify!($field), shown);)+)?
+                    once!(match stringify!($name) {
+                        "Complete" => COMPLETE,
+                        name => number_within("DWEXPR_WANTS_", name),
+                    })
+                })+
+            }
+        }
+    };
+}
+
+errors!(code_and_fields);
+operations!(kind_and_fields);
+replies!(request_and_fields);
+
 /// The code of a fault, and the number that it carries.
 pub fn code_of(error: Error) -> (u32, u64) {
-    match error {
-        Error::UnexpectedEof(_) => (1, 0),
-        Error::BadUnsignedLeb128 => (2, 0),
-        Error::BadSignedLeb128 => (3, 0),
-        Error::UnsupportedAddressSize(size) => (4, size.into()),
-        Error::UnsupportedOffset => (5, 0),
-        Error::UnsupportedRegister(register) => (6, register),
-        Error::InvalidExpression(opcode) => (7, opcode.0.into()),
-        Error::InvalidPieceSize(size) => (8, size),
-        Error::UnsupportedTypeOperation => (9, 0),
-        Error::TypeMismatch => (10, 0),
-        Error::DivisionByZero => (11, 0),
-        Error::InvalidShiftExpression => (12, 0),
-        Error::NotEnoughStackItems => (13, 0),
-        Error::InvalidDerefSize(size) => (14, size.into()),
-        Error::InvalidPushObjectAddress => (15, 0),
-        Error::UnsupportedEvaluation => (16, 0),
-        Error::BadBranchTarget(target) => (17, target),
-        Error::TooManyIterations => (18, 0),
-        Error::InvalidPiece => (19, 0),
-        Error::InvalidExpressionTerminator(place) => (20, place),
-        Error::StackFull => (21, 0),
-        other => panic!("the archive has no {other:?}"),
-    }
+    let mut fields = Fields::default();
+    (code_and_fields(error, &mut fields), fields.number)
 }
 
 /// Where a part of a text begins in it.
@@ -89,108 +215,31 @@ fn place_among(texts: &[Vec<u8>], part: &[u8]) -> (usize, usize) {
 
 /// An operation of `size` bytes at an offset of a text.
 pub fn operation(operation: Operation<Text<'_>>, text: &[u8], offset: usize, size: usize) -> archive::Operation {
-    let mut shown =
-        archive::Operation { offset, size, opcode: text[offset].into(), kind: 0, ..archive::Operation::default() };
-    match operation {
-        Operation::Deref { base_type, size, space } => {
-            shown.kind = 1;
-            shown.base_type = base_type.0 as u64;
-            shown.deref_size = size.into();
-            shown.flag = space.into();
-        }
-        Operation::Drop => shown.kind = 2,
-        Operation::Pick { index } => (shown.kind, shown.number) = (3, index.into()),
-        Operation::Swap => shown.kind = 4,
-        Operation::Rot => shown.kind = 5,
-        Operation::Abs => shown.kind = 6,
-        Operation::And => shown.kind = 7,
-        Operation::Div => shown.kind = 8,
-        Operation::Minus => shown.kind = 9,
-        Operation::Mod => shown.kind = 10,
-        Operation::Mul => shown.kind = 11,
-        Operation::Neg => shown.kind = 12,
-        Operation::Not => shown.kind = 13,
-        Operation::Or => shown.kind = 14,
-        Operation::Plus => shown.kind = 15,
-        Operation::PlusConstant { value } => (shown.kind, shown.number) = (16, value),
-        Operation::Shl => shown.kind = 17,
-        Operation::Shr => shown.kind = 18,
-        Operation::Shra => shown.kind = 19,
-        Operation::Xor => shown.kind = 20,
-        Operation::Bra { target } => (shown.kind, shown.signed_number) = (21, target.into()),
-        Operation::Eq => shown.kind = 22,
-        Operation::Ge => shown.kind = 23,
-        Operation::Gt => shown.kind = 24,
-        Operation::Le => shown.kind = 25,
-        Operation::Lt => shown.kind = 26,
-        Operation::Ne => shown.kind = 27,
-        Operation::Skip { target } => (shown.kind, shown.signed_number) = (28, target.into()),
-        Operation::UnsignedConstant { value } => (shown.kind, shown.number) = (29, value),
-        Operation::SignedConstant { value } => (shown.kind, shown.signed_number) = (30, value),
-        Operation::Register { register } => (shown.kind, shown.register_number) = (31, register.0.into()),
-        Operation::RegisterOffset { register, offset, base_type } => {
-            (shown.kind, shown.register_number) = (32, register.0.into());
-            (shown.signed_number, shown.base_type) = (offset, base_type.0 as u64);
-        }
-        Operation::FrameOffset { offset } => (shown.kind, shown.signed_number) = (33, offset),
-        Operation::Nop => shown.kind = 34,
-        Operation::PushObjectAddress => shown.kind = 35,
-        Operation::Call { offset } => {
-            shown.kind = 36;
-            (shown.number, shown.flag) = reference(offset);
-        }
-        Operation::TLS => shown.kind = 37,
-        Operation::CallFrameCFA => shown.kind = 38,
-        Operation::Piece { size_in_bits, bit_offset } => {
-            (shown.kind, shown.number) = (39, size_in_bits);
-            (shown.flag, shown.detail) = option(bit_offset);
-        }
-        Operation::ImplicitValue { data } => {
-            shown.kind = 40;
-            (shown.block_offset, shown.block_length) = block(text, data);
-        }
-        Operation::StackValue => shown.kind = 41,
-        Operation::ImplicitPointer { value, byte_offset } => {
-            (shown.kind, shown.number, shown.signed_number) = (42, value.0 as u64, byte_offset);
-        }
-        Operation::EntryValue { expression } => {
-            shown.kind = 43;
-            (shown.block_offset, shown.block_length) = block(text, expression);
-        }
-        Operation::ParameterRef { offset } => (shown.kind, shown.number) = (44, offset.0 as u64),
-        Operation::Address { address } => (shown.kind, shown.number) = (45, address),
-        Operation::AddressIndex { index } => (shown.kind, shown.number) = (46, index.0 as u64),
-        Operation::ConstantIndex { index } => (shown.kind, shown.number) = (47, index.0 as u64),
-        Operation::TypedLiteral { base_type, value } => {
-            (shown.kind, shown.base_type) = (48, base_type.0 as u64);
-            (shown.block_offset, shown.block_length) = block(text, value);
-        }
-        Operation::Convert { base_type } => (shown.kind, shown.base_type) = (49, base_type.0 as u64),
-        Operation::Reinterpret { base_type } => (shown.kind, shown.base_type) = (50, base_type.0 as u64),
-        Operation::Uninitialized => shown.kind = 51,
-        Operation::WasmLocal { index } => (shown.kind, shown.number) = (52, index.into()),
-        Operation::WasmGlobal { index } => (shown.kind, shown.number) = (53, index.into()),
-        Operation::WasmStack { index } => (shown.kind, shown.number) = (54, index.into()),
-        Operation::VariableValue { offset } => (shown.kind, shown.number) = (55, offset.0 as u64),
+    let mut fields = Fields::default();
+    let kind = kind_and_fields(operation, &mut fields);
+    let place = |block: Text<'_>| place_in(text, block.slice()).expect("a block is a part of its text");
+    archive::Operation {
+        offset,
+        size,
+        opcode: text[offset].into(),
+        kind,
+        number: fields.number,
+        signed_number: fields.signed_number,
+        base_type: fields.base_type,
+        register_number: fields.register_number,
+        deref_size: fields.size,
+        flag: fields.flag,
+        fault: 0,
+        block_offset: fields.block.map_or(0, place),
+        block_length: fields.block.map_or(0, |block| block.len()),
+        detail: fields.bit_offset_or_space,
     }
-    shown
 }
 
 /// A fault of the bytes at an offset of a text.
 pub fn undecoded(error: Error, text: &[u8], offset: usize) -> archive::Operation {
     let (fault, detail) = code_of(error);
     archive::Operation { offset, opcode: text[offset].into(), fault, detail, ..archive::Operation::default() }
-}
-
-fn block(text: &[u8], part: Text<'_>) -> (usize, usize) {
-    (place_in(text, part.slice()).expect("a block is a part of its text"), part.len())
-}
-
-fn reference(offset: DieReference) -> (u64, u32) {
-    match offset {
-        DieReference::UnitRef(offset) => (offset.0 as u64, 0),
-        DieReference::DebugInfoRef(offset) => (offset.0 as u64, 1),
-    }
 }
 
 /// Whether there is a number, and the number or 0.
@@ -204,40 +253,22 @@ pub fn ended(code: u32, detail: u64) -> archive::Outcome {
 
 /// A reply, without the value and the pieces of a complete evaluation.
 pub fn reply(reply: EvaluationResult<Text<'_>>, texts: &[Vec<u8>]) -> archive::Outcome {
-    let mut shown = archive::Outcome::default();
-    match reply {
-        EvaluationResult::Complete => shown.request = COMPLETE,
-        EvaluationResult::RequiresMemory { address, size, space, base_type } => {
-            (shown.request, shown.number, shown.size) = (2, address, size.into());
-            (shown.flag, shown.space) = option(space);
-            shown.base_type = base_type.0 as u64;
-        }
-        EvaluationResult::RequiresRegister { register, base_type } => {
-            (shown.request, shown.register_number) = (3, register.0.into());
-            shown.base_type = base_type.0 as u64;
-        }
-        EvaluationResult::RequiresFrameBase => shown.request = 4,
-        EvaluationResult::RequiresTls(offset) => (shown.request, shown.number) = (5, offset),
-        EvaluationResult::RequiresCallFrameCfa => shown.request = 6,
-        EvaluationResult::RequiresAtLocation(offset) => {
-            shown.request = 7;
-            (shown.number, shown.flag) = reference(offset);
-        }
-        EvaluationResult::RequiresEntryValue(expression) => {
-            (shown.request, shown.block_length) = (8, expression.0.len());
-            (shown.block_text, shown.block_offset) = place_among(texts, expression.0.slice());
-        }
-        EvaluationResult::RequiresParameterRef(offset) => (shown.request, shown.number) = (9, offset.0 as u64),
-        EvaluationResult::RequiresRelocatedAddress(address) => (shown.request, shown.number) = (10, address),
-        EvaluationResult::RequiresIndexedAddress { index, relocate } => {
-            (shown.request, shown.number, shown.flag) = (11, index.0 as u64, relocate.into());
-        }
-        EvaluationResult::RequiresBaseType(offset) => (shown.request, shown.base_type) = (12, offset.0 as u64),
-        EvaluationResult::RequiresWasmLocal { index } => (shown.request, shown.number) = (13, index.into()),
-        EvaluationResult::RequiresWasmGlobal { index } => (shown.request, shown.number) = (14, index.into()),
-        EvaluationResult::RequiresWasmStack { index } => (shown.request, shown.number) = (15, index.into()),
+    let mut fields = Fields::default();
+    let request = request_and_fields(reply, &mut fields);
+    let (block_text, block_offset) = fields.block.map_or((0, 0), |block| place_among(texts, block.slice()));
+    archive::Outcome {
+        request,
+        number: fields.number,
+        base_type: fields.base_type,
+        space: fields.bit_offset_or_space,
+        register_number: fields.register_number,
+        size: fields.size,
+        flag: fields.flag,
+        block_text,
+        block_offset,
+        block_length: fields.block.map_or(0, |block| block.len()),
+        ..archive::Outcome::default()
     }
-    shown
 }
 
 /// The outcome of a complete evaluation.

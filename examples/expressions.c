@@ -1,5 +1,6 @@
 /* Decodes every expression of object files by this library and by libdw (elfutils), and compares them operation by
- * operation. The bytes of expressions in lists of locations are put together from libdw's operations.
+ * operation, opcodes and operands: libdw has no kinds. The bytes of expressions in lists of locations are put together
+ * from libdw's operations.
  *
  *     cc expressions.c $(pkg-config --cflags --libs dwexpr-libdw) -o expressions
  *     ./expressions FILE..
@@ -26,115 +27,27 @@ static int same_block(const dwexpr_operation *op, const uint8_t *bytes, const ui
 }
 
 /* what libdw gives for an operand that is a signed number is its bits */
-static int is(const dwexpr_operation *op, uint32_t kind, Dwarf_Word number, int64_t signed_number)
-{
-    return op->kind == kind && op->number == number && op->signed_number == signed_number;
-}
-
-static int is_register(const dwexpr_operation *op, uint32_t kind, Dwarf_Word number, int64_t offset, Dwarf_Word type)
-{
-    return op->kind == kind && op->register_number == number && op->signed_number == offset && op->base_type == type;
-}
-
-static int is_deref(const dwexpr_operation *op, Dwarf_Word size, Dwarf_Word type, uint32_t space)
-{
-    return op->kind == DWEXPR_OP_DEREF && op->deref_size == size && op->base_type == type && op->flag == space;
-}
-
-/* operations that have no operands, from DW_OP_drop to DW_OP_ne */
-static uint32_t plain_kind(unsigned opcode)
-{
-    static const uint8_t kinds[256] = {
-        [DW_OP_drop] = DWEXPR_OP_DROP, [DW_OP_swap] = DWEXPR_OP_SWAP, [DW_OP_rot] = DWEXPR_OP_ROT,
-        [DW_OP_abs] = DWEXPR_OP_ABS, [DW_OP_and] = DWEXPR_OP_AND, [DW_OP_div] = DWEXPR_OP_DIV,
-        [DW_OP_minus] = DWEXPR_OP_MINUS, [DW_OP_mod] = DWEXPR_OP_MOD, [DW_OP_mul] = DWEXPR_OP_MUL,
-        [DW_OP_neg] = DWEXPR_OP_NEG, [DW_OP_not] = DWEXPR_OP_NOT, [DW_OP_or] = DWEXPR_OP_OR,
-        [DW_OP_plus] = DWEXPR_OP_PLUS, [DW_OP_shl] = DWEXPR_OP_SHL, [DW_OP_shr] = DWEXPR_OP_SHR,
-        [DW_OP_shra] = DWEXPR_OP_SHRA, [DW_OP_xor] = DWEXPR_OP_XOR, [DW_OP_eq] = DWEXPR_OP_EQ,
-        [DW_OP_ge] = DWEXPR_OP_GE, [DW_OP_gt] = DWEXPR_OP_GT, [DW_OP_le] = DWEXPR_OP_LE, [DW_OP_lt] = DWEXPR_OP_LT,
-        [DW_OP_ne] = DWEXPR_OP_NE, [DW_OP_nop] = DWEXPR_OP_NOP, [DW_OP_stack_value] = DWEXPR_OP_STACK_VALUE,
-        [DW_OP_push_object_address] = DWEXPR_OP_PUSH_OBJECT_ADDRESS, [DW_OP_form_tls_address] = DWEXPR_OP_TLS,
-        [DW_OP_GNU_push_tls_address] = DWEXPR_OP_TLS, [DW_OP_call_frame_cfa] = DWEXPR_OP_CALL_FRAME_CFA,
-        [DW_OP_GNU_uninit] = DWEXPR_OP_UNINITIALIZED,
-    };
-    return kinds[opcode];
-}
-
 static int same(const Dwarf_Op *theirs, const dwexpr_operation *op, const uint8_t *bytes)
 {
-    unsigned opcode = theirs->atom;
     Dwarf_Word number = theirs->number, second = theirs->number2;
-    if (opcode != op->opcode || theirs->offset != op->offset)
+    const uint8_t *block = (const uint8_t *)(uintptr_t)second;
+    if (theirs->atom != op->opcode || theirs->offset != op->offset)
         return 0;
-    if (plain_kind(opcode))
-        return is(op, plain_kind(opcode), 0, 0);
-    if (opcode >= DW_OP_lit0 && opcode <= DW_OP_lit31)
-        return is(op, DWEXPR_OP_UNSIGNED_CONSTANT, opcode - DW_OP_lit0, 0);
-    if (opcode >= DW_OP_reg0 && opcode <= DW_OP_reg31)
-        return is_register(op, DWEXPR_OP_REGISTER, opcode - DW_OP_reg0, 0, 0);
-    if (opcode >= DW_OP_breg0 && opcode <= DW_OP_breg31)
-        return is_register(op, DWEXPR_OP_REGISTER_OFFSET, opcode - DW_OP_breg0, (int64_t)number, 0);
-    switch (opcode) {
-    case DW_OP_addr:
-        return is(op, DWEXPR_OP_ADDRESS, number, 0);
-    case DW_OP_const1u: case DW_OP_const2u: case DW_OP_const4u: case DW_OP_const8u: case DW_OP_constu:
-        return is(op, DWEXPR_OP_UNSIGNED_CONSTANT, number, 0);
-    case DW_OP_const1s: case DW_OP_const2s: case DW_OP_const4s: case DW_OP_const8s: case DW_OP_consts:
-        return is(op, DWEXPR_OP_SIGNED_CONSTANT, 0, (int64_t)number);
-    case DW_OP_fbreg:
-        return is(op, DWEXPR_OP_FRAME_OFFSET, 0, (int64_t)number);
-    case DW_OP_skip: case DW_OP_bra:
-        return is(op, opcode == DW_OP_skip ? DWEXPR_OP_SKIP : DWEXPR_OP_BRA, 0, (int64_t)number);
-    case DW_OP_regx:
-        return is_register(op, DWEXPR_OP_REGISTER, number, 0, 0);
-    case DW_OP_bregx:
-        return is_register(op, DWEXPR_OP_REGISTER_OFFSET, number, (int64_t)second, 0);
-    case DW_OP_regval_type: case DW_OP_GNU_regval_type:
-        return is_register(op, DWEXPR_OP_REGISTER_OFFSET, number, 0, second);
-    case DW_OP_dup: case DW_OP_over:
-        return is(op, DWEXPR_OP_PICK, opcode == DW_OP_over, 0);
-    case DW_OP_pick:
-        return is(op, DWEXPR_OP_PICK, number, 0);
-    case DW_OP_plus_uconst:
-        return is(op, DWEXPR_OP_PLUS_CONSTANT, number, 0);
-    case DW_OP_piece:
-        return is(op, DWEXPR_OP_PIECE, 8 * number, 0) && !op->flag;
-    case DW_OP_bit_piece:
-        return is(op, DWEXPR_OP_PIECE, number, 0) && op->flag && op->detail == second;
-    case DW_OP_deref: case DW_OP_xderef:
-        return is_deref(op, encoding.address_size, 0, opcode == DW_OP_xderef);
-    case DW_OP_deref_size: case DW_OP_xderef_size:
-        return is_deref(op, number, 0, opcode == DW_OP_xderef_size);
-    case DW_OP_deref_type: case DW_OP_GNU_deref_type:
-        return is_deref(op, number, second, 0);
-    case DW_OP_convert: case DW_OP_GNU_convert:
-        return is(op, DWEXPR_OP_CONVERT, 0, 0) && op->base_type == number;
-    case DW_OP_reinterpret: case DW_OP_GNU_reinterpret:
-        return is(op, DWEXPR_OP_REINTERPRET, 0, 0) && op->base_type == number;
-    case DW_OP_const_type: case DW_OP_GNU_const_type: {
-        /* its size and then its bytes */
-        const uint8_t *block = (const uint8_t *)(uintptr_t)second;
-        return op->kind == DWEXPR_OP_TYPED_LITERAL && op->base_type == number &&
-               same_block(op, bytes, block + 1, block[0]);
-    }
-    case DW_OP_implicit_value:
-        return op->kind == DWEXPR_OP_IMPLICIT_VALUE && op->block_length == number;
-    case DW_OP_entry_value: case DW_OP_GNU_entry_value:
-        return op->kind == DWEXPR_OP_ENTRY_VALUE && op->block_length == number;
-    case DW_OP_implicit_pointer: case DW_OP_GNU_implicit_pointer:
-        return is(op, DWEXPR_OP_IMPLICIT_POINTER, number, (int64_t)second);
-    case DW_OP_call2: case DW_OP_call4: case DW_OP_call_ref:
-        return is(op, DWEXPR_OP_CALL, number, 0) && op->flag == (opcode == DW_OP_call_ref);
-    case DW_OP_GNU_parameter_ref:
-        return is(op, DWEXPR_OP_PARAMETER_REF, number, 0);
-    case DW_OP_addrx: case DW_OP_GNU_addr_index:
-        return is(op, DWEXPR_OP_ADDRESS_INDEX, number, 0);
-    case DW_OP_constx: case DW_OP_GNU_const_index:
-        return is(op, DWEXPR_OP_CONSTANT_INDEX, number, 0);
-    case DW_OP_GNU_variable_value:
-        return is(op, DWEXPR_OP_VARIABLE_VALUE, number, 0);
-    default:
-        return 0;
+    switch (dwexpr_operand_form(op->opcode)) {
+    case '-': return 1;
+    case 'b': case 'h': case 'i': case 'q': case 's': return op->signed_number == (int64_t)number;
+    case 'R': return op->register_number == number;
+    case 'O': return op->register_number == number && op->signed_number == (int64_t)second;
+    case 'V': return op->register_number == number && op->base_type == second;
+    case 'P': return op->number == 8 * number && !op->flag;
+    case 'K': return op->number == number && op->flag && op->detail == second;
+    case 'D': return op->deref_size == number;
+    case 'E': return op->deref_size == number && op->base_type == second;
+    case 'T': return op->base_type == number;
+    case 'L': return op->base_type == number && same_block(op, bytes, block + 1, block[0]); /* a length, and bytes */
+    case 'k': return op->block_length == number;
+    case 'p': return op->number == number && op->signed_number == (int64_t)second;
+    default: return op->number == number;
     }
 }
 

@@ -60,6 +60,29 @@ static inline size_t dwexpr_add_block(char *line, size_t room, size_t length, dw
     return length;
 }
 
+/* The form of the operands of the operations of this opcode:
+ *   .  no such operation     -  none                    a  address
+ *   B H I Q  1, 2, 4 and 8 bytes without a sign         b h i q  with one
+ *   u  unsigned LEB128       s  signed LEB128           R  register
+ *   O  register, signed LEB128                          V  register, type
+ *   P  bytes of a piece      K  bits of a piece and where they begin
+ *   D  size in one byte      E  the same, type          T  type
+ *   L  type, block of one byte's length                 k  block
+ *   w x r  entry, at an offset in 2 and 4 bytes, and in .debug_info
+ *   p  entry in .debug_info, signed LEB128              W  kind and index of WebAssembly
+ * Registers, types, and what a piece has are unsigned LEB128. */
+static inline char dwexpr_operand_form(uint32_t opcode)
+{
+    static const char forms[] =
+        "...a..-.BbHhIiQq" "us---B----------" "---u----h------h" /* 0x00 to 0x2f */
+        "----------------" "----------------" "----------------" /* 0x30 to 0x5f */
+        "----------------" "ssssssssssssssss" "ssssssssssssssss" /* 0x60 to 0x8f */
+        "RsOPDD--wxr--Kk-" "puukLVEETT......" "................" /* 0x90 to 0xbf */
+        "................" "................" "-............W.." /* 0xc0 to 0xef */
+        "-.pkLVET.Txuur..";                                      /* 0xf0 to 0xff */
+    return forms[opcode & 0xff];
+}
+
 /* Writes an operation with its operands as a line, much as readelf and libdw do: "DW_OP_fbreg -20". An offset of an
  * entry is "<0x2f>". `bytes` are those that were decoded.
  *
@@ -68,47 +91,36 @@ static inline size_t dwexpr_add_block(char *line, size_t room, size_t length, dw
 static inline size_t dwexpr_operation_line(char *line, size_t room, const uint8_t *bytes,
                                            const dwexpr_operation *operation)
 {
-    /* The form of the operands, by opcode:
-     *   .  none                  n  number                s  signed number         a  address
-     *   r  register              o  register, number      v  register, type        p  bytes of a piece
-     *   q  bits of a piece       d  size                  e  size, type            t  type
-     *   l  type, block           b  block                 c  entry                 i  entry, signed number
-     *   w  WebAssembly */
-    static const char forms[] =
-        "...a....nsnsnsns" "ns...n.........." "...n....s......s" /* 0x00 to 0x2f */
-        "................" "................" "................" /* 0x30 to 0x5f */
-        "................" "ssssssssssssssss" "ssssssssssssssss" /* 0x60 to 0x8f */
-        "rsopdd..ccc..qb." "innblveett......" "................" /* 0x90 to 0xbf */
-        "................" "................" ".............w.." /* 0xc0 to 0xef */
-        "..iblvet.tcnnc..";                                      /* 0xf0 to 0xff */
     static const char *const spaces[] = {"local", "global", "stack"};
     const dwexpr_operation *op = operation;
     const char *name = dwexpr_opcode_name(op->opcode);
     const dwexpr_text block = dwexpr_operation_block(op, bytes);
     size_t at = dwexpr_add_to_line(line, room, 0, "%s", name ? name : "fault");
-    switch (op->kind == DWEXPR_OP_NONE ? '.' : forms[op->opcode & 0xff]) {
-    case 'n': return dwexpr_add_to_line(line, room, at, " %" PRIu64, op->number);
-    case 's': return dwexpr_add_to_line(line, room, at, " %" PRId64, op->signed_number);
+    switch (op->kind == DWEXPR_OP_NONE ? '.' : dwexpr_operand_form(op->opcode)) {
+    case 'B': case 'H': case 'I': case 'Q': case 'u':
+        return dwexpr_add_to_line(line, room, at, " %" PRIu64, op->number);
+    case 'b': case 'h': case 'i': case 'q': case 's':
+        return dwexpr_add_to_line(line, room, at, " %" PRId64, op->signed_number);
     case 'a': return dwexpr_add_to_line(line, room, at, " 0x%" PRIx64, op->number);
-    case 'r': return dwexpr_add_to_line(line, room, at, " %" PRIu32, op->register_number);
-    case 'o':
+    case 'R': return dwexpr_add_to_line(line, room, at, " %" PRIu32, op->register_number);
+    case 'O':
         return dwexpr_add_to_line(line, room, at, " %" PRIu32 ", %" PRId64, op->register_number, op->signed_number);
-    case 'v':
+    case 'V':
         return dwexpr_add_to_line(line, room, at, " %" PRIu32 ", <0x%" PRIx64 ">", op->register_number, op->base_type);
-    case 'p': return dwexpr_add_to_line(line, room, at, " %" PRIu64, op->number / 8);
-    case 'q': return dwexpr_add_to_line(line, room, at, " %" PRIu64 ", %" PRIu64, op->number, op->detail);
-    case 'd': return dwexpr_add_to_line(line, room, at, " %" PRIu32, op->deref_size);
-    case 'e':
+    case 'P': return dwexpr_add_to_line(line, room, at, " %" PRIu64, op->number / 8);
+    case 'K': return dwexpr_add_to_line(line, room, at, " %" PRIu64 ", %" PRIu64, op->number, op->detail);
+    case 'D': return dwexpr_add_to_line(line, room, at, " %" PRIu32, op->deref_size);
+    case 'E':
         return dwexpr_add_to_line(line, room, at, " %" PRIu32 ", <0x%" PRIx64 ">", op->deref_size, op->base_type);
-    case 't': return dwexpr_add_to_line(line, room, at, " <0x%" PRIx64 ">", op->base_type);
-    case 'c': return dwexpr_add_to_line(line, room, at, " <0x%" PRIx64 ">", op->number);
-    case 'i':
+    case 'T': return dwexpr_add_to_line(line, room, at, " <0x%" PRIx64 ">", op->base_type);
+    case 'w': case 'x': case 'r': return dwexpr_add_to_line(line, room, at, " <0x%" PRIx64 ">", op->number);
+    case 'p':
         return dwexpr_add_to_line(line, room, at, " <0x%" PRIx64 ">, %" PRId64, op->number, op->signed_number);
-    case 'l':
+    case 'L':
         at = dwexpr_add_to_line(line, room, at, " <0x%" PRIx64 ">,", op->base_type);
         return dwexpr_add_block(line, room, at, block);
-    case 'b': return dwexpr_add_block(line, room, at, block);
-    case 'w':
+    case 'k': return dwexpr_add_block(line, room, at, block);
+    case 'W':
         return dwexpr_add_to_line(line, room, at, " %s, %" PRIu64, spaces[(op->kind - DWEXPR_OP_WASM_LOCAL) % 3],
                                   op->number);
     default: return at;

@@ -1,4 +1,5 @@
 /* Numbers as bytes, and the bytes of libdw's operations. */
+#include "dwexpr_names.h"
 #include "private.h"
 
 uint64_t dwexpr_libdw_number_of(const uint8_t *bytes, size_t size, int big_endian)
@@ -62,22 +63,8 @@ static void put_leb(struct writer *writer, uint64_t number, size_t size, int is_
  * takes. Gives back 0, or -1 if there are no such bytes. */
 static int put_operands(struct writer *writer, const Dwarf_Op *op, size_t size, dwexpr_encoding encoding)
 {
-    /* The operands by opcode, mostly as Python's struct names them:
-     *   .  no such operation      -  none                 a  address
-     *   B H I Q  1, 2, 4 and 8 bytes without a sign       b h i q  with one
-     *   u  unsigned LEB128        s  signed LEB128        t  two unsigned LEB128      m  unsigned, signed LEB128
-     *   r  offset of an entry in .debug_info              p  such an offset, signed LEB128
-     *   w x  offset of an entry in 2 and 4 bytes          d  one byte, unsigned LEB128
-     *   k  block                  c  unsigned LEB128, block of one byte's length */
-    static const char forms[] =
-        "...a..-.BbHhIiQq" "us---B----------" "---u----h------h" /* 0x00 to 0x2f */
-        "----------------" "----------------" "----------------" /* 0x30 to 0x5f */
-        "----------------" "ssssssssssssssss" "ssssssssssssssss" /* 0x60 to 0x8f */
-        "usmuBB--wxr--tk-" "puukctdduu......" "................" /* 0x90 to 0xbf */
-        "................" "................" "-..............." /* 0xc0 to 0xef */
-        "-.pkctdu.uxuur..";                                      /* 0xf0 to 0xff */
     static const char sizes[] = "BbHhIiQq";
-    const char form = forms[op->atom];
+    const char form = dwexpr_operand_form(op->atom);
     const char *fixed = strchr(sizes, form);
     const uint8_t *block = (const uint8_t *)(uintptr_t)op->number2;
     size_t reference = encoding.version == 2 ? encoding.address_size : encoding.offset_size;
@@ -108,14 +95,15 @@ static int put_operands(struct writer *writer, const Dwarf_Op *op, size_t size, 
             put_leb(writer, op->number2, length, 1);
         return 0;
     }
-    case 'u': case 's':
+    case 'u': case 's': case 'R': case 'P': case 'T':
         put_leb(writer, op->number, size, form == 's');
         return 0;
-    case 't': case 'm':
+    case 'V': case 'K': case 'O':
         put_leb(writer, op->number, 0, 0);
-        put_leb(writer, op->number2, 0, form == 'm');
+        put_leb(writer, op->number2, 0, form == 'O');
         return 0;
-    case 'd':
+    case 'D': return put_fixed(writer, op->number, 1, 0, 0) - 1;
+    case 'E':
         if (!put_fixed(writer, op->number, 1, 0, 0))
             return -1;
         put_leb(writer, op->number2, size > 1 ? size - 1 : 0, 0);
@@ -129,7 +117,7 @@ static int put_operands(struct writer *writer, const Dwarf_Op *op, size_t size, 
         put(writer, block, length + (size_t)op->number);
         return 0;
     }
-    case 'c': /* libdw points to the byte of the block's length */
+    case 'L': /* libdw points to the byte of the block's length */
         if (!block)
             return -1;
         put_leb(writer, op->number, size > 1u + block[0] ? size - 1 - block[0] : 0, 0);

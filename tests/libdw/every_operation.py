@@ -9,22 +9,21 @@ Each file has one unit, with an entry for each expression, and two lists of loca
 
 import itertools
 import pathlib
+import re
 import struct
 import sys
 
 from unit import Unit, signed_leb, unsigned_leb
 
-# Operands: a address, r offset in .debug_info, bBhHiIqQ as in struct, u and s LEB128, k a block of two bytes with its
-# length as LEB128, c the same with its length in a byte.
-PLAIN = [0x06, *range(0x12, 0x15), *range(0x16, 0x23), *range(0x24, 0x28), *range(0x29, 0x2F), *range(0x30, 0x70)]
-PLAIN += [0x96, 0x97, 0x9B, 0x9C, 0x9F, 0xE0]
-OPERANDS = {opcode: "" for opcode in PLAIN} | {opcode: "s" for opcode in range(0x70, 0x90)}
-OPERANDS |= {0x03: "a", 0x08: "B", 0x09: "b", 0x0A: "H", 0x0B: "h", 0x0C: "I", 0x0D: "i", 0x0E: "Q", 0x0F: "q"}
-OPERANDS |= {0x10: "u", 0x11: "s", 0x15: "B", 0x23: "u", 0x28: "h", 0x2F: "h", 0x90: "u", 0x91: "s", 0x92: "us"}
-OPERANDS |= {0x93: "u", 0x94: "B", 0x95: "B", 0x98: "H", 0x99: "I", 0x9A: "r", 0x9D: "uu", 0x9E: "k", 0xA0: "rs"}
-OPERANDS |= {0xA1: "u", 0xA2: "u", 0xA3: "k", 0xA4: "uc", 0xA5: "uu", 0xA6: "Bu", 0xA8: "u", 0xA9: "u", 0xF2: "rs"}
-OPERANDS |= {0xF3: "k", 0xF4: "uc", 0xF5: "uu", 0xF6: "Bu", 0xF7: "u", 0xF9: "u", 0xFA: "I", 0xFB: "u", 0xFC: "u"}
-OPERANDS |= {0xFD: "r"}
+# The operands of each form of dwexpr_names.h: a address, r offset in .debug_info, bBhHiIqQ as in struct, u and s LEB128,
+# k a block of two bytes with its length as LEB128, c the same with its length in a byte.
+FORMS = {it: it for it in "aBbHhIiQqusrk"} | {"-": "", "R": "u", "O": "us", "V": "uu", "P": "u", "K": "uu", "D": "B"}
+FORMS |= {"E": "Bu", "T": "u", "L": "uc", "w": "H", "x": "I", "p": "rs"}
+HEADER = pathlib.Path(__file__).parents[2] / "include" / "dwexpr_names.h"
+TABLE = re.search(r"char forms\[\] =(.*?);", HEADER.read_text(encoding="utf-8"), re.DOTALL)[1]
+# libdw knows no DW_OP_xderef_type and no DW_OP_GNU_uninit.
+OPERANDS = {opcode: FORMS[it] for opcode, it in enumerate("".join(re.findall(r'"(.*?)"', TABLE))) if it in FORMS}
+del OPERANDS[0xA7], OPERANDS[0xF0]
 NUMBERS = [0, 1, 63, 64, 127, 128, 255, 300, 0x7FFF, 0x8000, 0xFFFF, 0x12345678, 2**31, 2**32 - 1, 2**62, 2**63 - 1]
 SIGNED = [*NUMBERS, *(-number for number in NUMBERS[1:]), -(2**63)]
 

@@ -1,12 +1,11 @@
-//! Tests of evaluations: each request, and each way to an end.
+//! Tests of evaluations: each way to begin, each shape of answers, and each way to an end.
 
 ghost use Rattle.std.specs.Prelude.{◌≡◌, ◌≤◌, [], None};
 ghost use Rattle.dwarf_meaning.specs.Rest.{Start};
 
 use arrayvec::ArrayVec;
 use dwarf_base::{
-    DebugAddrIndex, Encoding, EndianSlice, Error, Format, Reader, Register, RunTimeEndian,
-    UnitOffset,
+    Encoding, EndianSlice, Error, Format, Reader, Register, RunTimeEndian, UnitOffset,
 };
 use dwarf_eval::eval::{Evaluation, Status, WaitingKind};
 use dwarf_eval::op::{DieReference, EvaluationResult, Expression, Location, Piece};
@@ -382,75 +381,37 @@ fn results_on_the_heap(rt: HostRuntime) {
     expect_with_room::<1>(&rt, rt.alloc(), &case);
 }
 
-// Asks for each answer once, and adds the answers up.
-static EACH_REQUEST: &[u8] = &[
-    0x31, 0x06, 0x70, 0x00, 0x22, 0xed, 0x01, 0x01, 0x22, 0xa3, 0x01, 0x9c, 0x22, 0x91, 0x00, 0x22,
-    0x35, 0x9b, 0x22, 0x9c, 0x22, 0xfa, 0x07, 0x00, 0x00, 0x00, 0x22, 0x03, 0x10, 0x00, 0x00, 0x00,
-    0x22, 0xa1, 0x05, 0x22, 0x98, 0x05, 0x00, 0x22, 0xa8, 0x07,
-];
-
-// What it asks for.
-fn requests<'a>(entry: Slice<'a>) -> [Answer<Slice<'a>>; 13] {
-    [
+// One request of each shape of answers: a value, a number, a text and a type.
+#[test]
+fn each_shape_of_answers(rt: HostRuntime) {
+    let replies = [
         EvaluationResult::RequiresMemory {
             address: 1,
             size: 4,
             space: None,
             base_type: UnitOffset(0),
         },
-        EvaluationResult::RequiresRegister {
-            register: Register(0),
-            base_type: UnitOffset(0),
-        },
-        EvaluationResult::RequiresWasmGlobal { index: 1 },
-        EvaluationResult::RequiresEntryValue(Expression(entry)),
         EvaluationResult::RequiresFrameBase,
-        EvaluationResult::RequiresTls(5),
-        EvaluationResult::RequiresCallFrameCfa,
-        EvaluationResult::RequiresParameterRef(UnitOffset(7)),
-        EvaluationResult::RequiresRelocatedAddress(0x10),
-        EvaluationResult::RequiresIndexedAddress {
-            index: DebugAddrIndex(5),
-            relocate: true,
-        },
         EvaluationResult::RequiresAtLocation(DieReference::UnitRef(UnitOffset(5))),
         EvaluationResult::RequiresBaseType(UnitOffset(7)),
         EvaluationResult::Complete,
     ]
-    .map(|request| Answer(Ok(request)))
-}
-
-// Each of its answers is another power of two.
-fn answers<'a>(callee: Slice<'a>) -> [Step<Slice<'a>>; 13] {
-    [
+    .map(|request| Answer(Ok(request)));
+    let steps = [
         Step::Evaluate,
         Step::Memory(Generic(1)),
-        Step::Register(Generic(2)),
-        Step::WasmValue(Generic(4)),
-        Step::EntryValue(Generic(8)),
-        Step::FrameBase(16),
-        Step::Tls(32),
-        Step::CallFrameCfa(64),
-        Step::ParameterRef(128),
-        Step::RelocatedAddress(256),
-        Step::IndexedAddress(512),
-        Step::AtLocation(callee),
+        Step::FrameBase(2),
+        Step::AtLocation(little(&[0x34, 0x22])),
         Step::BaseType(ValueType::U16),
-    ]
-}
-
-#[test]
-fn each_request(rt: HostRuntime) {
-    let replies = requests(little(&[0x9c]));
-    let steps = answers(little(&[0x0a, 0x00, 0x04]));
-    let pieces = [whole(Location::Address { address: 2047 })];
+    ];
+    let pieces = [whole(Location::Address { address: 7 })];
     let case = with_result(
-        EACH_REQUEST,
+        &[0x31, 0x06, 0x91, 0x00, 0x22, 0x98, 0x05, 0x00, 0xa8, 0x07],
         &steps,
         &replies,
-        Some(Value::U16(2047)),
+        Some(Value::U16(7)),
         &pieces,
     );
-    expect_with_room::<13>(&rt, rt.alloc(), &case);
+    expect_with_room::<5>(&rt, rt.alloc(), &case);
     expect_over_lists::<2, 1, 1>(&rt, rt.alloc(), &case);
 }

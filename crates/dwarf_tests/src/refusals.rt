@@ -89,20 +89,12 @@ fn evaluation<'a>(
     )
 }
 
-// What comes after the answers: every call that a fault allows.
-fn later_steps() -> [Step<Slice<'static>>; 13] {
+// What comes after the answers: calls that a fault allows, a resume of each shape of answers.
+fn later_steps() -> [Step<Slice<'static>>; 5] {
     [
         Step::Evaluate,
         Step::Memory(Generic(0)),
-        Step::Register(Generic(0)),
-        Step::WasmValue(Generic(0)),
-        Step::EntryValue(Generic(0)),
         Step::FrameBase(0),
-        Step::Tls(0),
-        Step::CallFrameCfa(0),
-        Step::ParameterRef(0),
-        Step::RelocatedAddress(0),
-        Step::IndexedAddress(0),
         Step::AtLocation(little(&[])),
         Step::BaseType(ValueType::U8),
     ]
@@ -203,7 +195,7 @@ fn expect_refused(rt: &impl Abort, answers: &[Answer<Slice<'_>>], replies: &[Ans
     assert!(rt; answers.len() == replies.len() + later_steps().len());
 }
 
-// Replays the case, and then every call that a fault allows, over lists one of which refuses the push that this many
+// Replays the case, and then calls that a fault allows, over lists one of which refuses the push that this many
 // others come before, if there is such a push.
 fn expect_push(
     rt: &impl Abort,

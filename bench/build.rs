@@ -1,27 +1,45 @@
-//! Makes `sums.rs` of the checksums in Rattle, and links the files that BENCH_LINKED names, one a line.
+//! Makes `sums.rs` and `answering.rs` of the checksums and the answers in Rattle, and links the files that BENCH_LINKED
+//! names, one a line.
 
-const SUMS: &str = "../crates/dwarf_bench/src/sums.rt";
+const SOURCES: &str = "../crates/dwarf_bench/src";
 
 /// What differs in Rust: the names come of either crate, which both call a block's bytes `data`, and gimli has
-/// floating-point numbers, of which no answer has one.
-const REPLACED: [(&str, &str); 7] = [
+/// floating-point numbers, of which no answer has one. A contract is lines of its own.
+const SUMS: &[(&str, &str)] = &[
     ("//! Checksums", "// Checksums"),
     ("use crate::jobs::Text;", "use super::work::Text;"),
-    ("use dwarf_base::Reader;", "use super::layer::Reader;"),
+    ("use dwarf_base::{", "use super::layer::{"),
     ("use dwarf_eval::op::{", "use super::layer::{"),
     ("use dwarf_value::Value;", "use super::layer::Value;"),
     ("mix_two(sum, 8, it),", "mix_two(sum, 8, it), #[allow(unreachable_patterns)] _ => mix(sum, 9),"),
     ("{ bytes } => mix_text(mix(sum, 40), bytes)", "{ data } => mix_text(mix(sum, 40), data)"),
 ];
+const ANSWERING: &[(&str, &str)] = &[
+    ("//! Made-up", "// Made-up"),
+    ("use crate::sums::", "use super::sums::"),
+    ("use dwarf_base::{", "use super::layer::{"),
+    ("use dwarf_eval::eval::", "use super::layer::"),
+    ("use dwarf_eval::op::", "use super::layer::"),
+    ("use dwarf_eval::store::", "use super::layer::"),
+    ("use dwarf_value::{", "use super::layer::{"),
+];
+
+fn write(name: &str, replaced: &[(&str, &str)]) {
+    let path = format!("{SOURCES}/{name}.rt");
+    println!("cargo:rerun-if-changed={path}");
+    let source = std::fs::read_to_string(&path).expect(&path);
+    let is_rust = |line: &&str| !["ghost ", "requires ", "ensures "].iter().any(|it| line.trim().starts_with(it));
+    let mut text = source.split_inclusive('\n').filter(is_rust).collect::<String>();
+    for (old, new) in replaced {
+        assert_eq!(text.matches(old).count(), 1, "{path}: {old}");
+        text = text.replace(old, new);
+    }
+    std::fs::write(format!("{}/{name}.rs", std::env::var("OUT_DIR").unwrap()), text).unwrap();
+}
 
 fn main() {
-    println!("cargo:rerun-if-changed={SUMS}");
-    let mut sums = std::fs::read_to_string(SUMS).expect(SUMS);
-    for (old, new) in REPLACED {
-        assert_eq!(sums.matches(old).count(), 1, "{SUMS}: {old}");
-        sums = sums.replace(old, new);
-    }
-    std::fs::write(format!("{}/sums.rs", std::env::var("OUT_DIR").unwrap()), sums).unwrap();
+    write("sums", SUMS);
+    write("answering", ANSWERING);
     println!("cargo:rerun-if-env-changed=BENCH_LINKED");
     for file in std::env::var("BENCH_LINKED").unwrap_or_default().lines() {
         println!("cargo:rerun-if-changed={file}");

@@ -2,6 +2,9 @@
 
 pub use dwexpr as layer;
 
+mod answering {
+    include!(concat!(env!("OUT_DIR"), "/answering.rs"));
+}
 mod sums {
     include!(concat!(env!("OUT_DIR"), "/sums.rs"));
 }
@@ -36,5 +39,5 @@ fn one_by_gimlis_reader(case: &Case) -> u64 {
     let order = if case.job.is_big_endian { gimli::RunTimeEndian::Big } else { gimli::RunTimeEndian::Little };
     let [text, nothing] = [case.bytes(), &[]].map(|bytes| GimliReader(gimli::EndianSlice::new(bytes, order)));
     let mut evaluation = Evaluation::new(text, encoding_of(&case.job));
-    complete(&mut evaluation, text, nothing, &case.job, |_| ()).0.into()
+    complete::<_, _, false>(&mut evaluation, text, nothing, &case.job, &mut 0).0.into()
 }

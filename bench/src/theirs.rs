@@ -2,6 +2,9 @@
 
 pub use gimli as layer;
 
+mod answering {
+    include!(concat!(env!("OUT_DIR"), "/answering.rs"));
+}
 mod sums {
     include!(concat!(env!("OUT_DIR"), "/sums.rs"));
 }

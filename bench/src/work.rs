@@ -1,10 +1,11 @@
 //! The works by either crate: this file is compiled for each, and `layer` is the crate.
 
+use super::answering::respond;
 use super::layer::{
     Encoding, EndianSlice, Evaluation, EvaluationResult, EvaluationStorage, Format, Operation, Piece, Reader, Result,
-    RunTimeEndian, StoreOnHeap, Value, ValueType,
+    RunTimeEndian, StoreOnHeap, Value,
 };
-use super::sums::{mix, mix_location, mix_operation, mix_option, mix_request, mix_value};
+use super::sums::{mix, mix_location, mix_operation, mix_option, mix_value};
 use crate::cases::{Case, Job};
 use std::hint::black_box;
 
@@ -101,10 +102,10 @@ pub fn finish<'a, S: EvaluationStorage<Text<'a>>>(
 ) -> u64 {
     let nothing = text_of(&[], job);
     if job.counted != 0 {
-        return complete(evaluation, text, nothing, job, |_| ()).0.into();
+        return complete::<_, _, false>(evaluation, text, nothing, job, &mut 0).0.into();
     }
     let mut sum = 0u64;
-    let (met, reply) = complete(evaluation, text, nothing, job, |request| sum = mix_request(sum, request));
+    let (met, reply) = complete::<_, _, true>(evaluation, text, nothing, job, &mut sum);
     sum = match reply {
         Ok(EvaluationResult::Complete) => mix_end(sum, evaluation),
         Ok(_) => sum,
@@ -113,15 +114,15 @@ pub fn finish<'a, S: EvaluationStorage<Text<'a>>>(
     sum.wrapping_add(met.into())
 }
 
-/// Evaluates to the end, to a fault or until no more answers are given, and shows each request: the number of answers,
-/// and the last reply.
+/// Evaluates to the end, to a fault or until no more answers are given: the number of answers, and the last reply. If
+/// `SUMS` is true, it adds each request.
 #[inline(always)]
-pub fn complete<R: Reader + Copy, S: EvaluationStorage<R>>(
+pub fn complete<R: Reader + Copy, S: EvaluationStorage<R>, const SUMS: bool>(
     evaluation: &mut Evaluation<R, S>,
     text: R,
     nothing: R,
     job: &Job,
-    mut show: impl FnMut(&EvaluationResult<R>),
+    sum: &mut u64,
 ) -> (u32, Result<EvaluationResult<R>>) {
     evaluation.set_max_iterations(job.maximum);
     evaluation.set_object_address(0x7000);
@@ -129,41 +130,14 @@ pub fn complete<R: Reader + Copy, S: EvaluationStorage<R>>(
     let mut reply = evaluation.evaluate();
     while met < job.answers {
         let Ok(request) = reply else { break };
-        show(&request);
         if matches!(request, EvaluationResult::Complete) {
             return (met, Ok(request));
         }
         let called = if met < job.depth { text } else { nothing };
         met += 1;
-        reply = respond(evaluation, request, called);
+        reply = respond::<R, S, SUMS>(evaluation, request, called, sum);
     }
     (met, reply)
-}
-
-/// Gives the open request a made-up answer.
-#[inline(always)]
-fn respond<R: Reader + Copy, S: EvaluationStorage<R>>(
-    evaluation: &mut Evaluation<R, S>,
-    request: EvaluationResult<R>,
-    called: R,
-) -> Result<EvaluationResult<R>> {
-    match request {
-        EvaluationResult::Complete => Ok(EvaluationResult::Complete),
-        EvaluationResult::RequiresMemory { .. } => evaluation.resume_with_memory(Value::Generic(0x1234)),
-        EvaluationResult::RequiresRegister { .. } => evaluation.resume_with_register(Value::Generic(0x7ffe_0000)),
-        EvaluationResult::RequiresWasmLocal { index }
-        | EvaluationResult::RequiresWasmGlobal { index }
-        | EvaluationResult::RequiresWasmStack { index } => evaluation.resume_with_wasm_value(Value::U32(index)),
-        EvaluationResult::RequiresFrameBase => evaluation.resume_with_frame_base(0x7ffe_1000),
-        EvaluationResult::RequiresTls(_) => evaluation.resume_with_tls(0x10),
-        EvaluationResult::RequiresCallFrameCfa => evaluation.resume_with_call_frame_cfa(0x7ffe_2000),
-        EvaluationResult::RequiresAtLocation(_) => evaluation.resume_with_at_location(called),
-        EvaluationResult::RequiresEntryValue(_) => evaluation.resume_with_entry_value(Value::Generic(5)),
-        EvaluationResult::RequiresParameterRef(_) => evaluation.resume_with_parameter_ref(5),
-        EvaluationResult::RequiresRelocatedAddress(address) => evaluation.resume_with_relocated_address(address),
-        EvaluationResult::RequiresIndexedAddress { .. } => evaluation.resume_with_indexed_address(5),
-        EvaluationResult::RequiresBaseType(_) => evaluation.resume_with_base_type(ValueType::Generic),
-    }
 }
 
 #[inline(never)]

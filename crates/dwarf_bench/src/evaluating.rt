@@ -1,17 +1,17 @@
 //! Evaluation with made-up answers, from the making of its lists to their end.
 
-ghost use Rattle.std.specs.Prelude.{◌<◌, ◌≤◌, ◌↔◌, IfOk, IsTrue};
-ghost use Rattle.dwarf_eval.specs.Permits.{Admits};
+ghost use Rattle.std.specs.Prelude.{◌<◌, ◌≤◌, ◌↔◌, IsTrue};
 ghost use Rattle.dwarf_eval.specs.Evaluation.{IsClosed};
 
+use crate::answering::respond;
 use crate::jobs::{Case, Job, Text};
-use crate::sums::{mix, mix_location, mix_option, mix_request, mix_value};
+use crate::sums::{mix, mix_location, mix_option, mix_value};
 use arrayvec::ArrayVec;
-use dwarf_base::{Encoding, EndianSlice, Format, Reader, Result, RunTimeEndian};
+use dwarf_base::{Encoding, EndianSlice, Format, RunTimeEndian};
 use dwarf_eval::eval::{Evaluation, Status};
 use dwarf_eval::op::{EvaluationResult, Location, Piece};
 use dwarf_eval::store::{EvaluationStorage, SliceVec, StoreInSlices, StoreOnHeap};
-use dwarf_value::{Value, ValueType};
+use dwarf_value::Value;
 use std::alloc::Global;
 
 /// What an evaluation begins with that is then restarted.
@@ -152,6 +152,8 @@ fn complete<'a, S: EvaluationStorage<Text<'a>>, const SUMS: bool>(
 {
     evaluation.set_max_iterations(job.maximum);
     evaluation.set_object_address(0x7000);
+    let text = job.text(bytes);
+    let nothing = job.text(&[]);
     let mut sum = 0u64;
     let mut met = 0u32;
     let mut reply = evaluation.evaluate();
@@ -159,73 +161,17 @@ fn complete<'a, S: EvaluationStorage<Text<'a>>, const SUMS: bool>(
         let Ok(request) = reply else {
             break;
         };
-        if SUMS {
-            sum = mix_request(sum, &request);
-        }
         if matches!(request, EvaluationResult::Complete) {
             break;
         }
-        let is_deep = met >= job.depth;
+        let called = if met < job.depth { text } else { nothing };
         met += 1;
-        reply = respond::<S, SUMS>(evaluation, request, bytes, job, is_deep);
+        reply = respond::<Text<'a>, S, SUMS>(evaluation, request, called, &mut sum);
     }
     if SUMS {
         sum = mix_end(sum, evaluation);
     }
     sum.wrapping_add(u64::from(met))
-}
-
-/// Gives the open request a made-up answer.
-#[inline(always)]
-fn respond<'a, S: EvaluationStorage<Text<'a>>, const SUMS: bool>(
-    evaluation: &mut Evaluation<Text<'a>, S>,
-    request: EvaluationResult<Text<'a>>,
-    bytes: &'a [u8],
-    job: &Job,
-    is_deep: bool,
-) -> Result<EvaluationResult<Text<'a>>>
-    requires { Admits request evaluation.old.status }
-    ensures { IfOk result (λ replied. Admits replied evaluation.new.status) }
-{
-    match request {
-        EvaluationResult::Complete => Ok(request),
-        EvaluationResult::RequiresMemory { .. } => {
-            evaluation.resume_with_memory(Value::Generic(0x1234))
-        }
-        EvaluationResult::RequiresRegister { .. } => {
-            evaluation.resume_with_register(Value::Generic(0x7ffe_0000))
-        }
-        EvaluationResult::RequiresWasmLocal { index }
-        | EvaluationResult::RequiresWasmGlobal { index }
-        | EvaluationResult::RequiresWasmStack { index } => {
-            evaluation.resume_with_wasm_value(Value::U32(index))
-        }
-        EvaluationResult::RequiresFrameBase => evaluation.resume_with_frame_base(0x7ffe_1000),
-        EvaluationResult::RequiresTls(_) => evaluation.resume_with_tls(0x10),
-        EvaluationResult::RequiresCallFrameCfa => {
-            evaluation.resume_with_call_frame_cfa(0x7ffe_2000)
-        }
-        EvaluationResult::RequiresAtLocation(_) => {
-            let mut called = job.text(bytes);
-            if is_deep {
-                called.empty();
-            }
-            evaluation.resume_with_at_location(called)
-        }
-        EvaluationResult::RequiresEntryValue(_) => {
-            evaluation.resume_with_entry_value(Value::Generic(5))
-        }
-        EvaluationResult::RequiresParameterRef(_) => evaluation.resume_with_parameter_ref(5),
-        EvaluationResult::RequiresRelocatedAddress(address) => {
-            evaluation.resume_with_relocated_address(address)
-        }
-        EvaluationResult::RequiresIndexedAddress { .. } => {
-            evaluation.resume_with_indexed_address(5)
-        }
-        EvaluationResult::RequiresBaseType(_) => {
-            evaluation.resume_with_base_type(ValueType::Generic)
-        }
-    }
 }
 
 /// Adds what a complete evaluation gives, or that it failed.

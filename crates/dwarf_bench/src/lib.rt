@@ -2,6 +2,7 @@
 //! every case `times` times before the next, and gives the sum of the numbers of the single cases.
 #![tactic(auto)]
 
+mod answering;
 mod decoding;
 mod evaluating;
 mod jobs;

@@ -1,8 +1,8 @@
-//! Checksums of what was decoded and answered, which the program compares with gimli's.
+//! Checksums of what was decoded and of results, which the program compares with gimli's.
 
 use crate::jobs::Text;
-use dwarf_base::Reader;
-use dwarf_eval::op::{DieReference, EvaluationResult, Location, Operation};
+use dwarf_base::{Reader, ReaderOffset};
+use dwarf_eval::op::{DieReference, Location, Operation};
 use dwarf_value::Value;
 
 /// Adds a number: a step of FNV-1a, 64 bits at once.
@@ -10,13 +10,14 @@ pub fn mix(sum: u64, number: u64) -> u64 {
     (sum ^ number).wrapping_mul(0x100_0000_01b3)
 }
 
-fn mix_two(sum: u64, kind: u64, number: u64) -> u64 {
+pub fn mix_two(sum: u64, kind: u64, number: u64) -> u64 {
     mix(mix(sum, kind), number)
 }
 
-fn mix_text(mut sum: u64, mut text: Text<'_>) -> u64 {
-    sum = mix(sum, text.len() as u64);
-    for _ in 0..text.len() {
+pub fn mix_text<R: Reader>(mut sum: u64, mut text: R) -> u64 {
+    let length = text.len().into_u64();
+    sum = mix(sum, length);
+    for _ in 0..length {
         if let Ok(byte) = text.read_u8() {
             sum = mix(sum, u64::from(byte));
         }
@@ -45,10 +46,10 @@ pub fn mix_value(sum: u64, value: Value) -> u64 {
     }
 }
 
-fn mix_reference(sum: u64, reference: DieReference<usize>) -> u64 {
+pub fn mix_reference<O: ReaderOffset>(sum: u64, reference: DieReference<O>) -> u64 {
     match reference {
-        DieReference::UnitRef(offset) => mix_two(sum, 0, offset.0 as u64),
-        DieReference::DebugInfoRef(offset) => mix_two(sum, 1, offset.0 as u64),
+        DieReference::UnitRef(offset) => mix_two(sum, 0, offset.0.into_u64()),
+        DieReference::DebugInfoRef(offset) => mix_two(sum, 1, offset.0.into_u64()),
     }
 }
 
@@ -62,40 +63,6 @@ pub fn mix_location(sum: u64, location: Location<Text<'_>>) -> u64 {
         Location::ImplicitPointer { value, byte_offset } => {
             mix_two(mix(sum, 5), value.0 as u64, byte_offset.cast_unsigned())
         }
-    }
-}
-
-#[inline(never)]
-pub fn mix_request(sum: u64, request: &EvaluationResult<Text<'_>>) -> u64 {
-    match *request {
-        EvaluationResult::Complete => mix(sum, 100),
-        EvaluationResult::RequiresMemory {
-            address,
-            size,
-            space,
-            base_type,
-        } => {
-            let sum = mix_two(mix(sum, 101), address, u64::from(size));
-            mix_option(mix(sum, base_type.0 as u64), space)
-        }
-        EvaluationResult::RequiresRegister {
-            register,
-            base_type,
-        } => mix_two(mix(sum, 102), u64::from(register.0), base_type.0 as u64),
-        EvaluationResult::RequiresWasmLocal { index } => mix_two(sum, 112, u64::from(index)),
-        EvaluationResult::RequiresWasmGlobal { index } => mix_two(sum, 113, u64::from(index)),
-        EvaluationResult::RequiresWasmStack { index } => mix_two(sum, 114, u64::from(index)),
-        EvaluationResult::RequiresFrameBase => mix(sum, 103),
-        EvaluationResult::RequiresTls(index) => mix_two(sum, 104, index),
-        EvaluationResult::RequiresCallFrameCfa => mix(sum, 105),
-        EvaluationResult::RequiresAtLocation(reference) => mix_reference(mix(sum, 106), reference),
-        EvaluationResult::RequiresEntryValue(expression) => mix_text(mix(sum, 107), expression.0),
-        EvaluationResult::RequiresParameterRef(offset) => mix_two(sum, 108, offset.0 as u64),
-        EvaluationResult::RequiresRelocatedAddress(address) => mix_two(sum, 109, address),
-        EvaluationResult::RequiresIndexedAddress { index, relocate } => {
-            mix_two(mix(sum, 110), index.0 as u64, u64::from(relocate))
-        }
-        EvaluationResult::RequiresBaseType(offset) => mix_two(sum, 111, offset.0 as u64),
     }
 }
 

@@ -7,7 +7,7 @@ const SOURCES: &str = "../crates/dwarf_bench/src";
 /// floating-point numbers, of which no answer has one. A contract is lines of its own.
 const SUMS: &[(&str, &str)] = &[
     ("//! Checksums", "// Checksums"),
-    ("use crate::jobs::Text;", "use super::work::Text;"),
+    ("use crate::jobs::Bytes;", "use super::work::Bytes;"),
     ("use dwarf_base::{", "use super::layer::{"),
     ("use dwarf_eval::op::{", "use super::layer::{"),
     ("use dwarf_value::Value;", "use super::layer::Value;"),

@@ -10,7 +10,7 @@ use crate::cases::{Case, Job};
 use std::hint::black_box;
 
 /// The bytes of an expression, in an order that is known when the program runs.
-pub type Text<'a> = EndianSlice<'a, RunTimeEndian>;
+pub type Bytes<'a> = EndianSlice<'a, RunTimeEndian>;
 
 /// Lists of fixed capacities.
 pub struct Arrays;
@@ -29,7 +29,7 @@ pub fn encoding_of(job: &Job) -> Encoding {
     }
 }
 
-pub fn text_of<'a>(bytes: &'a [u8], job: &Job) -> Text<'a> {
+pub fn text_of<'a>(bytes: &'a [u8], job: &Job) -> Bytes<'a> {
     EndianSlice::new(bytes, if job.is_big_endian { RunTimeEndian::Big } else { RunTimeEndian::Little })
 }
 
@@ -88,16 +88,16 @@ pub fn in_arrays(cases: &[Case], times: u32) -> u64 {
 }
 
 #[inline(never)]
-fn anew<S: for<'a> EvaluationStorage<Text<'a>>>(case: &Case) -> u64 {
+fn anew<S: for<'a> EvaluationStorage<Bytes<'a>>>(case: &Case) -> u64 {
     let text = text_of(case.bytes(), &case.job);
     let mut evaluation = Evaluation::<_, S>::new_in(text, encoding_of(&case.job));
     finish(&mut evaluation, text, &case.job)
 }
 
 #[inline(always)]
-pub fn finish<'a, S: EvaluationStorage<Text<'a>>>(
-    evaluation: &mut Evaluation<Text<'a>, S>,
-    text: Text<'a>,
+pub fn finish<'a, S: EvaluationStorage<Bytes<'a>>>(
+    evaluation: &mut Evaluation<Bytes<'a>, S>,
+    text: Bytes<'a>,
     job: &Job,
 ) -> u64 {
     let nothing = text_of(&[], job);
@@ -141,7 +141,7 @@ pub fn complete<R: Reader + Copy, S: EvaluationStorage<R>, const SUMS: bool>(
 }
 
 #[inline(never)]
-fn mix_end<'a, S: EvaluationStorage<Text<'a>>>(mut sum: u64, evaluation: &Evaluation<Text<'a>, S>) -> u64 {
+fn mix_end<'a, S: EvaluationStorage<Bytes<'a>>>(mut sum: u64, evaluation: &Evaluation<Bytes<'a>, S>) -> u64 {
     for piece in evaluation.as_result() {
         sum = mix_option(mix_option(sum, piece.size_in_bits), piece.bit_offset);
         sum = mix_location(sum, piece.location);

@@ -4,7 +4,7 @@ ghost use Rattle.std.specs.Prelude.{◌<◌, ◌≤◌, ◌↔◌, IsTrue};
 ghost use Rattle.dwarf_eval.specs.Evaluation.{IsClosed};
 
 use crate::answering::respond;
-use crate::jobs::{Case, Job, Text};
+use crate::jobs::{Bytes, Case, Job};
 use crate::sums::{mix, mix_location, mix_option, mix_value};
 use arrayvec::ArrayVec;
 use dwarf_base::{Encoding, EndianSlice, Format, RunTimeEndian};
@@ -24,12 +24,12 @@ const ANY_ENCODING: Encoding = Encoding {
 /// Lists of fixed capacities.
 struct Arrays;
 
-impl<'a> EvaluationStorage<Text<'a>> for Arrays {
+impl<'a> EvaluationStorage<Bytes<'a>> for Arrays {
     type Stack = ArrayVec<Value, 64>;
 
-    type ExpressionStack = ArrayVec<(Text<'a>, Text<'a>), 8>;
+    type ExpressionStack = ArrayVec<(Bytes<'a>, Bytes<'a>), 8>;
 
-    type Result = ArrayVec<Piece<Text<'a>>, 16>;
+    type Result = ArrayVec<Piece<Bytes<'a>>, 16>;
 }
 
 pub fn evaluate_on_heap(alloc: Global, cases: &[Case<'_>], times: u32) -> u64 {
@@ -97,7 +97,7 @@ pub fn evaluate_in_slices(cases: &[Case<'_>], times: u32) -> u64 {
 
 pub fn restart_on_heap(alloc: Global, cases: &[Case<'_>], times: u32) -> u64 {
     let nothing = EndianSlice::new(&[], RunTimeEndian::Little);
-    let mut evaluation: Evaluation<Text<'_>, StoreOnHeap<Global>> = Evaluation::new(
+    let mut evaluation: Evaluation<Bytes<'_>, StoreOnHeap<Global>> = Evaluation::new(
         alloc,
         nothing,
         ANY_ENCODING,
@@ -124,8 +124,8 @@ fn is_evaluated(job: &Job) -> bool
 /// Evaluates to the end, to a fault or until no more answers are given: the number of answers that were given, and if
 /// it is asked for a checksum of the requests, of the pieces and of the value.
 #[inline(always)]
-fn finish<'a, S: EvaluationStorage<Text<'a>>>(
-    evaluation: &mut Evaluation<Text<'a>, S>,
+fn finish<'a, S: EvaluationStorage<Bytes<'a>>>(
+    evaluation: &mut Evaluation<Bytes<'a>, S>,
     bytes: &'a [u8],
     job: &Job,
 ) -> u64
@@ -143,8 +143,8 @@ fn finish<'a, S: EvaluationStorage<Text<'a>>>(
 /// It is a function of its own for each storage and each `SUMS`, so that `respond`, which is too large to be marked,
 /// has one caller and is in line.
 #[inline(never)]
-fn complete<'a, S: EvaluationStorage<Text<'a>>, const SUMS: bool>(
-    evaluation: &mut Evaluation<Text<'a>, S>,
+fn complete<'a, S: EvaluationStorage<Bytes<'a>>, const SUMS: bool>(
+    evaluation: &mut Evaluation<Bytes<'a>, S>,
     bytes: &'a [u8],
     job: &Job,
 ) -> u64
@@ -166,7 +166,7 @@ fn complete<'a, S: EvaluationStorage<Text<'a>>, const SUMS: bool>(
         }
         let called = if met < job.depth { text } else { nothing };
         met += 1;
-        reply = respond::<Text<'a>, S, SUMS>(evaluation, request, called, &mut sum);
+        reply = respond::<Bytes<'a>, S, SUMS>(evaluation, request, called, &mut sum);
     }
     if SUMS {
         sum = mix_end(sum, evaluation);
@@ -176,9 +176,9 @@ fn complete<'a, S: EvaluationStorage<Text<'a>>, const SUMS: bool>(
 
 /// Adds what a complete evaluation gives, or that it failed.
 #[inline(never)]
-fn mix_end<'a, S: EvaluationStorage<Text<'a>>>(
+fn mix_end<'a, S: EvaluationStorage<Bytes<'a>>>(
     mut sum: u64,
-    evaluation: &Evaluation<Text<'a>, S>,
+    evaluation: &Evaluation<Bytes<'a>, S>,
 ) -> u64 {
     match evaluation.status() {
         Status::Complete => {

@@ -5,7 +5,7 @@ ghost use Rattle.std.specs.Prelude.{◌≡◌};
 use dwarf_base::{Encoding, EndianSlice, Format, RunTimeEndian};
 
 /// The bytes of an expression, in an order that is known when the program runs.
-pub type Text<'a> = EndianSlice<'a, RunTimeEndian>;
+pub type Bytes<'a> = EndianSlice<'a, RunTimeEndian>;
 
 /// How the bytes are to be read, and what is done with them.
 #[repr(C)]
@@ -52,7 +52,7 @@ impl Job {
         }
     }
 
-    pub fn text(self, bytes: &[u8]) -> Text<'_> {
+    pub fn text(self, bytes: &[u8]) -> Bytes<'_> {
         let order = if self.is_big_endian {
             RunTimeEndian::Big
         } else {

@@ -1,6 +1,6 @@
 //! Checksums of what was decoded and of results, which the program compares with gimli's.
 
-use crate::jobs::Text;
+use crate::jobs::Bytes;
 use dwarf_base::{Reader, ReaderOffset};
 use dwarf_eval::op::{DieReference, Location, Operation};
 use dwarf_value::Value;
@@ -53,7 +53,7 @@ pub fn mix_reference<O: ReaderOffset>(sum: u64, reference: DieReference<O>) -> u
     }
 }
 
-pub fn mix_location(sum: u64, location: Location<Text<'_>>) -> u64 {
+pub fn mix_location(sum: u64, location: Location<Bytes<'_>>) -> u64 {
     match location {
         Location::Empty => mix(sum, 0),
         Location::Register { register } => mix_two(sum, 1, u64::from(register.0)),
@@ -67,7 +67,7 @@ pub fn mix_location(sum: u64, location: Location<Text<'_>>) -> u64 {
 }
 
 #[inline(never)]
-pub fn mix_operation(sum: u64, operation: &Operation<Text<'_>>) -> u64 {
+pub fn mix_operation(sum: u64, operation: &Operation<Bytes<'_>>) -> u64 {
     match *operation {
         Operation::Deref {
             base_type,

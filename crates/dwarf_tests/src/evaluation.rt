@@ -16,7 +16,7 @@ use dwarf_value::ValueType;
 use std::alloc::{Allocator, Global};
 use std::process::Abort;
 
-pub(crate) type Slice<'a> = EndianSlice<'a, RunTimeEndian>;
+pub(crate) type Bytes<'a> = EndianSlice<'a, RunTimeEndian>;
 
 /// Addresses of 4 bytes and the 32-bit format.
 pub(crate) const SMALL: Encoding = Encoding {
@@ -42,31 +42,31 @@ impl<
 }
 
 /// The bytes, the lowest of a number first.
-pub(crate) fn little(text: &[u8]) -> Slice<'_> {
+pub(crate) fn little(text: &[u8]) -> Bytes<'_> {
     EndianSlice::new(text, RunTimeEndian::Little)
 }
 
 /// A call that is complete.
-pub(crate) const COMPLETE: Answer<Slice<'static>> = Answer(Ok(EvaluationResult::Complete));
+pub(crate) const COMPLETE: Answer<Bytes<'static>> = Answer(Ok(EvaluationResult::Complete));
 
 /// A text and steps, what the calls of a replay give, how it ends, and where the evaluation then stands.
 #[derive(Clone, Copy)]
 pub(crate) struct Case<'a> {
     pub(crate) text: &'a [u8],
-    pub(crate) steps: &'a [Step<Slice<'a>>],
-    pub(crate) replies: &'a [Answer<Slice<'a>>],
-    pub(crate) end: Replayed<Slice<'a>>,
+    pub(crate) steps: &'a [Step<Bytes<'a>>],
+    pub(crate) replies: &'a [Answer<Bytes<'a>>],
+    pub(crate) end: Replayed<Bytes<'a>>,
     pub(crate) status: Status,
     pub(crate) value: Option<Value>,
-    pub(crate) pieces: &'a [Piece<Slice<'a>>],
+    pub(crate) pieces: &'a [Piece<Bytes<'a>>],
 }
 
 /// A case that ends with no result.
 pub(crate) fn without_result<'a>(
     text: &'a [u8],
-    steps: &'a [Step<Slice<'a>>],
-    replies: &'a [Answer<Slice<'a>>],
-    end: Replayed<Slice<'a>>,
+    steps: &'a [Step<Bytes<'a>>],
+    replies: &'a [Answer<Bytes<'a>>],
+    end: Replayed<Bytes<'a>>,
     status: Status,
 ) -> Case<'a> {
     Case {
@@ -83,10 +83,10 @@ pub(crate) fn without_result<'a>(
 /// A case that is complete.
 pub(crate) fn with_result<'a>(
     text: &'a [u8],
-    steps: &'a [Step<Slice<'a>>],
-    replies: &'a [Answer<Slice<'a>>],
+    steps: &'a [Step<Bytes<'a>>],
+    replies: &'a [Answer<Bytes<'a>>],
     value: Option<Value>,
-    pieces: &'a [Piece<Slice<'a>>],
+    pieces: &'a [Piece<Bytes<'a>>],
 ) -> Case<'a> {
     Case {
         text,
@@ -138,8 +138,8 @@ pub(crate) fn replayed<R: Reader + Copy, S: EvaluationStorage<R>, L: ArrayLike<I
 /// The outcome and the answers are those that the case names.
 pub(crate) fn expect(
     rt: &impl Abort,
-    outcome: &Outcome<Slice<'_>>,
-    answers: &[Answer<Slice<'_>>],
+    outcome: &Outcome<Bytes<'_>>,
+    answers: &[Answer<Bytes<'_>>],
     case: &Case<'_>,
 ) {
     assert!(rt; answers == case.replies);
@@ -150,10 +150,10 @@ pub(crate) fn expect(
 }
 
 /// Replays the case on a fresh evaluation, and again after a restart.
-pub(crate) fn expect_of<'a, S: EvaluationStorage<Slice<'a>>>(
+pub(crate) fn expect_of<'a, S: EvaluationStorage<Bytes<'a>>>(
     rt: &impl Abort,
     alloc: Global,
-    mut eval: Evaluation<Slice<'a>, S>,
+    mut eval: Evaluation<Bytes<'a>, S>,
     case: &Case<'a>,
 )
     requires { eval.status ≡ Start None }
@@ -165,10 +165,10 @@ pub(crate) fn expect_of<'a, S: EvaluationStorage<Slice<'a>>>(
 }
 
 // Replays the case on an evaluation that is restarted for it.
-fn expect_restarted<'a, S: EvaluationStorage<Slice<'a>>>(
+fn expect_restarted<'a, S: EvaluationStorage<Bytes<'a>>>(
     rt: &impl Abort,
     alloc: Global,
-    eval: &mut Evaluation<Slice<'a>, S>,
+    eval: &mut Evaluation<Bytes<'a>, S>,
     case: &Case<'a>,
 ) {
     eval.restart(little(case.text), SMALL);
@@ -180,8 +180,8 @@ fn expect_restarted<'a, S: EvaluationStorage<Slice<'a>>>(
 // The pieces are handed over, if the evaluation is complete.
 fn expect_result<'a, A: Allocator + Copy>(
     rt: &impl Abort,
-    eval: Evaluation<Slice<'a>, StoreOnHeap<A>>,
-    pieces: &[Piece<Slice<'a>>],
+    eval: Evaluation<Bytes<'a>, StoreOnHeap<A>>,
+    pieces: &[Piece<Bytes<'a>>],
 ) {
     if matches!(eval.status(), Status::Complete) {
         assert!(rt; eval.result().as_slice() == pieces);
@@ -193,7 +193,7 @@ pub(crate) fn expect_with_room<const CAP: usize>(rt: &impl Abort, alloc: Global,
     requires { CAP ≤ 13 }
 {
     let mut eval = Evaluation::new(alloc, little(case.text), SMALL);
-    let mut answers = ArrayVec::<Answer<Slice<'_>>, CAP>::new();
+    let mut answers = ArrayVec::<Answer<Bytes<'_>>, CAP>::new();
     let outcome = replayed(rt, alloc, &mut eval, case.steps, &mut answers);
     expect(rt, &outcome, answers.as_slice(), case);
     expect_result(rt, eval, case.pieces);
@@ -209,7 +209,7 @@ pub(crate) fn expect_over_lists<const STACK: usize, const CALLERS: usize, const 
     requires callers { CALLERS ≤ 13 }
     requires pieces { PIECES ≤ 13 }
 {
-    let eval: Evaluation<Slice<'_>, Fixed<STACK, CALLERS, PIECES>> = Evaluation::new_in(
+    let eval: Evaluation<Bytes<'_>, Fixed<STACK, CALLERS, PIECES>> = Evaluation::new_in(
         little(case.text),
         SMALL,
         ArrayVec::new(),
@@ -220,7 +220,7 @@ pub(crate) fn expect_over_lists<const STACK: usize, const CALLERS: usize, const 
 }
 
 /// A piece of no size: the whole variable.
-pub(crate) fn whole(location: Location<Slice<'_>>) -> Piece<Slice<'_>> {
+pub(crate) fn whole(location: Location<Bytes<'_>>) -> Piece<Bytes<'_>> {
     Piece {
         size_in_bits: None,
         bit_offset: None,
@@ -321,7 +321,7 @@ fn expect_ways<A: Allocator + Copy>(rt: &impl Abort, alloc: Global, memory: A) {
     let text = little(case.text);
     expect_with_room::<2>(rt, alloc, &case);
     expect_of(rt, alloc, Expression(text).evaluation(memory, SMALL), &case);
-    let lists: Evaluation<Slice<'_>, StoreOnHeap<A>> = Evaluation::new_in(
+    let lists: Evaluation<Bytes<'_>, StoreOnHeap<A>> = Evaluation::new_in(
         text,
         SMALL,
         Vec::new(memory),
@@ -353,7 +353,7 @@ fn restarts_over_slices(rt: HostRuntime) {
     let mut values = [Generic(0); 4];
     let mut callers = [(little(&[]), little(&[])); 4];
     let mut pieces = [whole(Location::Empty); 4];
-    let mut eval: Evaluation<Slice<'static>, StoreInSlices<'_>> = Evaluation::new_in(
+    let mut eval: Evaluation<Bytes<'static>, StoreInSlices<'_>> = Evaluation::new_in(
         little(&[]),
         SMALL,
         SliceVec::new(&mut values),

@@ -2,7 +2,7 @@
 ghost use Rattle.std.specs.Prelude.{◌≤◌, ◌<◌};
 
 use crate::allocators::{NEVER, RefusesGrowth};
-use crate::evaluation::{COMPLETE, SMALL, Slice, little, replayed};
+use crate::evaluation::{Bytes, COMPLETE, SMALL, little, replayed};
 use crate::replays::ASKED;
 use dwarf_base::{Encoding, Format};
 use dwarf_eval::eval::Evaluation;
@@ -18,11 +18,11 @@ static TEXT: &[u8] = &[
 ];
 
 // Begins in each way, and once more.
-fn begin<A: Allocator + Copy>(memory: A, text: Slice<'_>, encoding: Encoding)
+fn begin<A: Allocator + Copy>(memory: A, text: Bytes<'_>, encoding: Encoding)
     requires some { 0 < encoding.address_size }
     requires fits { encoding.address_size ≤ 8 }
 {
-    let mut eval: Evaluation<Slice<'_>, StoreOnHeap<A>> = Evaluation::new_in(
+    let mut eval: Evaluation<Bytes<'_>, StoreOnHeap<A>> = Evaluation::new_in(
         text,
         encoding,
         Vec::new(memory),
@@ -40,7 +40,7 @@ fn begin<A: Allocator + Copy>(memory: A, text: Slice<'_>, encoding: Encoding)
 fn evaluate_again<'a, A: Allocator + Copy>(
     rt: &impl Abort,
     alloc: Global,
-    eval: &mut Evaluation<Slice<'a>, StoreOnHeap<A>>,
+    eval: &mut Evaluation<Bytes<'a>, StoreOnHeap<A>>,
     encoding: Encoding,
 )
     requires some { 0 < encoding.address_size }

@@ -3,7 +3,7 @@
 ghost use Rattle.std.specs.Prelude.{length, ◌<◌, ◌^◌, false};
 ghost use Rattle.dwarf_base.specs.EndianSlice.{slice_bytes};
 
-use crate::evaluation::{SMALL, Slice, little};
+use crate::evaluation::{Bytes, SMALL, little};
 use crate::reading::is_cut_off;
 use dwarf_base::{
     Encoding, EndianSlice, Error, Format, LittleEndian, Reader, Result, RunTimeEndian, UnitOffset,
@@ -18,7 +18,7 @@ fn operations(rt: HostRuntime) {
         base_type: UnitOffset(7),
         value: little(&[0xff, 0x7f]),
     };
-    let cases: [(&'static [u8], Operation<Slice<'static>>, usize); 3] = [
+    let cases: [(&'static [u8], Operation<Bytes<'static>>, usize); 3] = [
         (
             &[0x0a, 0x01, 0x02],
             Operation::UnsignedConstant { value: 513 },
@@ -78,7 +78,7 @@ fn iteration(rt: HostRuntime) {
 
 // Counts the items of an expression by `for`. There are at most as many as bytes, of which the last alone may be a
 // fault. They begin with these operations.
-fn count_items(rt: &impl Abort, text: &[u8], wanted: &[Operation<Slice<'_>>]) -> usize {
+fn count_items(rt: &impl Abort, text: &[u8], wanted: &[Operation<Bytes<'_>>]) -> usize {
     let mut count = 0;
     let mut failed = false;
     for item in Expression(little(text)).operations(SMALL) {

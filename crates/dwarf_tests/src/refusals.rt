@@ -3,7 +3,7 @@ ghost use Rattle.std.specs.Prelude.{◌≡◌, ◌<◌, [], None};
 ghost use Rattle.dwarf_meaning.specs.Rest.{Start};
 
 use crate::allocators::{NEVER, RefusesGrowth};
-use crate::evaluation::{COMPLETE, SMALL, Slice, little, replayed};
+use crate::evaluation::{Bytes, COMPLETE, SMALL, little, replayed};
 use crate::replays::{AGAIN, CFA, FULL, ITSELF};
 use dwarf_base::{Error, Reader};
 use dwarf_eval::eval::{Evaluation, Status};
@@ -77,7 +77,7 @@ fn evaluation<'a>(
     alloc: Global,
     text: &'a [u8],
     befores: [u64; LISTS],
-) -> Evaluation<Slice<'a>, ListsOfTests>
+) -> Evaluation<Bytes<'a>, ListsOfTests>
     ensures { result.status ≡ Start None }
 {
     Evaluation::new_in(
@@ -90,7 +90,7 @@ fn evaluation<'a>(
 }
 
 // What comes after the answers: calls that a fault allows, a resume of each shape of answers.
-fn later_steps() -> [Step<Slice<'static>>; 5] {
+fn later_steps() -> [Step<Bytes<'static>>; 5] {
     [
         Step::Evaluate,
         Step::Memory(Generic(0)),
@@ -112,8 +112,8 @@ const ANSWERS: usize = 3;
 #[derive(Drop)]
 struct Refusal<'a> {
     text: Vec<u8>,
-    steps: Vec<Step<Slice<'a>>>,
-    replies: Vec<Answer<Slice<'a>>>,
+    steps: Vec<Step<Bytes<'a>>>,
+    replies: Vec<Answer<Bytes<'a>>>,
     value: Option<Value>,
     pushes: [u64; LISTS],
     values: u64,
@@ -183,7 +183,7 @@ fn calls<'a>(alloc: Global, count: u64) -> Result<Refusal<'a>, AllocError> {
 
 // The answers are those of ample memory up to the refused call, and none of them is the fault. That call answers the
 // fault, and so does every later one.
-fn expect_refused(rt: &impl Abort, answers: &[Answer<Slice<'_>>], replies: &[Answer<Slice<'_>>]) {
+fn expect_refused(rt: &impl Abort, answers: &[Answer<Bytes<'_>>], replies: &[Answer<Bytes<'_>>]) {
     let mut refused: usize = 0;
     for answer in answers {
         if *answer == FULL {
@@ -266,11 +266,11 @@ fn expect_memory(rt: &impl Abort, memory: &RefusesGrowth<Global>, before: u64, g
 }
 
 // Takes the steps. The call that meets the refusal answers the fault, and so does each later one.
-fn expect_steps<'a, S: EvaluationStorage<Slice<'a>>>(
+fn expect_steps<'a, S: EvaluationStorage<Bytes<'a>>>(
     rt: &impl Abort,
-    mut eval: Evaluation<Slice<'a>, S>,
-    steps: &[Step<Slice<'a>>],
-    answers: &[Answer<Slice<'a>>],
+    mut eval: Evaluation<Bytes<'a>, S>,
+    steps: &[Step<Bytes<'a>>],
+    answers: &[Answer<Bytes<'a>>],
     memory: &RefusesGrowth<Global>,
 ) {
     for (step, reply) in steps.iter().zip(answers) {

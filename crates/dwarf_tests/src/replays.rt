@@ -4,7 +4,7 @@ ghost use Rattle.std.specs.Prelude.{◌≡◌, None};
 ghost use Rattle.dwarf_meaning.specs.Rest.{Start};
 
 use crate::evaluation::{
-    COMPLETE, Case, SMALL, Slice, expect, expect_of, expect_over_lists, expect_with_room, little,
+    Bytes, COMPLETE, Case, SMALL, expect, expect_of, expect_over_lists, expect_with_room, little,
     replayed, whole, with_result, without_result,
 };
 use dwarf_base::{Error, Reader, Register, UnitOffset};
@@ -17,21 +17,21 @@ use std::alloc::{AllocError, Global};
 use std::process::Abort;
 
 /// The expression at offset 5 of the unit is wanted.
-pub(crate) const ASKED: Answer<Slice<'static>> = Answer(Ok(EvaluationResult::RequiresAtLocation(
+pub(crate) const ASKED: Answer<Bytes<'static>> = Answer(Ok(EvaluationResult::RequiresAtLocation(
     DieReference::UnitRef(UnitOffset(5)),
 )));
 
 /// The canonical frame address is wanted.
-pub(crate) const CFA: Answer<Slice<'static>> = Answer(Ok(EvaluationResult::RequiresCallFrameCfa));
+pub(crate) const CFA: Answer<Bytes<'static>> = Answer(Ok(EvaluationResult::RequiresCallFrameCfa));
 
 /// A list refused an item.
-pub(crate) const FULL: Answer<Slice<'static>> = Answer(Err(Error::StackFull));
+pub(crate) const FULL: Answer<Bytes<'static>> = Answer(Err(Error::StackFull));
 
-const IN_REGISTER: Location<Slice<'static>> = Location::Register {
+const IN_REGISTER: Location<Bytes<'static>> = Location::Register {
     register: Register(0),
 };
 
-fn of_32_bits(location: Location<Slice<'_>>) -> Piece<Slice<'_>> {
+fn of_32_bits(location: Location<Bytes<'_>>) -> Piece<Bytes<'_>> {
     Piece {
         size_in_bits: Some(32),
         bit_offset: None,
@@ -85,10 +85,10 @@ fn expect_goes_on<R: Reader + Copy, S: EvaluationStorage<R>>(
 }
 
 // What was set before a replay counts, and a step that isn't allowed changes nothing.
-fn expect_misplaced<'a, S: EvaluationStorage<Slice<'a>>>(
+fn expect_misplaced<'a, S: EvaluationStorage<Bytes<'a>>>(
     rt: &impl Abort,
     alloc: Global,
-    mut eval: Evaluation<Slice<'a>, S>,
+    mut eval: Evaluation<Bytes<'a>, S>,
     case: &Case<'a>,
 )
     requires { eval.status ≡ Start None }
@@ -122,20 +122,20 @@ type Row<'a> = (
     (usize, usize, usize),
     &'a [u8],
     &'a [Step<&'a [u8]>],
-    &'a [Answer<Slice<'a>>],
+    &'a [Answer<Bytes<'a>>],
 );
 
 /// An expression that calls the one at offset 1 of the unit.
 pub(crate) const AGAIN: &[u8] = &[0x98, 0x01, 0x00];
 
 /// The expression at offset 1 of the unit is wanted.
-pub(crate) const ITSELF: Answer<Slice<'static>> = Answer(Ok(EvaluationResult::RequiresAtLocation(
+pub(crate) const ITSELF: Answer<Bytes<'static>> = Answer(Ok(EvaluationResult::RequiresAtLocation(
     DieReference::UnitRef(UnitOffset(1)),
 )));
 
-const NOTHING: Answer<Slice<'static>> = Answer(Err(Error::NotEnoughStackItems));
+const NOTHING: Answer<Bytes<'static>> = Answer(Err(Error::NotEnoughStackItems));
 
-const SPENT: Answer<Slice<'static>> = Answer(Err(Error::TooManyIterations));
+const SPENT: Answer<Bytes<'static>> = Answer(Err(Error::TooManyIterations));
 
 // A piece at address 1, and one whose location a called expression gives.
 const PIECES: &[u8] = &[0x31, 0x93, 0x04, 0x98, 0x05, 0x00];
@@ -213,7 +213,7 @@ static ROWS: [Row<'static>; 15] = [
 ];
 
 // The step, with an expression that is read; an answer of the rows above.
-fn read<'a>(step: Step<&'a [u8]>) -> Step<Slice<'a>> {
+fn read<'a>(step: Step<&'a [u8]>) -> Step<Bytes<'a>> {
     match step {
         Step::InitialValue(value) => Step::InitialValue(value),
         Step::MaxIterations(maximum) => Step::MaxIterations(maximum),

@@ -11,7 +11,7 @@ ghost use Rattle.dwexpr.specs.Lines.{fault_line, fault_words, piece_line, reply_
 ghost use Rattle.dwexpr.specs.Writing.{hexadecimal, line};
 ghost use Rattle.dwexpr.specs.inner.Outputs.{Prints, word_text};
 
-use crate::writing::{Text, Word, put_line, put_numbered_line};
+use crate::writing::{Bytes, Word, put_line, put_numbered_line};
 use dwarf_base::{Error, ReaderOffset};
 use dwarf_eval::op::{DieReference, EvaluationResult, Location, Piece};
 use dwarf_replay::Answer;
@@ -129,7 +129,7 @@ fn print_reference<W: Write>(output: &mut W, reference: DieReference<usize>) -> 
 }
 
 /// The line of what a call of the evaluation gave, if that isn't a fault.
-fn print_result<W: Write>(output: &mut W, reply: EvaluationResult<Text<'_>>) -> io::Result<()>
+fn print_result<W: Write>(output: &mut W, reply: EvaluationResult<Bytes<'_>>) -> io::Result<()>
     ensures { Prints (W.contents output.old) (W.contents output.new)
         (reply_line (ok_reply slice_text (λ x. x) reply.entry)) result }
 {
@@ -189,7 +189,7 @@ fn print_result<W: Write>(output: &mut W, reply: EvaluationResult<Text<'_>>) -> 
 }
 
 /// The line of what one call of the evaluation gave.
-pub(crate) fn print_reply<W: Write>(output: &mut W, answer: Answer<Text<'_>>) -> io::Result<()>
+pub(crate) fn print_reply<W: Write>(output: &mut W, answer: Answer<Bytes<'_>>) -> io::Result<()>
     ensures { Prints (W.contents output.old) (W.contents output.new)
         (reply_line (reply_of slice_text (λ x. x) answer.entry.0)) result }
 {
@@ -200,7 +200,7 @@ pub(crate) fn print_reply<W: Write>(output: &mut W, answer: Answer<Text<'_>>) ->
 }
 
 /// The line of a piece.
-pub(crate) fn print_piece<W: Write>(output: &mut W, piece: Piece<Text<'_>>) -> io::Result<()>
+pub(crate) fn print_piece<W: Write>(output: &mut W, piece: Piece<Bytes<'_>>) -> io::Result<()>
     ensures { Prints (W.contents output.old) (W.contents output.new)
         (piece_line (piece_of slice_text (λ x. x) piece.entry)) result }
 {

@@ -32,7 +32,7 @@ use crate::lines::{print_piece, print_reply, print_value_line};
 use crate::listing::print_operations;
 use crate::steps::{BadLine, BadStep, steps_in};
 use crate::words::{Command, Reading, invocation_of};
-use crate::writing::Text;
+use crate::writing::Bytes;
 use dwarf_base::EndianSlice;
 use dwarf_eval::eval::{Evaluation, Status};
 use dwarf_eval::op::Piece;
@@ -44,7 +44,7 @@ use std::io;
 use std::io::{ErrorKind, Read, Write};
 
 /// Prints what each call of the evaluation gave.
-fn print_replies<W: Write>(output: &mut W, answers: &[Answer<Text<'_>>]) -> io::Result<()>
+fn print_replies<W: Write>(output: &mut W, answers: &[Answer<Bytes<'_>>]) -> io::Result<()>
     ensures { Prints (W.contents output.old) (W.contents output.new)
         (reply_lines (replies_in slice_text (λ x. x) answers.now)) result }
 {
@@ -54,7 +54,7 @@ fn print_replies<W: Write>(output: &mut W, answers: &[Answer<Text<'_>>]) -> io::
     Ok(())
 }
 
-fn print_pieces<W: Write>(output: &mut W, pieces: &[Piece<Text<'_>>]) -> io::Result<()>
+fn print_pieces<W: Write>(output: &mut W, pieces: &[Piece<Bytes<'_>>]) -> io::Result<()>
     ensures { Prints (W.contents output.old) (W.contents output.new)
         (piece_lines (map (piece_of slice_text (λ x. x)) pieces.now)) result }
 {
@@ -68,7 +68,7 @@ fn print_pieces<W: Write>(output: &mut W, pieces: &[Piece<Text<'_>>]) -> io::Res
 fn print_complete<W: Write>(
     output: &mut W,
     value: Option<Value>,
-    pieces: &[Piece<Text<'_>>],
+    pieces: &[Piece<Bytes<'_>>],
 ) -> io::Result<u8>
     ensures { WritesEnding (W.contents output.old) (W.contents output.new)
         (complete_ending (map (piece_of slice_text (λ x. x)) pieces.now) value) result }
@@ -79,9 +79,9 @@ fn print_complete<W: Write>(
 }
 
 /// Prints what came out of the evaluation, if it is complete.
-fn print_outcome<'a, S: EvaluationStorage<Text<'a>>, W: Write>(
+fn print_outcome<'a, S: EvaluationStorage<Bytes<'a>>, W: Write>(
     output: &mut W,
-    evaluation: &Evaluation<Text<'a>, S>,
+    evaluation: &Evaluation<Bytes<'a>, S>,
 ) -> io::Result<u8>
     ensures { WritesEnding (W.contents output.old) (W.contents output.new)
         (state_ending evaluation.now evaluation.now.status) result }
@@ -100,8 +100,8 @@ fn print_outcome<'a, S: EvaluationStorage<Text<'a>>, W: Write>(
 /// Prints what stands after the answers. A step that isn't allowed is told, with its line.
 fn print_end<A: Allocator + Copy, W: Output>(
     output: &mut W,
-    evaluation: &Evaluation<Text<'_>, StoreOnHeap<A>>,
-    replayed: Replayed<Text<'_>>,
+    evaluation: &Evaluation<Bytes<'_>, StoreOnHeap<A>>,
+    replayed: Replayed<Bytes<'_>>,
     lines: &[u8],
 ) -> io::Result<u8>
     requires { HasLine replayed }
@@ -126,9 +126,9 @@ fn print_end<A: Allocator + Copy, W: Output>(
 /// Prints the answers, and what stands after them.
 fn print_replay<A: Allocator + Copy, W: Output>(
     output: &mut W,
-    answers: &[Answer<Text<'_>>],
-    evaluation: &Evaluation<Text<'_>, StoreOnHeap<A>>,
-    replayed: Replayed<Text<'_>>,
+    answers: &[Answer<Bytes<'_>>],
+    evaluation: &Evaluation<Bytes<'_>, StoreOnHeap<A>>,
+    replayed: Replayed<Bytes<'_>>,
     lines: &[u8],
 ) -> io::Result<u8>
     requires { HasLine replayed }
@@ -145,7 +145,7 @@ fn evaluate<'a, A: Allocator + Copy, W: Output>(
     alloc: A,
     bytes: &'a [u8],
     reading: Reading,
-    steps: &[Step<Text<'a>>],
+    steps: &[Step<Bytes<'a>>],
     lines: &[u8],
     output: &mut W,
 ) -> io::Result<u8>

@@ -13,7 +13,7 @@ use crate::hexadecimal::{ReadFault, bytes_or};
 use crate::input::first_line;
 use crate::numbers::number_of;
 use crate::values::{type_of, value_of};
-use crate::writing::Text;
+use crate::writing::Bytes;
 use dwarf_base::{EndianSlice, RunTimeEndian};
 use dwarf_eval::eval::{Status, WaitingKind};
 use dwarf_replay::Step;
@@ -66,7 +66,7 @@ fn value(word: &str) -> Result<Value, BadStep>
 }
 
 /// The step of this name, with the word that follows it, unless it has a text.
-fn textless_step(name: &str, word: &str) -> Result<Step<Text<'static>>, BadStep>
+fn textless_step(name: &str, word: &str) -> Result<Step<Bytes<'static>>, BadStep>
     ensures { option_map (step_of slice_text) (result_ok result)
         ≡ spec.textless_step_in name.now word.now }
 {
@@ -114,7 +114,7 @@ fn named_step<'t, A: Allocator + 't>(
     order: RunTimeEndian,
     name: &str,
     word: &str,
-) -> Result<Step<Text<'t>>, ReadFault<BadStep>>
+) -> Result<Step<Bytes<'t>>, ReadFault<BadStep>>
     ensures { Reads (step_of slice_text) (spec.named_step_in (is_big_of order) name.now word.now)
         result }
 {
@@ -130,7 +130,7 @@ fn text_step<'t, A: Allocator + 't>(
     alloc: A,
     order: RunTimeEndian,
     text: &str,
-) -> Result<Step<Text<'t>>, ReadFault<BadStep>>
+) -> Result<Step<Bytes<'t>>, ReadFault<BadStep>>
     ensures { Reads (step_of slice_text) (spec.text_step_in (is_big_of order) text.now) result }
 {
     if text == "evaluate" {
@@ -151,7 +151,7 @@ fn step_in<'t, A: Allocator + 't>(
     alloc: A,
     order: RunTimeEndian,
     line: &[u8],
-) -> Result<Step<Text<'t>>, ReadFault<BadStep>>
+) -> Result<Step<Bytes<'t>>, ReadFault<BadStep>>
     ensures { Reads (step_of slice_text) (spec.step_in (is_big_of order) line.now) result }
 {
     match str::from_utf8(line) {
@@ -175,7 +175,7 @@ pub(crate) fn steps_in<'i, 't, A: Allocator + Copy + 't>(
     alloc: A,
     order: RunTimeEndian,
     input: &'i [u8],
-) -> Result<Vec<Step<Text<'t>>, A>, ReadFault<BadLine<'i>>>
+) -> Result<Vec<Step<Bytes<'t>>, A>, ReadFault<BadLine<'i>>>
     ensures { ReadsSteps (step_of slice_text)
         (spec.steps_in (is_big_of order) (lines_in input.now)) result }
 {

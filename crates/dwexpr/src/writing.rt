@@ -12,7 +12,7 @@ use std::io;
 use std::io::{ErrorKind, Write};
 
 /// Bytes in the byte order of the words.
-pub(crate) type Text<'a> = EndianSlice<'a, RunTimeEndian>;
+pub(crate) type Bytes<'a> = EndianSlice<'a, RunTimeEndian>;
 
 /// Writes the bytes; of `write!` it isn't known what it wrote if a write was refused.
 fn put<W: Write>(output: &mut W, bytes: &[u8]) -> io::Result<()>
@@ -127,7 +127,7 @@ fn put_value<W: Write>(output: &mut W, value: Value) -> io::Result<()>
 }
 
 /// Two lower case digits a byte, or `-` for none.
-fn put_bytes<W: Write>(output: &mut W, bytes: Text<'_>) -> io::Result<()>
+fn put_bytes<W: Write>(output: &mut W, bytes: Bytes<'_>) -> io::Result<()>
     ensures { Prints (W.contents output.old) (W.contents output.new)
         (bytes_word (slice_bytes bytes.entry)) result }
 {
@@ -161,7 +161,7 @@ pub(crate) enum Word<'a> {
     /// Its type, a colon and its content.
     Value(Value),
     /// Two digits a byte.
-    Bytes(Text<'a>),
+    Bytes(Bytes<'a>),
 }
 
 fn put_word<W: Write>(output: &mut W, word: Word<'_>) -> io::Result<()>

@@ -27,7 +27,7 @@ use Rattle.dwarf_replay.specs.declared.steps.Answer.{Answer}
 use Rattle.dwarf_replay.specs.declared.steps.Replayed.{Replayed}
 use Rattle.dwarf_replay.specs.declared.steps.Replayed.TheVariants as replayed
 use Rattle.dwarf_replay.specs.declared.steps.Step.{Step}
-use Rattle.dwexpr.specs.Evaluates.{EndsAt, HasReply, all_done, not_allowed, without_memory, EvaluatesSteps, EvaluatesSaid, after_replies, outcome_ending}
+use Rattle.dwexpr.specs.Evaluates.{EndsAt, IsCall, all_done, not_allowed, without_memory, EvaluatesSteps, EvaluatesSaid, after_replies, outcome_ending}
 use Rattle.dwexpr.specs.inner.Readings.{bad_steps, ReadsSteps}
 use Rattle.dwexpr.specs.declared.hexadecimal.ReadFault.{ReadFault}
 use Rattle.dwexpr.specs.declared.hexadecimal.ReadFault.TheVariants as fault
@@ -35,19 +35,6 @@ use Rattle.dwexpr.specs.declared.steps.BadLine.{BadLine}
 use Rattle.dwexpr.specs.inner.Outputs.{HasLine, ending_of, state_ending, WritesEnding}
 
 -- ---- words and input
-
--- an empty list to which the bytes of a reader were appended
-pub input_read : (left : Option (List ℕ)) (old items input : List ℕ) → old ≡ [] → input ≡ items
-    → IfSome left (λ xs. items ≡ old ++ xs)
-    → IfSome left (λ bytes. input ≡ bytes)
-input_read None old items input e f h = tt
-input_read (Some xs) old items input e f h = f ∙ h ∙ ap (λ z. z ++ xs) e
-
-pub exits_of : {E : Type 0} (old new : Option (List ℕ)) (ending : Ending) (r : Result ℕ E) (status : ℕ)
-    → status ≡ result_unwrap_or r 1 → WritesEnding old new ending r
-    → Exits old new ending status
-exits_of old new ending (Ok x) status e h = inl (h.0, e ∙ h.1)
-exits_of old new ending (Err x) status e h = inr (h.0, e)
 
 -- ---- what is printed for words
 
@@ -101,12 +88,12 @@ allowed_at setup refusal text log (first ∷ steps) (suc index) step e h =
 replied_at : (setup : Setup) (refusal : Refusal) (text : Text) (log : Log) (steps : List meaning.Step) (index : ℕ) (step : meaning.Step) (answer : Reply)
     → slice_get steps index ≡ Some step
     → replies_of setup refusal text log (take index steps) ++ answer ∷ [] ≡ replies_of setup refusal text log (take (suc index) steps)
-    → HasReply step
+    → IsCall step
 replied_at setup refusal text log [] index step answer e h = absurd (cc)
-replied_at setup refusal text log (first ∷ steps) zero step answer e h = subst HasReply (cc) (of_first first h)
+replied_at setup refusal text log (first ∷ steps) zero step answer e h = subst IsCall (cc) (of_first first h)
   where
     of_first : (s : meaning.Step) → answer ∷ [] ≡ step_replies s (outcome_of setup refusal text (after_step setup refusal text log s)) ++ []
-        → HasReply s
+        → IsCall s
     of_first meaning.Evaluate h = tt
     of_first (meaning.Resume a) h = tt
     of_first _ h = absurd (cc)

@@ -76,10 +76,6 @@ last_of a b c text x (Err u) h k = record {
   written = appends_both a b c h.done k.front (h.done ++ k.front) refl h.written k.written;
 }
 
--- all of it
-pub all_of : (a b : Option (List ℕ)) (text : List ℕ) → Written a b text [] → Appends a b text
-all_of a b text h = subst (λ z. Appends a b z) (sym (h.whole ∙ append-nil h.done)) h.written
-
 -- the same text in other words
 pub prints_as : {T E : Type 0} (a b : Option (List ℕ)) (x y : List ℕ) (r : Result T E) → x ≡ y → Prints a b x r → Prints a b y r
 prints_as a b x y r e h = subst (λ z. Prints a b z r) e h
@@ -129,14 +125,6 @@ pairs_next (first ∷ more) rest byte x y h e f =
 pub bytes_word-some : (bytes : List ℕ) → (length bytes == 0) ≡ false → bytes_word bytes ≡ pairs bytes
 bytes_word-some [] e = cc e
 bytes_word-some (byte ∷ bytes) e = refl
-
-pub bytes_word-none : (bytes : List ℕ) → (length bytes == 0) ≡ true → codes "-" ≡ bytes_word bytes
-bytes_word-none [] e = refl
-bytes_word-none (byte ∷ bytes) e = absurd (omega (arith, eqb-true _ _ e))
-
-pub pairs-none : (left : List ℕ) → (length left == 0) ≡ true → pairs left ≡ []
-pairs-none [] e = refl
-pairs-none (byte ∷ left) e = absurd (omega (arith, eqb-true _ _ e))
 
 -- ---- numbers
 

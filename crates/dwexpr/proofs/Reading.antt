@@ -246,10 +246,6 @@ said_more steps step (Ok more) = ap Ok (sym (append_assoc steps (step ∷ []) mo
 said_more steps step (Err number) =
     ap Err (omega (arith, length-append steps (step ∷ [])))
 
-pub said_first : (more : Result (List Step) ℕ) → more ≡ said_after [] more
-said_first (Ok more) = refl
-said_first (Err number) = ap Err (omega arith)
-
 pub said_last : (steps : List Step) → said_after steps (Ok []) ≡ Ok steps
 said_last steps = ap Ok (append-nil steps)
 

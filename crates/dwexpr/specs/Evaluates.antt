@@ -22,17 +22,17 @@ abbrev pub after_replies : List Reply → Ending → Ending
 after_replies replies ending = record ending { text = reply_lines replies ++ ending.text }
 
 -- the call of this step replies
-abbrev pub HasReply : Step → Type 0
-HasReply Evaluate = Unit {0}
-HasReply (Resume answer) = Unit {0}
-HasReply _ = ⊥
+abbrev pub IsCall : Step → Type 0
+IsCall Evaluate = Unit {0}
+IsCall (Resume answer) = Unit {0}
+IsCall _ = ⊥
 
 -- how it ends, by the step that comes next: there is none; it isn't allowed; or there was no memory for its reply
 pub data EndsAt (index : ℕ) (now : Log) (outcome : Option Outcome) : (next : Option Step) → Ending → Type 0 where
   all_done : EndsAt index now outcome None (outcome_ending outcome)
   not_allowed : {step : Step} → (Allows now outcome step → ⊥) → EndsAt index now outcome (Some step)
       (misplaced_step index)
-  without_memory : {step : Step} → Allows now outcome step → HasReply step
+  without_memory : {step : Step} → Allows now outcome step → IsCall step
       → EndsAt index now outcome (Some step) no_memory
 
 -- the steps before some index were done, for some push that memory was refused to, or for none, and it ended there

@@ -10,6 +10,14 @@ use dwarf_eval::op::EvaluationResult;
 use dwarf_eval::store::EvaluationStorage;
 use dwarf_value::{Value, ValueType};
 
+/// Adds a number of a request, if `SUMS` is true.
+#[inline(always)]
+fn add<const SUMS: bool>(sum: &mut u64, kind: u64, number: u64) {
+    if SUMS {
+        *sum = mix_two(*sum, kind, number);
+    }
+}
+
 /// Gives the open request a made-up answer, and a call this text. If `SUMS` is true, it adds the request.
 #[inline(always)]
 pub fn respond<R: Reader + Copy, S: EvaluationStorage<R>, const SUMS: bool>(
@@ -23,9 +31,7 @@ pub fn respond<R: Reader + Copy, S: EvaluationStorage<R>, const SUMS: bool>(
 {
     match request {
         EvaluationResult::Complete => {
-            if SUMS {
-                *sum = mix(*sum, 100);
-            }
+            add::<SUMS>(sum, 100, 0);
             Ok(EvaluationResult::Complete)
         }
         EvaluationResult::RequiresMemory {
@@ -34,9 +40,10 @@ pub fn respond<R: Reader + Copy, S: EvaluationStorage<R>, const SUMS: bool>(
             space,
             base_type,
         } => {
+            add::<SUMS>(sum, 101, address);
+            add::<SUMS>(sum, u64::from(size), base_type.0.into_u64());
             if SUMS {
-                *sum = mix_two(mix(*sum, 101), address, u64::from(size));
-                *sum = mix_option(mix(*sum, base_type.0.into_u64()), space);
+                *sum = mix_option(*sum, space);
             }
             evaluation.resume_with_memory(Value::Generic(0x1234))
         }
@@ -44,49 +51,32 @@ pub fn respond<R: Reader + Copy, S: EvaluationStorage<R>, const SUMS: bool>(
             register,
             base_type,
         } => {
-            if SUMS {
-                *sum = mix_two(
-                    mix(*sum, 102),
-                    u64::from(register.0),
-                    base_type.0.into_u64(),
-                );
-            }
+            add::<SUMS>(sum, 102, u64::from(register.0));
+            add::<SUMS>(sum, 0, base_type.0.into_u64());
             evaluation.resume_with_register(Value::Generic(0x7ffe_0000))
         }
         EvaluationResult::RequiresWasmLocal { index } => {
-            if SUMS {
-                *sum = mix_two(*sum, 112, u64::from(index));
-            }
+            add::<SUMS>(sum, 112, u64::from(index));
             evaluation.resume_with_wasm_value(Value::U32(index))
         }
         EvaluationResult::RequiresWasmGlobal { index } => {
-            if SUMS {
-                *sum = mix_two(*sum, 113, u64::from(index));
-            }
+            add::<SUMS>(sum, 113, u64::from(index));
             evaluation.resume_with_wasm_value(Value::U32(index))
         }
         EvaluationResult::RequiresWasmStack { index } => {
-            if SUMS {
-                *sum = mix_two(*sum, 114, u64::from(index));
-            }
+            add::<SUMS>(sum, 114, u64::from(index));
             evaluation.resume_with_wasm_value(Value::U32(index))
         }
         EvaluationResult::RequiresFrameBase => {
-            if SUMS {
-                *sum = mix(*sum, 103);
-            }
+            add::<SUMS>(sum, 103, 0);
             evaluation.resume_with_frame_base(0x7ffe_1000)
         }
         EvaluationResult::RequiresTls(index) => {
-            if SUMS {
-                *sum = mix_two(*sum, 104, index);
-            }
+            add::<SUMS>(sum, 104, index);
             evaluation.resume_with_tls(0x10)
         }
         EvaluationResult::RequiresCallFrameCfa => {
-            if SUMS {
-                *sum = mix(*sum, 105);
-            }
+            add::<SUMS>(sum, 105, 0);
             evaluation.resume_with_call_frame_cfa(0x7ffe_2000)
         }
         EvaluationResult::RequiresAtLocation(entry) => {
@@ -102,27 +92,20 @@ pub fn respond<R: Reader + Copy, S: EvaluationStorage<R>, const SUMS: bool>(
             evaluation.resume_with_entry_value(Value::Generic(5))
         }
         EvaluationResult::RequiresParameterRef(entry) => {
-            if SUMS {
-                *sum = mix_two(*sum, 108, entry.0.into_u64());
-            }
+            add::<SUMS>(sum, 108, entry.0.into_u64());
             evaluation.resume_with_parameter_ref(5)
         }
         EvaluationResult::RequiresRelocatedAddress(address) => {
-            if SUMS {
-                *sum = mix_two(*sum, 109, address);
-            }
+            add::<SUMS>(sum, 109, address);
             evaluation.resume_with_relocated_address(address)
         }
         EvaluationResult::RequiresIndexedAddress { index, relocate } => {
-            if SUMS {
-                *sum = mix_two(mix(*sum, 110), index.0.into_u64(), u64::from(relocate));
-            }
+            add::<SUMS>(sum, 110, index.0.into_u64());
+            add::<SUMS>(sum, 0, u64::from(relocate));
             evaluation.resume_with_indexed_address(5)
         }
         EvaluationResult::RequiresBaseType(entry) => {
-            if SUMS {
-                *sum = mix_two(*sum, 111, entry.0.into_u64());
-            }
+            add::<SUMS>(sum, 111, entry.0.into_u64());
             evaluation.resume_with_base_type(ValueType::Generic)
         }
     }

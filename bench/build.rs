@@ -12,7 +12,7 @@ const SUMS: &[(&str, &str)] = &[
     ("use dwarf_eval::op::{", "use super::layer::{"),
     ("use dwarf_value::Value;", "use super::layer::Value;"),
     ("mix_two(sum, 8, it),", "mix_two(sum, 8, it), #[allow(unreachable_patterns)] _ => mix(sum, 9),"),
-    ("{ bytes } => mix_text(mix(sum, 40), bytes)", "{ data } => mix_text(mix(sum, 40), data)"),
+    ("{ bytes } => mix_text(mix(sum, 2), bytes)", "{ data } => mix_text(mix(sum, 2), data)"),
 ];
 const ANSWERING: &[(&str, &str)] = &[
     ("//! Made-up", "// Made-up"),

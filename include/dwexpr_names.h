@@ -1,5 +1,5 @@
-/* Names for people to read: of requests, of kinds of pieces, and of operations with their operands. This is plain C
- * over dwexpr.h, which has dwexpr_code_name and dwexpr_opcode_name, and isn't proved. */
+/* Names for people to read: of requests, of kinds of pieces, and of operations with their operands; and the forms of
+ * operands. This is plain C over dwexpr.h, which has dwexpr_code_name and dwexpr_opcode_name, and isn't proved. */
 #ifndef DWEXPR_NAMES_H
 #define DWEXPR_NAMES_H
 

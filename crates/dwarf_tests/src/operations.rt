@@ -5,53 +5,14 @@ ghost use Rattle.dwarf_base.specs.EndianSlice.{slice_bytes};
 
 use crate::evaluation::{Bytes, SMALL, little};
 use crate::reading::is_cut_off;
-use dwarf_base::{
-    Encoding, EndianSlice, Error, Format, LittleEndian, Reader, Result, RunTimeEndian, UnitOffset,
-};
+use dwarf_base::{Encoding, EndianSlice, Error, Format, LittleEndian, Reader, Result, UnitOffset};
 use dwarf_eval::op::Expression;
 use dwarf_op::Operation;
 use std::process::Abort;
 
-#[test]
-fn operations(rt: HostRuntime) {
-    let literal = Operation::TypedLiteral {
-        base_type: UnitOffset(7),
-        value: little(&[0xff, 0x7f]),
-    };
-    let cases: [(&'static [u8], Operation<Bytes<'static>>, usize); 3] = [
-        (
-            &[0x0a, 0x01, 0x02],
-            Operation::UnsignedConstant { value: 513 },
-            0,
-        ),
-        (
-            &[0xed, 0x03, 0x01, 0x00, 0x00, 0x00],
-            Operation::WasmGlobal { index: 1 },
-            0,
-        ),
-        (&[0xa4, 0x07, 0x02, 0xff, 0x7f, 0x9f], literal, 1),
-    ];
-    for (i, row) in cases.iter().enumerate() {
-        let (text, operation, left) = *row;
-        let mut bytes = little(text);
-        assert!(rt;
-            Operation::parse(&mut bytes, SMALL) == Ok(operation),
-            "row {i}"
-        );
-        assert!(rt; bytes.len() == left, "row {i}");
-    }
-    let mut big = EndianSlice::new(&[0x0a, 0x01, 0x02], RunTimeEndian::Big);
-    assert!(rt;
-        Operation::parse(&mut big, SMALL) == Ok(Operation::UnsignedConstant { value: 258 })
-    );
-}
-
+// The vectors have all else that is refused.
 #[test]
 fn refused_operations(rt: HostRuntime) {
-    let long = &[
-        0x11, 0x80, 0x80, 0x80, 0x80, 0x80, 0x80, 0x80, 0x80, 0x80, 0x01,
-    ];
-    assert!(rt; Operation::parse(&mut little(long), SMALL) == Err(Error::BadSignedLeb128));
     assert!(rt; is_cut_off(Operation::parse(&mut little(&[]), SMALL)));
     let none = Encoding {
         address_size: 0,

@@ -4,7 +4,7 @@ CRATES = {f"dwarf_{name}": name for name in ("base", "value", "meaning", "op", "
 # Left out: its functions do nothing; and lists of the kit's.
 LAWS, LISTS = ["replay/equality"], ["eval/store/arrays"]
 # What the rows of the Rust crate that this takes too are about. The others are about names and calls of users in Rust.
-SHARED = {"models", "clones", "std", "final", "Drop", "layout", "parsing"}
+SHARED = {"models", "clones", "std", "final", "Drop", "layout", "parsing", "requests"}
 # The preconditions of exports: for each, what is written by hand says that the caller sees to it.
 CONDITIONS = [
     ("dwexpr_evaluation_begin", "evaluation . old . held ≡ None"),
@@ -18,7 +18,7 @@ CALLS = ["computing", "decoding", "holding", "starting"]
 USED = "".join(f"use crate::{name};\n" for name in TYPES)
 EXPORTED = "".join(f"pub use self::{name};\n" for name in [*(f"{module}::*" for module in CALLS), *TYPES])
 # A list over a slice that is lent, and the same over an array.
-LENT = """use super::lists::ArrayLike;
+LENT = """use super::lists::ArrayLike; use dwarf_base::copy_of;
 /// A list over a slice that its caller lends. Its capacity is chosen at run time, and nothing is allocated or set to
 /// zero.
 pub struct SliceVec<'a, T> { slots: &'a mut [T], len: usize, }
@@ -27,6 +27,7 @@ impl<'a, T> SliceVec<'a, T> {
 pub fn new(slots: &'a mut [T]) -> Self { SliceVec { slots, len: 0 } } }
 impl<'a, T: Copy> ArrayLike for SliceVec<'a, T>"""
 OWN = """use super::lists::ArrayLike;
+use crate::sources::base::copy_of;
 
 /// A list of a fixed capacity, in an array.
 pub struct ArrayVec<T, const CAP: usize> { slots: [T; CAP], len: usize, }
@@ -52,6 +53,7 @@ ROWS = [
     ("texts", 1, "pub bytes: &'a [u8],", "pub bytes: crate::exports::Bytes<'a>,"),
     ("texts", 1, "if text.bytes.is_empty() { &[] } else { text.bytes }", "text.bytes.slice()"),
     ("sizes", 1, "pub trait Reader", "pub trait Reader: Sized"),
+    ("clones", 1, "#[derive(Copy, Debug, PartialEq, Eq)]", "#[derive(Clone, Copy, Debug, PartialEq, Eq)]"),
     ("errors", 1, "pub enum Error", "#[repr(usize)]\npub enum Error"),
     # The kit's lists of fixed capacities aren't here. So the proved list over a slice gets an array for that.
     ("lists", 1, LENT, OWN),

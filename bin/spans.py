@@ -23,9 +23,9 @@ def end_of_braces(text, at):
 
 
 def end_of_ghost(text, at):
-    """Where a ghost item ends: at its semicolon or comma, after its braces if it has some."""
+    """Where a ghost item ends: at its semicolon or comma, after its braces if it has some. A clause ends with those."""
     end = end_of_braces(text, at) if text[re.compile(r"[{;]").search(text, at).start()] == "{" else at
-    return re.compile(r"\s*[^;,]*[;,]").match(text, end).end()
+    return re.compile(r"(?=\s*(?:requires|ensures)\b)|\s*[^;,]*[;,]").match(text, end).end()
 
 
 def rust_in(text):

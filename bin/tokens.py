@@ -14,6 +14,7 @@ KNOWN_ATTRIBUTE = re.compile(
     r"|#\[(cold|inline|inline\(always\)|inline\(never\)|repr\((u8|C)\)|unsafe\(no_mangle\))\]"
     r"|#!\[allow\(non_upper_case_globals\)\]"
 )
+CLAUSES = ("requires", "ensures")
 KNOWN_MACROS = {"matches", "unreachable"}
 CLOSING = {"(": ")", "[": "]", "{": "}"}
 
@@ -120,8 +121,7 @@ class Source:
 
     def delete_contracts(self):
         """Deletes all that isn't Rust."""
-        clauses = {"requires": self.clause, "ensures": self.clause}
-        forms = {"ghost": self.ghost, **clauses, "impl": self.model, "#": self.attribute}
+        forms = {"ghost": self.ghost, "impl": self.model, "#": self.attribute, **dict.fromkeys(CLAUSES, self.clause)}
         at = 0
         while at < len(self.code):
             at = forms.get(self.word(at), lambda at: at + 1)(at)
@@ -134,6 +134,8 @@ class Source:
             self.want(not is_macro or is_claim or self.word(at) in KNOWN_MACROS, at, "an unknown macro")
 
     def ghost(self, at):
+        if self.word(at + 2) == ":" and self.word(at + 3) == "{" and self.word(self.close(at + 3) + 1) in CLAUSES:
+            return self.delete(at, self.close(at + 3))
         form, end = "", at
         while self.word(end) not in (";", ",", ""):
             form += self.word(end) + " "
@@ -147,7 +149,7 @@ class Source:
         block += self.word(block) != "{"
         self.want(self.word(block) == "{", at, "a clause without a block")
         end = self.close(block)
-        self.want(self.word(end + 1) in ("requires", "ensures", "{", ";"), end + 1, "no body follows the clauses")
+        self.want(self.word(end + 1) in (*CLAUSES, "{", ";"), end + 1, "no body follows the clauses")
         function = next(place for place in range(at, -2, -1) if self.word(place) in ("fn", ""))
         if self.word(at) == "requires" and self.word(function - 1) in ("pub", '"C"'):
             self.conditions.append((self.word(function + 1), " ".join(self.words(block + 1, end - 1))))

@@ -3,7 +3,9 @@
 
 It builds the crate without features, with all, and without the heap, runs its tests and those of its documentation,
 clippy, the build of the documentation, `cargo fmt --check`, `cargo package`, and the example on a program that `cc -g`
-makes.
+makes. Over gimli's `EndianArcSlice` and `EndianRcSlice` the rows and vectors have to give what they give over slices,
+and the example has to print the same with `EndianArcSlice` in its `use`: gimli wants stable_deref_trait for these, in a
+folder of that name beside its own.
 
 To build the crate by itself, Cargo wants the crates that the features need even if they are off. The variable
 DWEXPR_GIMLI names a folder with gimli 0.34, and DWEXPR_ARRAYVEC one with arrayvec 0.7. Without a folder an empty
@@ -21,11 +23,13 @@ import sys
 
 sys.dont_write_bytecode = True
 import checks  # noqa: E402
+import compare_archive  # noqa: E402
 from checks import check, commands, expect, lacks  # noqa: E402
 from commands import TOP  # noqa: E402
 
 checks.SECONDS = 600
-# A package that depends on the crate, a program without an allocator, which evaluates in arrays, and a program in C.
+# A package that depends on the crate, a program without an allocator, which evaluates in arrays, one that evaluates over
+# gimli's readers, and a program in C.
 PARTS = TOP / "tests" / "crate"
 
 # The crates that the features need: the variable, and what stands in if it names no folder.
@@ -91,16 +95,23 @@ def try_without_allocator(folder):
     expect(done.returncode == 0xF0, "a program without an allocator", done.stderr)
 
 
-def run_example(cargo, features, folder):
-    """Compares what the example says of a program's variables with what the program says."""
-    if lacks("the example", "cc"):
+def try_readers(folder):
+    """Rows and vectors over gimli's readers that are `Clone` give what they give over slices."""
+    shutil.copytree(PARTS / "readers", folder / "readers")
+    (folder / "cases").write_text(compare_archive.cases())
+    check("gimli's readers", ["cargo", "run", "--quiet", "--", folder / "cases"], cwd=folder / "readers")
+
+
+def run_example(cargo, features, name, folder):
+    """Compares what an example says of a program's variables with what the program says."""
+    if lacks(f"the example {name}", "cc"):
         return
     program = folder / "program"
     check("cc", ["cc", "-g", "-O0", "-no-pie", "-fno-omit-frame-pointer", PARTS / "program.c", "-o", program])
     said = printed_by("the program", [program])
-    printed = cargo("the example", "run", *features, "--example", "variables", program, "100000000000")
+    printed = cargo(f"the example {name}", "run", *features, "--example", name, program, "100000000000")
     if said and printed:
-        expect(printed == said, "the example says where the variables are", f"{said}\nisn't\n{printed}")
+        expect(printed == said, f"the example {name} says where the variables are", f"{said}\nisn't\n{printed}")
 
 
 def main():
@@ -151,7 +162,14 @@ def main():
         expect(".written" not in listed.split(), "the package has no list of what bin/crate wrote", listed)
         cargo("package", "package")
         if "gimli" in found:
-            run_example(cargo, ["--features", ",".join(found)], folder)
+            run_example(cargo, ["--features", ",".join(found)], "variables", folder)
+            if (pathlib.Path(os.environ["DWEXPR_GIMLI"]).parent / "stable_deref_trait").is_dir():
+                try_readers(folder)
+                example = (crate / "examples/variables.rs").read_text().replace("EndianSlice as", "EndianArcSlice as")
+                (crate / "examples/over_arcs.rs").write_text(example)
+                run_example(cargo, ["--features", ",".join([*found, "gimli/endian-reader"])], "over_arcs", folder)
+            else:
+                print("left out: gimli's other readers: there is no stable_deref_trait beside gimli")
 
 
 if __name__ == "__main__":

@@ -7,11 +7,12 @@
 //! for memory, that request is printed.
 
 use dwexpr::{DieReference, Error, Evaluation, EvaluationResult, GimliReader, Location, Piece, ValueType};
-use gimli::{AttributeValue, DebuggingInformationEntry, DwAt, EndianSlice, EntriesTreeNode, LittleEndian};
-use std::borrow::Cow;
+// `EndianArcSlice` and `EndianRcSlice` do as well.
+use gimli::EndianSlice as Bytes;
+use gimli::{
+    AttributeValue, DebuggingInformationEntry, DwAt, EntriesTreeNode, LittleEndian, Reader, ReaderOffset, Section,
+};
 use std::process::ExitCode;
-
-type Bytes<'a> = EndianSlice<'a, LittleEndian>;
 
 /// The content of a section of an ELF file; `None` if there is no such section.
 fn section<'a>(file: &'a [u8], name: &str) -> Option<&'a [u8]> {
@@ -32,7 +33,7 @@ fn section<'a>(file: &'a [u8], name: &str) -> Option<&'a [u8]> {
     (0..count).find(|index| is_named(*index) == Some(true)).and_then(content)
 }
 
-fn attribute<'a>(entry: &DebuggingInformationEntry<Bytes<'a>>, name: DwAt) -> Option<AttributeValue<Bytes<'a>>> {
+fn attribute<R: Reader>(entry: &DebuggingInformationEntry<R>, name: DwAt) -> Option<AttributeValue<R>> {
     for attribute in entry.attrs() {
         if attribute.name() == name {
             return Some(attribute.value());
@@ -42,20 +43,20 @@ fn attribute<'a>(entry: &DebuggingInformationEntry<Bytes<'a>>, name: DwAt) -> Op
 }
 
 /// A unit of the program, and the frame to which its variables belong.
-struct Unit<'a> {
-    dwarf: &'a gimli::Dwarf<Bytes<'a>>,
-    unit: gimli::Unit<Bytes<'a>>,
+struct Unit<'a, R: Reader> {
+    dwarf: &'a gimli::Dwarf<R>,
+    unit: gimli::Unit<R>,
     cfa: u64,
 }
 
 /// What an expression gave, or the request that only a process can answer.
-enum Outcome<'a> {
-    Pieces(Vec<Piece<GimliReader<Bytes<'a>>>>),
+enum Outcome<R: Reader> {
+    Pieces(Vec<Piece<GimliReader<R>>>),
     Needs(String),
 }
 
-impl<'a> Unit<'a> {
-    fn evaluate(&self, bytes: Bytes<'a>, frame_base: Option<Bytes<'a>>) -> gimli::Result<Outcome<'a>> {
+impl<R: Reader> Unit<'_, R> {
+    fn evaluate(&self, bytes: R, frame_base: Option<&R>) -> gimli::Result<Outcome<R>> {
         let mut evaluation = Evaluation::new(GimliReader(bytes), self.unit.encoding().into());
         evaluation.set_max_iterations(10_000);
         let mut result = evaluation.evaluate()?;
@@ -65,12 +66,12 @@ impl<'a> Unit<'a> {
                 EvaluationResult::RequiresCallFrameCfa => evaluation.resume_with_call_frame_cfa(self.cfa)?,
                 EvaluationResult::RequiresFrameBase => {
                     let Some(bytes) = frame_base else { return Ok(Outcome::Needs("a frame base".into())) };
-                    match self.evaluate(bytes, None)? {
+                    match self.evaluate(bytes.clone(), None)? {
                         Outcome::Pieces(pieces) => match pieces[..] {
                             [Piece { location: Location::Address { address }, .. }] => {
                                 evaluation.resume_with_frame_base(address)?
                             }
-                            _ => return Ok(Outcome::Needs(format!("the frame base {}", shown(&pieces)))),
+                            _ => return Ok(Outcome::Needs(format!("the frame base {}", shown(pieces)?))),
                         },
                         needs => return Ok(needs),
                     }
@@ -82,7 +83,7 @@ impl<'a> Unit<'a> {
                 EvaluationResult::RequiresIndexedAddress { index, .. } => {
                     evaluation.resume_with_indexed_address(self.dwarf.address(&self.unit, index.into())?)?
                 }
-                EvaluationResult::RequiresBaseType(offset) if offset.0 == 0 => {
+                EvaluationResult::RequiresBaseType(offset) if offset.0.0.into_u64() == 0 => {
                     evaluation.resume_with_base_type(ValueType::Generic)?
                 }
                 EvaluationResult::RequiresBaseType(offset) => {
@@ -94,7 +95,7 @@ impl<'a> Unit<'a> {
                     let location = attribute(&self.unit.entry(offset.into())?, gimli::DW_AT_location);
                     let called = match location {
                         Some(AttributeValue::Exprloc(expression)) => expression.0,
-                        _ => Bytes::new(&[], LittleEndian),
+                        _ => self.nothing(),
                     };
                     evaluation.resume_with_at_location(GimliReader(called))?
                 }
@@ -103,22 +104,30 @@ impl<'a> Unit<'a> {
         }
     }
 
+    fn nothing(&self) -> R {
+        let mut bytes = self.dwarf.debug_str.reader().clone();
+        bytes.empty();
+        bytes
+    }
+
     /// Prints the variables of an entry and of those below it.
-    fn print(&self, node: EntriesTreeNode<Bytes<'a>>, mut frame_base: Option<Bytes<'a>>) -> gimli::Result<()> {
+    fn print(&self, node: EntriesTreeNode<R>, frame_base: Option<&R>) -> gimli::Result<()> {
         let entry = node.entry();
-        if let Some(AttributeValue::Exprloc(expression)) = attribute(entry, gimli::DW_AT_frame_base) {
-            frame_base = Some(expression.0);
-        }
+        let own_frame_base = attribute(entry, gimli::DW_AT_frame_base);
+        let frame_base = match &own_frame_base {
+            Some(AttributeValue::Exprloc(expression)) => Some(&expression.0),
+            _ => frame_base,
+        };
         if matches!(entry.tag(), gimli::DW_TAG_variable | gimli::DW_TAG_formal_parameter) {
             let name = self.name(entry)?;
             match attribute(entry, gimli::DW_AT_location) {
                 Some(AttributeValue::Exprloc(expression)) => {
-                    println!("{name}: {}", self.location(expression.0, frame_base));
+                    println!("{name}: {}", self.location(expression.0, frame_base)?);
                 }
                 Some(list) => {
                     let Some(mut locations) = self.dwarf.attr_locations(&self.unit, list)? else { return Ok(()) };
                     while let Some(it) = locations.next()? {
-                        let location = self.location(it.data.0, frame_base);
+                        let location = self.location(it.data.0, frame_base)?;
                         println!("{name}, from {:#x} to {:#x}: {location}", it.range.begin, it.range.end);
                     }
                 }
@@ -132,9 +141,9 @@ impl<'a> Unit<'a> {
         Ok(())
     }
 
-    fn name(&self, entry: &DebuggingInformationEntry<Bytes<'a>>) -> gimli::Result<Cow<'a, str>> {
+    fn name(&self, entry: &DebuggingInformationEntry<R>) -> gimli::Result<String> {
         if let Some(name) = attribute(entry, gimli::DW_AT_name) {
-            return Ok(self.dwarf.attr_string(&self.unit, name)?.to_string_lossy());
+            return Ok(self.dwarf.attr_string(&self.unit, name)?.to_string_lossy()?.into_owned());
         }
         match attribute(entry, gimli::DW_AT_abstract_origin) {
             Some(AttributeValue::UnitRef(origin)) => self.name(&self.unit.entry(origin)?),
@@ -142,38 +151,40 @@ impl<'a> Unit<'a> {
         }
     }
 
-    fn location(&self, bytes: Bytes<'a>, frame_base: Option<Bytes<'a>>) -> String {
+    fn location(&self, bytes: R, frame_base: Option<&R>) -> gimli::Result<String> {
         match self.evaluate(bytes, frame_base) {
-            Ok(Outcome::Pieces(pieces)) => shown(&pieces),
-            Ok(Outcome::Needs(request)) => format!("needs {request}"),
-            Err(error) => format!("error: {error}"),
+            Ok(Outcome::Pieces(pieces)) => shown(pieces),
+            Ok(Outcome::Needs(request)) => Ok(format!("needs {request}")),
+            Err(error) => Ok(format!("error: {error}")),
         }
     }
 }
 
-fn shown(pieces: &[Piece<GimliReader<Bytes<'_>>>]) -> String {
-    let shown = pieces.iter().map(|piece| {
+fn shown<R: Reader>(pieces: Vec<Piece<GimliReader<R>>>) -> gimli::Result<String> {
+    let shown = pieces.into_iter().map(|piece| {
         let place = match piece.location {
             Location::Empty => "nowhere".into(),
             Location::Register { register } => format!("in register {}", register.0),
             Location::Address { address } => format!("at {address:#x}"),
             Location::Value { value } => format!("the value {value:?}"),
-            Location::Bytes { value } => format!("the bytes {:?}", value.0.slice()),
+            Location::Bytes { value } => format!("the bytes {:?}", value.to_slice()?),
             Location::ImplicitPointer { value, byte_offset } => {
-                format!("a pointer to byte {byte_offset} of the object at {:#x} of .debug_info", value.0.0)
+                format!("a pointer to byte {byte_offset} of the object at {:#x} of .debug_info", value.0.0.into_u64())
             }
         };
-        match piece.size_in_bits {
+        Ok(match piece.size_in_bits {
             Some(bits) => format!("{bits} bits {place}"),
             None => place,
-        }
+        })
     });
-    shown.collect::<Vec<_>>().join(", ")
+    Ok(shown.collect::<gimli::Result<Vec<_>>>()?.join(", "))
 }
 
+// Other readers are made of what a slice converts to.
+#[allow(clippy::useless_conversion)]
 fn print_variables(file: &[u8], cfa: u64) -> gimli::Result<()> {
     let dwarf = gimli::Dwarf::load(|id| {
-        Ok::<_, gimli::Error>(Bytes::new(section(file, id.name()).unwrap_or(&[]), LittleEndian))
+        Ok::<_, gimli::Error>(Bytes::new(section(file, id.name()).unwrap_or(&[]).into(), LittleEndian))
     })?;
     let mut units = dwarf.units();
     while let Some(header) = units.next()? {

@@ -2,21 +2,21 @@
 
 use crate::{Error, Expression, GimliReader, Location, Piece, Result};
 
-impl<R: gimli::Reader + Copy> From<gimli::Expression<R>> for Expression<GimliReader<R>> {
+impl<R: gimli::Reader> From<gimli::Expression<R>> for Expression<GimliReader<R>> {
     #[inline]
     fn from(theirs: gimli::Expression<R>) -> Self {
         Expression(GimliReader(theirs.0))
     }
 }
 
-impl<R: gimli::Reader + Copy> From<Expression<GimliReader<R>>> for gimli::Expression<R> {
+impl<R: gimli::Reader> From<Expression<GimliReader<R>>> for gimli::Expression<R> {
     #[inline]
     fn from(ours: Expression<GimliReader<R>>) -> Self {
         gimli::Expression(ours.0.0)
     }
 }
 
-impl<R: gimli::Reader + Copy> From<Location<GimliReader<R>>> for gimli::Location<R> {
+impl<R: gimli::Reader> From<Location<GimliReader<R>>> for gimli::Location<R> {
     #[inline]
     fn from(ours: Location<GimliReader<R>>) -> Self {
         match ours {
@@ -32,7 +32,7 @@ impl<R: gimli::Reader + Copy> From<Location<GimliReader<R>>> for gimli::Location
     }
 }
 
-impl<R: gimli::Reader + Copy> TryFrom<gimli::Location<R>> for Location<GimliReader<R>> {
+impl<R: gimli::Reader> TryFrom<gimli::Location<R>> for Location<GimliReader<R>> {
     type Error = Error;
 
     /// `UnsupportedTypeOperation`, if it is a floating-point value.
@@ -51,7 +51,7 @@ impl<R: gimli::Reader + Copy> TryFrom<gimli::Location<R>> for Location<GimliRead
     }
 }
 
-impl<R: gimli::Reader + Copy> From<Piece<GimliReader<R>>> for gimli::Piece<R> {
+impl<R: gimli::Reader> From<Piece<GimliReader<R>>> for gimli::Piece<R> {
     #[inline]
     fn from(ours: Piece<GimliReader<R>>) -> Self {
         let Piece { size_in_bits, bit_offset, location } = ours;
@@ -59,7 +59,7 @@ impl<R: gimli::Reader + Copy> From<Piece<GimliReader<R>>> for gimli::Piece<R> {
     }
 }
 
-impl<R: gimli::Reader + Copy> TryFrom<gimli::Piece<R>> for Piece<GimliReader<R>> {
+impl<R: gimli::Reader> TryFrom<gimli::Piece<R>> for Piece<GimliReader<R>> {
     type Error = Error;
 
     /// `UnsupportedTypeOperation`, if it is a floating-point value.

@@ -38,7 +38,7 @@ use core::fmt;
 /// # Ok::<(), dwexpr::Error>(())
 /// ```
 pub struct Evaluation<
-    R: Reader + Copy,
+    R: Reader,
     #[cfg(feature = "alloc")] S: EvaluationStorage<R> = StoreOnHeap,
     #[cfg(not(feature = "alloc"))] S: EvaluationStorage<R>,
 > {
@@ -64,7 +64,7 @@ fn checked(encoding: Encoding) -> (Encoding, Start) {
     }
 }
 
-impl<R: Reader + Copy, S: EvaluationStorage<R>> Evaluation<R, S> {
+impl<R: Reader, S: EvaluationStorage<R>> Evaluation<R, S> {
     /// A fresh evaluation of `bytecode`, over empty lists. In [`StoreInSlices`](crate::StoreInSlices) these have no
     /// room: use [`with_lists`](Self::with_lists).
     #[inline]
@@ -280,7 +280,7 @@ impl<R: Reader + Copy, S: EvaluationStorage<R>> Evaluation<R, S> {
 
 macro_rules! checked_resumes {
     ($($(#[$doc:meta])+ $name:ident($argument:ident: $type:ty) for $kind:ident;)+) => {
-        impl<R: Reader + Copy, S: EvaluationStorage<R>> Evaluation<R, S> {
+        impl<R: Reader, S: EvaluationStorage<R>> Evaluation<R, S> {
             $(
                 $(#[$doc])+
                 ///
@@ -306,7 +306,7 @@ macro_rules! checked_resumes {
 
 resumes!(checked_resumes);
 
-impl<R: Reader + Copy, S: EvaluationStorage<R>> fmt::Debug for Evaluation<R, S> {
+impl<R: Reader, S: EvaluationStorage<R>> fmt::Debug for Evaluation<R, S> {
     fn fmt(&self, f: &mut fmt::Formatter<'_>) -> fmt::Result {
         f.debug_struct("Evaluation").field("status", &self.status()).finish_non_exhaustive()
     }

@@ -8,13 +8,13 @@ use alloc::vec::Vec;
 #[derive(Clone, Copy, Debug, PartialEq, Eq)]
 pub struct StoreOnHeap;
 
-impl<R: Reader + Copy> EvaluationStorage<R> for StoreOnHeap {
+impl<R: Reader> EvaluationStorage<R> for StoreOnHeap {
     type Stack = Vec<Value>;
     type ExpressionStack = Vec<(R, R)>;
     type Result = Vec<Piece<R>>;
 }
 
-impl<R: Reader + Copy> Expression<R> {
+impl<R: Reader> Expression<R> {
     /// A fresh evaluation of the expression, on the heap.
     #[inline]
     pub fn evaluation(self, encoding: Encoding) -> Evaluation<R> {
@@ -22,7 +22,7 @@ impl<R: Reader + Copy> Expression<R> {
     }
 }
 
-impl<R: Reader + Copy> Evaluation<R> {
+impl<R: Reader> Evaluation<R> {
     /// A fresh evaluation of `bytecode`, on the heap. It takes no memory yet.
     #[inline]
     pub fn new(bytecode: R, encoding: Encoding) -> Self {
@@ -58,7 +58,7 @@ impl<R: Reader + Copy> Evaluation<R> {
     }
 }
 
-impl<T: Copy> ArrayLike for Vec<T> {
+impl<T: Clone> ArrayLike for Vec<T> {
     type Item = T;
     type List = Vec<T>;
     type Pieces = OneInLine<T, Vec<T>>;
@@ -69,7 +69,7 @@ impl<T: Copy> ArrayLike for Vec<T> {
     }
 }
 
-impl<T: Copy> From<Vec<T>> for OneInLine<T, Vec<T>> {
+impl<T: Clone> From<Vec<T>> for OneInLine<T, Vec<T>> {
     #[inline(always)]
     fn from(more: Vec<T>) -> Self {
         OneInLine::new(more)

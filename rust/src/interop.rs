@@ -104,26 +104,26 @@ impl<T: gimli::ReaderOffset> ReaderOffset for GimliOffset<T> {
     }
 }
 
-impl<R: gimli::Reader + Copy> GimliReader<R> {
+impl<R: gimli::Reader> GimliReader<R> {
     /// Takes something from the front. An error that has no name here, such as one of input, is `UnexpectedEof` with
     /// the place where the bytes begin.
     #[inline(always)]
     fn take<T>(&mut self, read: impl FnOnce(&mut R) -> gimli::Result<T>) -> Result<T> {
         #[cold]
-        fn error_of(error: gimli::Error, start: impl gimli::Reader) -> Error {
+        fn error_of(error: gimli::Error, start: gimli::ReaderOffsetId) -> Error {
             match error {
                 gimli::Error::UnexpectedEof(id) => Error::UnexpectedEof(id.into()),
                 gimli::Error::UnsupportedAddressSize(size) => Error::UnsupportedAddressSize(size),
                 gimli::Error::UnsupportedOffset => Error::UnsupportedOffset,
-                _ => Error::UnexpectedEof(start.offset_id().into()),
+                _ => Error::UnexpectedEof(start.into()),
             }
         }
-        let start = self.0;
+        let start = self.0.offset_id();
         read(&mut self.0).map_err(|error| error_of(error, start))
     }
 }
 
-impl<R: gimli::Reader + Copy> Reader for GimliReader<R> {
+impl<R: gimli::Reader> Reader for GimliReader<R> {
     type Offset = GimliOffset<R::Offset>;
 
     #[inline]

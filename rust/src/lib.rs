@@ -24,7 +24,7 @@
 //!
 //! - `alloc`, a default one: lists on the heap. Without it the crate takes no memory, see [`StoreInSlices`].
 //! - `arrayvec`: an evaluation can keep its lists in arrays, see [`EvaluationStorage`].
-//! - `gimli`: `GimliReader` reads from any `gimli::Reader` that is `Copy`, and the types of both crates convert.
+//! - `gimli`: `GimliReader` reads from any `gimli::Reader`, and the types of both crates convert.
 //! - `small`: smaller code by `opt-level = "z"`.
 //! - `gimli-0_34`: so do operations and requests, which gimli 0.34 has alike.
 #![no_std]

@@ -6,7 +6,7 @@ use crate::{EvaluationResult, GimliReader, Operation};
 /// reader.
 macro_rules! as_gimlis {
     ($type:ident: $($name:ident $(($x:ident))? $({ $($field:ident)+ })? $([$reader:ident])?,)+) => {
-        impl<R: gimli::Reader + Copy> From<$type<GimliReader<R>>> for gimli::$type<R> {
+        impl<R: gimli::Reader> From<$type<GimliReader<R>>> for gimli::$type<R> {
             #[inline]
             fn from(ours: $type<GimliReader<R>>) -> Self {
                 match ours {
@@ -17,7 +17,7 @@ macro_rules! as_gimlis {
             }
         }
 
-        impl<R: gimli::Reader + Copy> From<gimli::$type<R>> for $type<GimliReader<R>> {
+        impl<R: gimli::Reader> From<gimli::$type<R>> for $type<GimliReader<R>> {
             #[inline]
             fn from(theirs: gimli::$type<R>) -> Self {
                 match theirs {

@@ -130,7 +130,7 @@ impl<'input, Endian: Endianity> From<EndianSlice<'input, Endian>> for &'input [u
     }
 }
 
-impl<R: Reader + Copy> OperationIter<R> {
+impl<R: Reader> OperationIter<R> {
     /// The number of bytes before the next operation of the expression. After an error it is the whole length.
     ///
     /// # Panics

@@ -17,7 +17,7 @@ use core::marker::PhantomData;
 /// /// A new evaluation has a slice without room for callers. So what is called has to be last.
 /// struct WithoutCallers;
 ///
-/// impl<R: Reader + Copy + 'static> EvaluationStorage<R> for WithoutCallers {
+/// impl<R: Reader + 'static> EvaluationStorage<R> for WithoutCallers {
 ///     type Stack = Vec<Value>;
 ///     type ExpressionStack = SliceVec<'static, (R, R)>;
 ///     type Result = Vec<Piece<R>>;
@@ -33,7 +33,7 @@ use core::marker::PhantomData;
 /// ```
 pub trait ArrayLike {
     /// The items.
-    type Item: Copy;
+    type Item: Clone;
 
     #[doc(hidden)]
     type List: store::ArrayLike<Item = Self::Item>;
@@ -54,7 +54,7 @@ pub trait ArrayLike {
 ///
 /// struct InArrays;
 ///
-/// impl<R: Reader + Copy> EvaluationStorage<R> for InArrays {
+/// impl<R: Reader> EvaluationStorage<R> for InArrays {
 ///     type Stack = [Value; 64];
 ///     type ExpressionStack = [(R, R); 4];
 ///     type Result = [Piece<R>; 1];
@@ -67,7 +67,7 @@ pub trait ArrayLike {
 /// assert_eq!(evaluation.value_result(), Some(Value::Generic(5)));
 /// # }
 /// ```
-pub trait EvaluationStorage<R: Reader + Copy> {
+pub trait EvaluationStorage<R: Reader> {
     /// The values on the stack.
     type Stack: ArrayLike<Item = Value>;
 
@@ -78,7 +78,7 @@ pub trait EvaluationStorage<R: Reader + Copy> {
     type Result: ArrayLike<Item = Piece<R>>;
 }
 
-impl<'a, R: Reader + Copy + 'a> EvaluationStorage<R> for StoreInSlices<'a> {
+impl<'a, R: Reader + 'a> EvaluationStorage<R> for StoreInSlices<'a> {
     type Stack = SliceVec<'a, Value>;
     type ExpressionStack = SliceVec<'a, (R, R)>;
     type Result = SliceVec<'a, Piece<R>>;
@@ -87,13 +87,13 @@ impl<'a, R: Reader + Copy + 'a> EvaluationStorage<R> for StoreInSlices<'a> {
 /// The storage `S`, as the evaluation of the sources wants it.
 pub(crate) struct Lists<S>(PhantomData<S>);
 
-impl<R: Reader + Copy, S: EvaluationStorage<R>> store::EvaluationStorage<R> for Lists<S> {
+impl<R: Reader, S: EvaluationStorage<R>> store::EvaluationStorage<R> for Lists<S> {
     type Stack = <S::Stack as ArrayLike>::List;
     type ExpressionStack = <S::ExpressionStack as ArrayLike>::List;
     type Result = <S::Result as ArrayLike>::Pieces;
 }
 
-impl<'a, T: Copy> ArrayLike for SliceVec<'a, T> {
+impl<'a, T: Clone> ArrayLike for SliceVec<'a, T> {
     type Item = T;
     type List = SliceVec<'a, T>;
     type Pieces = SliceVec<'a, T>;
@@ -105,7 +105,7 @@ impl<'a, T: Copy> ArrayLike for SliceVec<'a, T> {
 }
 
 #[cfg(feature = "arrayvec")]
-impl<T: Copy, const N: usize> ArrayLike for [T; N] {
+impl<T: Clone, const N: usize> ArrayLike for [T; N] {
     type Item = T;
     type List = ArrayVec<T, N>;
     type Pieces = ArrayVec<T, N>;
@@ -117,7 +117,7 @@ impl<T: Copy, const N: usize> ArrayLike for [T; N] {
 }
 
 #[cfg(feature = "arrayvec")]
-impl<T: Copy, const N: usize> ArrayLike for ArrayVec<T, N> {
+impl<T: Clone, const N: usize> ArrayLike for ArrayVec<T, N> {
     type Item = T;
     type List = ArrayVec<T, N>;
     type Pieces = ArrayVec<T, N>;

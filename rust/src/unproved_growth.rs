@@ -3,7 +3,7 @@
 use crate::sources::eval::store::ArrayLike;
 use alloc::vec::Vec;
 
-impl<T: Copy> ArrayLike for Vec<T> {
+impl<T: Clone> ArrayLike for Vec<T> {
     type Item = T;
 
     #[inline(always)]

@@ -20,5 +20,5 @@ pub use laws::{
     constant_laws, equality_laws, offset_equality_laws, reader_laws, slice_equality_laws,
 };
 pub use offsets::ReaderOffset;
-pub use reading::Reader;
+pub use reading::{Reader, copy_of};
 pub use slices::EndianSlice;

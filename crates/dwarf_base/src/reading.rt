@@ -227,6 +227,14 @@ pub trait Reader {
     }
 }
 
+/// A copy of what is there. No reader is copied in another way.
+#[inline(always)]
+pub fn copy_of<T: Copy>(it: &T) -> T
+    ensures { result ≡ it.now }
+{
+    *it
+}
+
 // What the last byte of a signed number adds at its place: its seven bits, whose highest is the sign.
 #[inline(always)]
 fn last_byte(byte: u8) -> i64
@@ -246,7 +254,7 @@ fn rest_of_uleb128_on_copy<R: Reader + Copy>(reader: &mut R, low: u64) -> Result
     ensures { Reads (λ x. x) (R.text reader.old) (R.text reader.new) result
         (leb_from unsigned_leb 2 low (R.text reader.old).bytes) }
 {
-    let mut copy = *reader;
+    let mut copy = copy_of(reader);
     let number = rest_of_uleb128(&mut copy, low);
     *reader = copy;
     number
@@ -282,7 +290,7 @@ fn rest_of_sleb128_on_copy<R: Reader + Copy>(reader: &mut R, low: u64) -> Result
     ensures { Reads (λ x. x) (R.text reader.old) (R.text reader.new) result
         (leb_from signed_leb 2 low (R.text reader.old).bytes) }
 {
-    let mut copy = *reader;
+    let mut copy = copy_of(reader);
     let number = rest_of_sleb128(&mut copy, low);
     *reader = copy;
     number

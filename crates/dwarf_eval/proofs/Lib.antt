@@ -12,6 +12,7 @@ pub mod Performing
 pub mod Finishing
 pub mod Holding
 pub mod AnswerUses
+pub mod Asking
 pub mod Resuming
 pub mod Placing
 pub mod Loads

@@ -1,6 +1,7 @@
 //! The run of an evaluation: its state, and what each operation and each answer does to it.
 
 mod answers;
+pub(crate) mod asked;
 mod binary;
 pub(crate) mod machine;
 mod operate;

@@ -16,7 +16,7 @@ use crate::operands::{
 use crate::operations::{DieReference, Operation};
 use dwarf_base::{
     DebugAddrIndex, DebugInfoOffset, DwOp, Encoding, Error, Reader, Register, Result, UnitOffset,
-    constants,
+    constants, copy_of,
 };
 
 #[inline(always)]
@@ -268,7 +268,7 @@ fn read_offset_on_copy<R: Reader + Copy>(
         (operands_in R.Offset.BITS (R.text bytes.old)
         (entry_row encoding 0 (Entry.Offset shape make))) }
 {
-    let mut copy = *bytes;
+    let mut copy = copy_of(bytes);
     let operation = read_offset_operation(shape, make, &mut copy, encoding);
     *bytes = copy;
     operation
@@ -333,7 +333,7 @@ fn read_rare_on_copy<R: Reader + Copy>(
         (R.text bytes.old) (R.text bytes.new) result
         (operands_in R.Offset.BITS (R.text bytes.old) (rare_row encoding entry)) }
 {
-    let mut copy = *bytes;
+    let mut copy = copy_of(bytes);
     let operation = read_rare_operands(entry, &mut copy, encoding);
     *bytes = copy;
     operation

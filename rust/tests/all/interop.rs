@@ -71,8 +71,9 @@ fn a_reader_is_gimlis_too() {
     assert_eq!(reader, GimliReader(little(&[1, 2, 3])));
 }
 
-/// A reader whose addresses and offsets are relocated by as much as they are far from its end.
-#[derive(Clone, Copy, Debug)]
+/// A reader whose addresses and offsets are relocated by as much as they are far from its end. It is `Clone`, and not
+/// `Copy`, as gimli's `RelocateReader` is.
+#[derive(Clone, Debug)]
 pub struct Relocating<'a>(pub gimli::EndianSlice<'a, gimli::LittleEndian>);
 
 impl gimli::Reader for Relocating<'_> {
@@ -167,6 +168,26 @@ fn relocations_are_kept() {
         Err(Error::UnexpectedEof(id)) => assert_eq!(id.0, start.0 + 1),
         _ => panic!(),
     }
+}
+
+#[test]
+fn an_evaluation_keeps_relocations() {
+    let evaluate = |bytes| Evaluation::new(GimliReader(Relocating(little(bytes))), ENCODING.into());
+    // DW_OP_addr, and the DW_OP_plus_uconst 1 that is called by the DW_OP_call_ref after it. The whole has 14 bytes.
+    let mut evaluation = evaluate(&[0x03, 0x40, 0, 0, 0, 0, 0, 0, 0, 0x9a, 0x20, 0, 0, 0]);
+    let Ok(RequiresRelocatedAddress(address)) = evaluation.evaluate() else { panic!() };
+    assert_eq!(address, 0x40 + 13);
+    let Ok(RequiresAtLocation(entry)) = evaluation.resume_with_relocated_address(address) else { panic!() };
+    assert_eq!(entry, dwexpr::DieReference::DebugInfoRef(dwexpr::DebugInfoOffset(GimliOffset(0x20 + 4))));
+    let called = GimliReader(Relocating(little(&[0x23, 1])));
+    assert!(matches!(evaluation.resume_with_at_location(called), Ok(Complete)));
+    assert_eq!(evaluation.value_result(), Some(Value::Generic(0x40 + 13 + 1)));
+    // DW_OP_addr in the text that is called, of which 9 bytes are there.
+    let mut evaluation = evaluate(&[0x98, 5, 0]);
+    assert!(matches!(evaluation.evaluate(), Ok(RequiresAtLocation(_))));
+    let called = GimliReader(Relocating(little(&[0x03, 0x40, 0, 0, 0, 0, 0, 0, 0])));
+    let Ok(RequiresRelocatedAddress(address)) = evaluation.resume_with_at_location(called) else { panic!() };
+    assert_eq!(address, 0x40 + 8);
 }
 
 #[test]

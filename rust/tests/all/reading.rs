@@ -54,7 +54,7 @@ fn the_first_such_byte_is_found() {
 
 #[test]
 fn each_byte_order_is_read() {
-    fn constant(mut bytes: impl Reader + Copy) -> u64 {
+    fn constant(mut bytes: impl Reader) -> u64 {
         match Operation::parse(&mut bytes, ENCODING) {
             Ok(Operation::UnsignedConstant { value }) => value,
             _ => panic!(),

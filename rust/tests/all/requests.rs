@@ -6,7 +6,7 @@ use gimli::ReaderOffset as _;
 use std::collections::HashSet;
 
 /// gimli's bounds are enough, and its types come back: this is the loop of an unwinder over gimli's.
-fn unwind<R: gimli::Reader + Copy>(rule: gimli::Expression<R>, encoding: gimli::Encoding, cfa: u64) -> Option<u64> {
+fn unwind<R: gimli::Reader>(rule: gimli::Expression<R>, encoding: gimli::Encoding, cfa: u64) -> Option<u64> {
     let mut evaluation = Evaluation::new(rule.0.into(), encoding.into());
     evaluation.set_initial_value(cfa);
     let mut result = evaluation.evaluate().ok()?;
@@ -22,7 +22,7 @@ fn unwind<R: gimli::Reader + Copy>(rule: gimli::Expression<R>, encoding: gimli::
             _ => return None,
         };
     }
-    match evaluation.as_result()[0].into() {
+    match evaluation.as_result()[0].clone().into() {
         gimli::Piece { location: gimli::Location::Address { address }, .. } => Some(address),
         _ => None,
     }

@@ -76,7 +76,7 @@ fn lists_may_be_arrays() {
 
     struct InArrays;
 
-    impl<R: Reader + Copy> EvaluationStorage<R> for InArrays {
+    impl<R: Reader> EvaluationStorage<R> for InArrays {
         type Stack = [Value; 2];
         type ExpressionStack = ArrayVec<(R, R), 1>;
         type Result = [Piece<R>; 2];

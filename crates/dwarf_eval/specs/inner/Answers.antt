@@ -1,9 +1,10 @@
 -- What a machine is given, what it waits for, and how it ended.
-use Rattle.std.specs.Prelude.{◌≡◌, Result, Ok, Err}
+use Rattle.std.specs.Prelude.{◌≡◌, Option, Some, None, Result, Ok, Err}
 use Rattle.dwarf_base.specs.declared.errors.Error.{Error}
 use Rattle.dwarf_base.specs.Reads.{Text}
 use Rattle.dwarf_meaning.specs.Inputs.{fresh_state, with_settings, with_status}
 use Rattle.dwarf_meaning.specs.declared.kinds.WaitingKind.{WaitingKind}
+use Rattle.dwarf_meaning.specs.Kinds.{kind_of_request}
 use Rattle.dwarf_meaning.specs.Requests as requests
 use Rattle.dwarf_meaning.specs.Rest as rest
 use Rattle.dwarf_meaning.specs.Rest.{Start, Running, RequestStatus, CompleteStatus, FaultStatus}
@@ -24,6 +25,25 @@ abbrev pub IsWaiting : rest.Status → Type 0
 IsWaiting (RequestStatus request on_answer) = Unit {0}
 IsWaiting _ = ⊥
 
+-- the status, if this was asked in place of what it asks
+abbrev pub asking_status : requests.Request → rest.Status → rest.Status
+asking_status request (RequestStatus other on_answer) = RequestStatus request on_answer
+asking_status request status = status
+
+-- the state, if this was asked in place of what it asks
+abbrev pub asking : requests.Request → rest.State → rest.State
+asking request x = with_status (asking_status request x.status) x
+
+-- if a request is open, it is this one
+abbrev pub AsksFor : Option requests.Request → rest.Status → Type 0
+AsksFor asked (RequestStatus request on_answer) = asked ≡ Some request
+AsksFor asked _ = Unit {0}
+
+-- the kind of the open request, if there is one
+abbrev pub open_kind : rest.Status → Option WaitingKind
+open_kind (RequestStatus request on_answer) = Some (kind_of_request request)
+open_kind _ = None
+
 -- by the status: at the start it is fresh but for what was set, and it doesn't run
 abbrev pub IsAtRestBy : rest.State → rest.Status → Type 0
 IsAtRestBy x (Start initial_value) =
@@ -34,6 +54,11 @@ IsAtRestBy x _ = Unit {0}
 -- between calls nothing runs
 abbrev pub IsAtRest : rest.State → Type 0
 IsAtRest x = IsAtRestBy x x.status
+
+-- between calls: what was asked, its kind, and the machine
+pub record IsKept (asked : requests.Request) (kind : Option WaitingKind) (x : rest.State) : Type 0 where
+  pub rests : IsAtRest x
+  pub kind_is : kind ≡ open_kind (asking_status asked x.status)
 
 -- after the end the result is completion, and after a fault that fault
 abbrev pub IsEndedBy : {R O P : Type 0} → Result (EvaluationResult R O P) Error → rest.Status → Type 0

@@ -12,9 +12,10 @@ ghost use Rattle.dwarf_eval.specs.Evaluation.{Evaluates, HasResult, IsClosed, Is
 ghost use Rattle.dwarf_meaning.specs.Stores.{setup_of};
 ghost use Rattle.dwarf_op.specs.Views.{piece_of};
 
-use crate::eval::requests::{kind_of, reply};
+use crate::eval::requests::{OpenRequest, reply};
 use crate::eval::states::Status;
 use crate::op::{EvaluationResult, Piece};
+use crate::run::asked::Asked;
 use crate::run::machine::Machine;
 use crate::run::states::{EvaluationState, Given};
 use crate::store::EvaluationStorage;
@@ -31,6 +32,8 @@ use std::marker::Model;
 #[derive(Drop)]
 pub struct Evaluation<R: Reader + Copy, S: EvaluationStorage<R>> {
     machine: Machine<R, S>,
+    // The machine has another request in its place, once it is handed out.
+    waiting: OpenRequest,
 }
 
 impl<R: Reader + Copy, S: EvaluationStorage<R>> Model for Evaluation<R, S> {
@@ -38,11 +41,11 @@ impl<R: Reader + Copy, S: EvaluationStorage<R>> Model for Evaluation<R, S> {
 
     ghost Value = { State };
 
-    ghost use Rattle.dwarf_eval.specs.inner.Answers.{IsAtRest};
+    ghost use Rattle.dwarf_eval.specs.inner.Answers.{IsAtRest, IsKept, asking};
 
-    ghost view = { λ e. e.machine };
+    ghost view = { λ e. asking e.waiting.asked.request e.machine };
 
-    ghost invariant = { λ e. IsAtRest e.machine };
+    ghost invariant = { λ e. IsKept e.waiting.asked.request e.waiting.kind e.machine };
 }
 
 impl<R: Reader + Copy, S: EvaluationStorage<R>> Evaluation<R, S> {
@@ -66,6 +69,10 @@ impl<R: Reader + Copy, S: EvaluationStorage<R>> Evaluation<R, S> {
     {
         Evaluation {
             machine: Machine::new_in(bytecode, encoding, stack, expression_stack, pieces),
+            waiting: OpenRequest {
+                kind: None,
+                asked: Asked::new(),
+            },
         }
     }
 
@@ -82,6 +89,7 @@ impl<R: Reader + Copy, S: EvaluationStorage<R>> Evaluation<R, S> {
             self.old.setup.limits.pieces) (R.text bytecode) }
     {
         self.machine.restart(bytecode, encoding);
+        self.waiting.kind = None;
     }
 
     /// Where the evaluation stands, and so which calls it allows.
@@ -89,15 +97,14 @@ impl<R: Reader + Copy, S: EvaluationStorage<R>> Evaluation<R, S> {
         ensures shows { Shows self.now.status result }
         ensures permits { Permits self.now.status result }
     {
+        if let Some(kind) = self.waiting.kind {
+            return Status::Waiting(kind);
+        }
         match self.machine.state() {
             EvaluationState::Start(initial_value) => Status::Start {
                 initial: initial_value.is_some(),
             },
-            EvaluationState::Replied(replied) => match kind_of(replied) {
-                Some(kind) => Status::Waiting(kind),
-                None => Status::Complete,
-            },
-            EvaluationState::Complete(_) => Status::Complete,
+            EvaluationState::Replied(_) | EvaluationState::Complete(_) => Status::Complete,
             EvaluationState::Failed(error) => Status::Failed(*error),
             EvaluationState::Running => unreachable!(),
         }
@@ -109,10 +116,9 @@ impl<R: Reader + Copy, S: EvaluationStorage<R>> Evaluation<R, S> {
     pub fn is_open_for(&self, kind: WaitingKind) -> bool
         ensures { (result ≡ true) ↔ IsOpenFor kind self.now.status }
     {
-        match self.machine.state() {
-            EvaluationState::Replied(replied) => kind_of(replied) == Some(kind),
-            EvaluationState::Failed(_) => true,
-            _ => false,
+        match self.waiting.kind {
+            Some(open) => open == kind,
+            None => matches!(self.machine.state(), EvaluationState::Failed(_)),
         }
     }
 
@@ -169,10 +175,10 @@ impl<R: Reader + Copy, S: EvaluationStorage<R>> Evaluation<R, S> {
         ensures admits { IfOk result (λ replied. Admits replied self.new.status) }
     {
         let EvaluationState::Start(initial_value) = *self.machine.state() else {
-            return reply(&self.machine);
+            return reply(&mut self.machine, &mut self.waiting);
         };
         self.machine.start(initial_value);
-        reply(&self.machine)
+        reply(&mut self.machine, &mut self.waiting)
     }
 
     /// Goes on with an answer of this kind, which contracts alone need.
@@ -185,11 +191,11 @@ impl<R: Reader + Copy, S: EvaluationStorage<R>> Evaluation<R, S> {
         ensures admits { IfOk result (λ replied. Admits replied self.new.status) }
         ensures fewer { IfOk result (λ reply. calls_left self.new < calls_left self.old) }
     {
-        let EvaluationState::Replied(_) = *self.machine.state() else {
-            return reply(&self.machine);
-        };
+        if self.waiting.kind.is_none() {
+            return reply(&mut self.machine, &mut self.waiting);
+        }
         self.machine.resume(given);
-        reply(&self.machine)
+        reply(&mut self.machine, &mut self.waiting)
     }
 
     /// Goes on with what memory holds, after `RequiresMemory`.

@@ -1,20 +1,30 @@
 //! The request of a state, and its kind.
 
-ghost use Rattle.std.specs.Prelude.{◌≡◌, IfOk, option_map};
+ghost use Rattle.std.specs.Prelude.{◌≡◌, IfOk, Some, option_map};
 ghost use Rattle.dwarf_meaning.specs.Kinds.{kind_of_request};
 ghost use Rattle.dwarf_eval.specs.inner.StateChanges.{HasReply};
 ghost use Rattle.dwarf_eval.specs.Permits.{Admits};
 ghost use Rattle.dwarf_eval.specs.Evaluation.{IsReplied, reply_of, request_in};
-ghost use Rattle.dwarf_eval.specs.inner.Answers.{IsAtRest, IsEndedBy};
+ghost use Rattle.dwarf_eval.specs.inner.Answers.{AsksFor, IsAtRest, IsEndedBy, asking, open_kind};
+ghost use Rattle.dwarf_meaning.specs.Requests.{Request};
 
 use crate::op::EvaluationResult;
+use crate::run::asked::Asked;
 use crate::run::machine::Machine;
 use crate::run::states::EvaluationState;
 use crate::store::EvaluationStorage;
 use dwarf_base::{Reader, Result};
 use dwarf_meaning::WaitingKind;
 
+/// The open request, if there is one: its kind, and what it asks, which contracts alone see.
+#[derive(Drop)]
+pub(crate) struct OpenRequest {
+    pub(crate) kind: Option<WaitingKind>,
+    pub(crate) asked: Asked,
+}
+
 /// The kind of answer that a result asks for, or `None` if it is complete.
+#[inline(always)]
 pub(crate) fn kind_of<R: Reader + Copy>(replied: &EvaluationResult<R>) -> Option<WaitingKind>
     ensures { result ≡ option_map kind_of_request (request_in R.text R.Offset.number replied.now) }
 {
@@ -37,25 +47,35 @@ pub(crate) fn kind_of<R: Reader + Copy>(replied: &EvaluationResult<R>) -> Option
     })
 }
 
-/// What the state replies to the caller.
+/// Hands the reply of a machine to the caller. A request is moved out of it, and what was asked is noted.
 #[inline(always)]
 pub(crate) fn reply<R: Reader + Copy, S: EvaluationStorage<R>>(
-    machine: &Machine<R, S>,
+    machine: &mut Machine<R, S>,
+    waiting: &mut OpenRequest,
 ) -> Result<EvaluationResult<R>>
-    requires { HasReply machine.now.status }
+    ghost request: { Request }
+    requires has { HasReply machine.old.status }
+    requires asks { AsksFor (Some request) machine.old.status }
+    ensures alone { asking waiting.new.asked.request machine.new ≡ machine.old }
+    ensures kind { waiting.new.kind ≡ open_kind machine.old.status }
     ensures reply { IsReplied (reply_of R.text R.Offset.number result)
-        machine.now.status }
-    ensures ends { IsEndedBy result machine.now.status }
-    ensures rests { IsAtRest machine.now }
-    ensures admits { IfOk result (λ replied. Admits replied machine.now.status) }
+        machine.old.status }
+    ensures ends { IsEndedBy result machine.old.status }
+    ensures rests { IsAtRest machine.old }
+    ensures admits { IfOk result (λ replied. Admits replied machine.old.status) }
 {
     // Most replies are requests. A test of that first costs less than a jump by a table.
-    let state = *machine.state();
-    if let EvaluationState::Replied(replied) = state {
-        return Ok(replied);
+    if let EvaluationState::Replied(replied) = machine.state() {
+        waiting.kind = kind_of(replied);
+        if waiting.kind.is_some() {
+            waiting.asked = Asked::new();
+            return Ok(machine.hand_out());
+        }
+        return Ok(EvaluationResult::Complete);
     }
-    if let EvaluationState::Failed(error) = state {
-        return Err(error);
+    waiting.kind = None;
+    if let EvaluationState::Failed(error) = machine.state() {
+        return Err(*error);
     }
     Ok(EvaluationResult::Complete)
 }

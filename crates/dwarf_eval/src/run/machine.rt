@@ -14,6 +14,7 @@ ghost use Rattle.dwarf_meaning.specs.Stores.{Called, Located, Pieced, Plain, Pus
 ghost use Rattle.dwarf_op.specs.Views.{operation_of, location_of, piece_of};
 ghost use Rattle.dwarf_meaning.specs.Inputs.{fresh_state, with_maximum, with_object, with_status};
 ghost use Rattle.dwarf_eval.specs.Evaluation.{request_in};
+ghost use Rattle.dwarf_eval.specs.inner.Answers.{AsksFor, IsWaiting, asking};
 ghost use Rattle.dwarf_eval.specs.inner.Machine.{last_of, on_answer_of, replied_status, status_of};
 ghost use Rattle.dwarf_eval.specs.inner.StateChanges.{CountsOne, GoesBack, Jumps, Pops, PopsGeneric, PopsGenerics, ReadsOperation, TriesChange, TriesToEnter, at_rest, is_free, is_running, read_to, with_last};
 
@@ -21,10 +22,11 @@ use crate::op::EvaluationResult;
 use crate::run::states::{EvaluationState, LastOperation, OnAnswer};
 use crate::run::ticks::Ticks;
 use crate::store::{ArrayLike, EvaluationStorage};
-use dwarf_base::{Encoding, Error, Reader, ReaderOffset, Result, constants};
+use dwarf_base::{Encoding, Error, Reader, ReaderOffset, Result, constants, copy_of};
 use dwarf_op::{Location, Operation, Piece};
 use dwarf_value::Value;
 use std::marker::Model;
+use std::mem;
 
 /// The state of an evaluation, and its smallest steps: these alone see bytes and lists.
 #[derive(Drop)]
@@ -248,6 +250,19 @@ impl<R: Reader + Copy, S: EvaluationStorage<R>> Machine<R, S> {
         &self.location
     }
 
+    /// Takes out the location that waits for its piece, which the last operation ended.
+    #[inline(always)]
+    pub(crate) fn take_located(&mut self) -> Location<R>
+        requires { is_free self.old.store.last ≡ false }
+        ensures located { self.old.store.last
+            ≡ Located (location_of R.text R.Offset.number result) }
+        ensures pieced { self.new ≡ with_last Pieced self.old }
+    {
+        let location = mem::replace(&mut self.location, Location::Empty);
+        self.mark_pieced();
+        location
+    }
+
     /// Is to start with this value on the stack.
     #[inline(always)]
     pub(crate) fn set_initial_value(&mut self, value: u64)
@@ -288,6 +303,33 @@ impl<R: Reader + Copy, S: EvaluationStorage<R>> Machine<R, S> {
         self.on_answer = on_answer;
     }
 
+    /// Hands out the open request as a copy, of which Rattle's compiler makes faster code than of a move.
+    #[inline(always)]
+    pub(crate) fn hand_out(&mut self) -> EvaluationResult<R>
+        requires { IsWaiting self.old.status }
+        ensures request { AsksFor (request_in R.text R.Offset.number result) self.old.status }
+        ensures alone { (other : requests.Request) × (self.new ≡ asking other self.old) }
+    {
+        let EvaluationState::Replied(request) = self.state else {
+            unreachable!()
+        };
+        request
+    }
+
+    /// Hands out the open request by a move. What stands in its place is another one.
+    #[inline(always)]
+    pub(crate) fn move_out(&mut self) -> EvaluationResult<R>
+        requires { IsWaiting self.old.status }
+        ensures request { AsksFor (request_in R.text R.Offset.number result) self.old.status }
+        ensures alone { (other : requests.Request) × (self.new ≡ asking other self.old) }
+    {
+        let other = EvaluationState::Replied(EvaluationResult::RequiresFrameBase);
+        let EvaluationState::Replied(request) = mem::replace(&mut self.state, other) else {
+            unreachable!()
+        };
+        request
+    }
+
     /// Where the evaluation stands.
     #[inline(always)]
     pub(crate) fn state(&self) -> &EvaluationState<R>
@@ -304,7 +346,7 @@ impl<R: Reader + Copy, S: EvaluationStorage<R>> Machine<R, S> {
             → self.now.status ≡ RequestStatus request wanted
             → wanted ≡ on_answer_of R.text result }
     {
-        self.on_answer
+        copy_of(&self.on_answer)
     }
 
     /// Whether the run goes on.
@@ -375,9 +417,9 @@ impl<R: Reader + Copy, S: EvaluationStorage<R>> Machine<R, S> {
 
     /// The place that is before what is left of the running text.
     #[inline(always)]
-    pub(crate) fn place_of(&self, rest: R) -> R::Offset
-        requires { IsRestOf (R.text rest) self.now.text }
-        ensures value { R.Offset.number result ≡ (at_rest (R.text rest).bytes self.now).place }
+    pub(crate) fn place_of(&self, rest: &R) -> R::Offset
+        requires { IsRestOf (R.text rest.now) self.now.text }
+        ensures value { R.Offset.number result ≡ (at_rest (R.text rest.now).bytes self.now).place }
         ensures bits { self.now.setup.offset_bits ≡ R.Offset.BITS }
     {
         rest.offset_from(&self.running.1)
@@ -389,7 +431,7 @@ impl<R: Reader + Copy, S: EvaluationStorage<R>> Machine<R, S> {
         ensures rest { IsRestOf (R.text result) self.now.text }
         ensures here { at_rest (R.text result).bytes self.now ≡ self.now }
     {
-        self.running.0
+        copy_of(&self.running.0)
     }
 
     /// Goes to what is left of the running text.
@@ -447,7 +489,7 @@ impl<R: Reader + Copy, S: EvaluationStorage<R>> Machine<R, S> {
             (λ e. read self.old.setup self.old.text self.old.place ≡ Err (fault_of e)) }
         ensures alone { self.new ≡ read_to self.new.place self.old }
     {
-        let mut rest = self.running.0;
+        let mut rest = copy_of(&self.running.0);
         let operation = Self::read_operation(&mut rest, &mut self.decodings, self.encoding);
         self.running.0 = rest;
         operation
@@ -459,7 +501,7 @@ impl<R: Reader + Copy, S: EvaluationStorage<R>> Machine<R, S> {
         if !R::IN_MEMORY {
             return false;
         }
-        let mut rest = self.running.0;
+        let mut rest = copy_of(&self.running.0);
         let Ok(opcode) = rest.read_u8() else {
             return false;
         };
@@ -477,7 +519,7 @@ impl<R: Reader + Copy, S: EvaluationStorage<R>> Machine<R, S> {
             (at_rest (R.text rest.new).bytes self.new) result }
         ensures rest { IsRestOf (R.text rest.new) self.new.text }
     {
-        let mut target = self.running.1;
+        let mut target = copy_of(&self.running.1);
         let Ok(()) = target.skip(place) else {
             self.fail(Error::BadBranchTarget(place.into_u64()));
             return false;
@@ -490,11 +532,11 @@ impl<R: Reader + Copy, S: EvaluationStorage<R>> Machine<R, S> {
     pub(crate) fn push_caller(&mut self, callee: R) -> bool
         ensures { TriesToEnter (R.text callee) self.old self.new result }
     {
-        let Ok(()) = self.expression_stack.push(self.running) else {
+        let Ok(()) = self.expression_stack.push(copy_of(&self.running)) else {
             self.fail_full();
             return false;
         };
-        self.running = (callee, callee);
+        self.running = (copy_of(&callee), callee);
         true
     }
 
@@ -557,7 +599,7 @@ impl<R: Reader + Copy, S: EvaluationStorage<R>> Machine<R, S> {
         self.object_address = None;
         self.max_iterations = u32::MAX;
         self.iteration = 0;
-        self.running = (bytecode, bytecode);
+        self.running = (copy_of(&bytecode), bytecode);
         self.last = LastOperation::Nothing;
         self.decodings = Ticks::new();
     }
@@ -586,7 +628,7 @@ impl<R: Reader + Copy, S: EvaluationStorage<R>> Machine<R, S> {
             object_address: None,
             max_iterations: u32::MAX,
             iteration: 0,
-            running: (bytecode, bytecode),
+            running: (copy_of(&bytecode), bytecode),
             last: LastOperation::Nothing,
             location: Location::Empty,
             on_answer: OnAnswer::Push,

@@ -333,7 +333,7 @@ impl<R: Reader + Copy, S: EvaluationStorage<R>> Machine<R, S> {
         ensures rest { IsRestOf (R.text rest.new) self.new.text }
     {
         self.mark_plain();
-        let place = self.place_of(*rest);
+        let place = self.place_of(rest);
         self.jump(place.wrapping_add(R::Offset::from_i16(target)), rest);
     }
 

@@ -16,7 +16,7 @@ ghost use Rattle.dwarf_eval.specs.inner.StateChanges.{Closes, ComesToState, Comp
 use crate::run::machine::Machine;
 use crate::run::states::LastOperation;
 use crate::store::EvaluationStorage;
-use dwarf_base::{Error, Reader, ReaderOffset};
+use dwarf_base::{Error, Reader, ReaderOffset, copy_of};
 use dwarf_op::{Location, Operation, Piece};
 use dwarf_value::Value;
 
@@ -53,9 +53,9 @@ impl<R: Reader + Copy, S: EvaluationStorage<R>> Machine<R, S> {
 
     /// Whether the operation before what is left comes next.
     #[inline(always)]
-    fn goes_on(&self, rest: R) -> bool
-        requires { IsRestOf (R.text rest) self.now.text }
-        ensures { result ≡ goes_on (at_rest (R.text rest).bytes self.now) }
+    fn goes_on(&self, rest: &R) -> bool
+        requires { IsRestOf (R.text rest.now) self.now.text }
+        ensures { result ≡ goes_on (at_rest (R.text rest.now).bytes self.now) }
     {
         self.is_running() && self.is_free() && !rest.is_empty()
     }
@@ -70,7 +70,7 @@ impl<R: Reader + Copy, S: EvaluationStorage<R>> Machine<R, S> {
         let mut goes_on = true;
         while goes_on {
             self.perform(&mut rest);
-            goes_on = self.goes_on(rest);
+            goes_on = self.goes_on(&rest);
         }
         self.go_to(rest);
     }
@@ -82,8 +82,7 @@ impl<R: Reader + Copy, S: EvaluationStorage<R>> Machine<R, S> {
         ensures { (location : _) → self.old.store.last ≡ Located location →
             EndsLocated location (meant.Piece size_in_bits bit_offset) self.old self.new }
     {
-        let location = *self.location();
-        self.mark_pieced();
+        let location = self.take_located();
         self.push_piece(Piece {
             size_in_bits: Some(size_in_bits),
             bit_offset,
@@ -215,7 +214,7 @@ impl<R: Reader + Copy, S: EvaluationStorage<R>> Machine<R, S> {
             self.complete(whole(Location::Register { register }), None);
             return;
         }
-        self.complete(whole(*self.location()), None);
+        self.complete(whole(copy_of(self.location())), None);
     }
 
     /// Leaves the running text at its end.

@@ -2,6 +2,8 @@ ghost use Rattle.std.specs.Prelude.{◌≡◌, ℕ, List, [], ◌∷◌, ◌++�
 ghost use Rattle.dwarf_eval.specs.Lists.{HasRoom, MayRefuse};
 ghost use Rattle.dwarf_meaning.specs.Stores.{IsWithin};
 
+use dwarf_base::copy_of;
+
 /// A list that may have a limit, which no call changes.
 pub trait ArrayLike: Drop {
     /// What it holds.
@@ -23,7 +25,10 @@ pub trait ArrayLike: Drop {
     fn get(&self, index: usize) -> Option<Self::Item>
         ensures { result ≡ slice_get (items self.now) index }
     {
-        self.as_slice().get(index).copied()
+        match self.as_slice().get(index) {
+            Some(item) => Some(copy_of(item)),
+            None => None,
+        }
     }
 
     /// The items.

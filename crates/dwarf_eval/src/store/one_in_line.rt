@@ -44,11 +44,12 @@ impl<T: Copy, L: ArrayLike<Item = T>> OneInLine<T, L> {
         ensures limit { IfOk result (λ list. at_least_one (L.limit list) ≡ self.limit) }
         ensures err { IfErr result (λ back. back ≡ self) }
     {
-        if let Some(item) = self.one {
-            if self.more.push(item[0]).is_err() {
+        if let Some(one) = self.one.take() {
+            let [item] = one;
+            if let Err(item) = self.more.push(item) {
+                self.one = Some([item]);
                 return Err(self);
             }
-            self.one = None;
         }
         Ok(self.more)
     }
@@ -79,9 +80,9 @@ impl<T: Copy, L: ArrayLike<Item = T>> ArrayLike for OneInLine<T, L> {
 
     #[inline(always)]
     fn pop(&mut self) -> Option<T> {
-        if let Some(item) = self.one {
-            self.one = None;
-            return Some(item[0]);
+        if let Some(one) = self.one.take() {
+            let [item] = one;
+            return Some(item);
         }
         self.more.pop()
     }
@@ -114,11 +115,12 @@ fn spill<T: Copy, L: ArrayLike<Item = T>>(one: &mut Option<[T; 1]>, more: &mut L
         → MayRefuse (L.limit more.old) (length (L.items more.old)) }
     ensures limit { L.limit more.new ≡ L.limit more.old }
 {
-    if let Some(item) = *one {
-        if more.push(item[0]).is_err() {
+    if let Some(only) = one.take() {
+        let [item] = only;
+        if let Err(item) = more.push(item) {
+            *one = Some([item]);
             return false;
         }
-        *one = None;
     }
     true
 }

@@ -3,6 +3,7 @@
 ghost use Rattle.std.specs.Prelude.{◌≡◌, [], length, Some};
 
 use super::lists::ArrayLike;
+use dwarf_base::copy_of;
 use std::marker::Model;
 
 /// A list over a slice that its caller lends. Its capacity is chosen at run time, and nothing is allocated or set to
@@ -54,7 +55,7 @@ impl<'a, T: Copy> ArrayLike for SliceVec<'a, T> {
     #[inline(always)]
     fn pop(&mut self) -> Option<T> {
         self.len = self.len.checked_sub(1)?;
-        Some(self.slots[self.len])
+        Some(copy_of(&self.slots[self.len]))
     }
 
     #[inline(always)]

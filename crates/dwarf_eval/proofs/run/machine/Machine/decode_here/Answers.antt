@@ -10,4 +10,4 @@ returns-clause-ok g c =
       beyond = (g.R.Reader.text c.read_operation-operation.new.rest).bytes;
       was = rw (here.rest.same, ← here.order) e;
       moved = rw (c.read_operation-operation.ensures.counted) refl;
-    }) (gives_ok _ _ _ _ c.read_operation-operation.ensures.reads.value))
+    }) (gives_ok _ _ _ _ (rw c.copy_of-rest.ensures at c.read_operation-operation.ensures.reads.value)))

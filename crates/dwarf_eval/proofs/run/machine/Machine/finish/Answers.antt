@@ -48,4 +48,4 @@ returns g c =
     let piece = whole_piece location in
     finish_as (Located location) c.args.self.now c.complete-2.new.self c.location-2.ensures
     (closes_else 1 (λ s. FaultOutcome InvalidPiece) (λ s. completion_of None (push_piece c.args.self.now.setup piece s)) c.args.self.now c.complete-2.new.self (sym c.has_pieces.ensures ∙ c.if-has_pieces.false)
-    (closes_with None _ piece c.args.self.now c.complete-2.new.self c.whole-2.ensures c.complete-2.ensures))
+    (closes_with None _ piece c.args.self.now c.complete-2.new.self (rw c.copy_of.ensures at c.whole-2.ensures) c.complete-2.ensures))

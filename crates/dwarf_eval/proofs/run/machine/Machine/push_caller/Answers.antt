@@ -22,8 +22,8 @@ invariant_of-self-2 g c =
     record {
       mask = c.self.invariant.mask;
       width = c.self.invariant.width;
-      here = record { rest = suffix_whole _; order = refl };
-      callers = subst (AllByRecursion P) (sym c.in-Ok.ensures.ok) (all_and_last P (g.S.ExpressionStack.ArrayLike.items c.self.inside.expression_stack) c.self.inside.running c.self.invariant.callers c.self.invariant.here);
+      here = rw c.copy_of-2.ensures (record { rest = suffix_whole _; order = refl });
+      callers = subst (AllByRecursion P) (sym c.in-Ok.ensures.ok) (all_and_last P (g.S.ExpressionStack.ArrayLike.items c.self.inside.expression_stack) c.copy_of.result c.self.invariant.callers (subst P (sym c.copy_of.ensures) c.self.invariant.here));
     }
 
 pub returns : goal.returns
@@ -31,5 +31,5 @@ returns g c =
     let none : length (g.R.Reader.text c.args.callee).bytes - length (g.R.Reader.text c.args.callee).bytes ≡ 0 = omega arith in
     rw (← c.self.view_is) (record {
       steps = caller_pushed _ _ _ _ (rw length-callers c.in-Ok.ensures.room) refl;
-      alone = rw (none, c.push.ensures.limit, callers-push g.R.Reader.text c.self.inside.running _ _ c.in-Ok.ensures.ok) refl;
+      alone = rw (c.copy_of-2.ensures, none, c.push.ensures.limit, callers-push g.R.Reader.text c.copy_of.result _ _ c.in-Ok.ensures.ok, c.copy_of.ensures) refl;
     })

@@ -1,0 +1,165 @@
+-- What an evaluation does depends on the kind of the open request, and not on the request.
+use Rattle.std.proofs.Common.{ℕ, ◌≡◌, arith, IsTrue, List, length, Option, Some, None, ap, ◌∙◌, sym, refl, subst}
+use Rattle.std.specs.List.{list_all}
+use Rattle.dwarf_meaning.specs.declared.kinds.WaitingKind.{WaitingKind}
+use Rattle.dwarf_meaning.specs.Bounds.{DecodesOnce, Spends, is_given, waiting}
+use Rattle.dwarf_meaning.specs.Inputs.{with_status}
+use Rattle.dwarf_meaning.specs.Locations.{Location}
+use Rattle.dwarf_meaning.specs.Refusals.{Refusal}
+use Rattle.dwarf_meaning.specs.Requests.{Input, OnAnswer, Request, RequiresFrameBase}
+use Rattle.dwarf_meaning.specs.Rest.{State, Status, Start, Running, RequestStatus, CompleteStatus, FaultStatus, Total}
+use Rattle.dwarf_meaning.specs.Stores.{Last, Nothing, Plain, Pieced, Pushed, Called, Located}
+use Rattle.std.specs.Prelude.{true, false, Result, is_some, option_map}
+use Rattle.std.specs.Option.{option_map_or}
+use Rattle.dwarf_base.specs.declared.errors.Error.{Error}
+use Rattle.dwarf_base.specs.Reads.{Text}
+use Rattle.dwarf_meaning.specs.declared.kinds.WaitingKind.TheVariants as kind
+use Rattle.dwarf_meaning.specs.Kinds.{kind_of_request}
+use Rattle.dwarf_meaning.specs.Steps.{CompleteReply, RequestReply}
+use Rattle.dwarf_eval.specs.Evaluation.{IsReplied, request_in}
+use Rattle.dwarf_eval.specs.Permits.{AdmitsBy}
+use Rattle.dwarf_eval.specs.declared.op.results.EvaluationResult.{EvaluationResult}
+use Rattle.dwarf_eval.specs.declared.op.results.EvaluationResult.TheVariants as result
+use Rattle.dwarf_eval.specs.inner.Answers.{IsEndedBy}
+use Rattle.dwarf_eval.specs.inner.Machine.{replied_status}
+use Rattle.dwarf_eval.specs.inner.Answers.{AsksFor, IsWaiting, asking, asking_status, open_kind}
+use Rattle.dwarf_eval.specs.inner.StateChanges.{ComesToState, ComesToStateBy}
+use Rattle.dwarf_eval.proofs.AnswerUses.{IsOpen}
+
+not_some : false ≡ true → ⊥
+not_some h = cc
+
+-- what a status asks, or anything else
+abbrev pub asked_in : Status → Request
+asked_in (RequestStatus request on_answer) = request
+asked_in _ = RequiresFrameBase
+
+pub asks_it : (status : Status) → AsksFor (Some (asked_in status)) status
+asks_it (RequestStatus request on_answer) = refl
+asks_it (Start initial_value) = tt
+asks_it Running = tt
+asks_it (CompleteStatus value) = tt
+asks_it (FaultStatus error) = tt
+
+abbrev request_status : Option Request → OnAnswer → Status
+request_status None on_answer = Running
+request_status (Some request) on_answer = RequestStatus request on_answer
+
+-- asking what is asked
+pub asking_it : (status : Status) → status ≡ asking_status (asked_in status) status
+asking_it (RequestStatus request on_answer) = refl
+asking_it (Start initial_value) = refl
+asking_it Running = refl
+asking_it (CompleteStatus value) = refl
+asking_it (FaultStatus error) = refl
+
+-- asking anew what was asked before
+pub asking_again : (request other : Request) (status : Status) → AsksFor (Some request) status → asking_status request (asking_status other status) ≡ status
+asking_again request other (RequestStatus asked on_answer) h = ap (λ (r : Option Request). request_status r on_answer) h
+asking_again request other (Start initial_value) h = refl
+asking_again request other Running h = refl
+asking_again request other (CompleteStatus value) h = refl
+asking_again request other (FaultStatus error) h = refl
+
+module _ (x : State) (on_answer : OnAnswer) (other request : Request) where
+  abbrev before : State
+  before = with_status (RequestStatus other on_answer) x
+
+  abbrev after : State
+  after = with_status (RequestStatus request on_answer) x
+
+  same_waiting : (last : Last) → waiting last (RequestStatus other on_answer) ≡ waiting last (RequestStatus request on_answer)
+  same_waiting Nothing = refl
+  same_waiting Plain = refl
+  same_waiting Pieced = refl
+  same_waiting Pushed = refl
+  same_waiting Called = refl
+  same_waiting (Located location) = refl
+
+  decodes_alike : DecodesOnce after → DecodesOnce before
+  decodes_alike d = record {
+    each = d.each;
+    no_other = d.no_other;
+    given = subst (λ (l : List Location). IsTrue (list_all is_given l)) (sym (same_waiting x.store.last)) d.given;
+  }
+
+  spends_alike : (new : State) → Spends 0 before new → Spends 0 after new
+  spends_alike new h =
+      let waits = ap length (same_waiting x.store.last) in
+      let items = h.items in
+      let decodings = h.decodings in
+      record { items = omega (arith, waits, items); callers = h.callers; decodings = omega (arith, waits, decodings); once = λ d. h.once (decodes_alike d) }
+
+  comes_by : (T : Refusal → List Input → Total) (new : State) (status : Status) → ComesToStateBy before T new status → ComesToStateBy after T new status
+  comes_by T new (FaultStatus error) h = record { refusal = h.refusal; may = h.may; same = h.same; kept = record { setup = h.kept.setup; settings = h.kept.settings }; spends = spends_alike new h.spends }
+  comes_by T new (Start initial_value) h = h
+  comes_by T new _ h = record { pushes = h.pushes; same = h.same; kept = record { setup = h.kept.setup; settings = h.kept.settings }; spends = spends_alike new h.spends; nears = h.nears }
+
+-- from a request a run comes to the same state as from another one
+pub comes_asking : (x : State) (now : IsOpen x.status) (request : Request) (T : Refusal → List Input → Total) (new : State) → ComesToState x T new → ComesToState (asking request x) T new
+comes_asking x now request T new h =
+    subst (λ (s : Status). ComesToState (with_status (asking_status request s) x) T new) (sym now.is)
+    (comes_by x now.on_answer now.request request T new new.status
+    (subst (λ (s : Status). ComesToState (with_status s x) T new) now.is h))
+
+-- ---- what is handed out
+
+leaves_by : (asked : Option Request) (on_answer : OnAnswer) → IsWaiting (replied_status asked on_answer) → RequestStatus RequiresFrameBase on_answer ≡ asking_status RequiresFrameBase (replied_status asked on_answer)
+leaves_by None on_answer h = absurd h
+leaves_by (Some request) on_answer h = refl
+
+-- another request in the place of one
+pub leaves : (x : State) (asked : Option Request) (on_answer : OnAnswer) → x.status ≡ replied_status asked on_answer → IsWaiting x.status → with_status (RequestStatus RequiresFrameBase on_answer) x ≡ asking RequiresFrameBase x
+leaves x asked on_answer e h =
+    ap (λ (s : Status). with_status s x) (leaves_by asked on_answer (subst IsWaiting e h) ∙ ap (asking_status RequiresFrameBase) (sym e))
+
+pub kind_in : (asked : Option Request) (on_answer : OnAnswer) → option_map kind_of_request asked ≡ open_kind (replied_status asked on_answer)
+kind_in None on_answer = refl
+kind_in (Some request) on_answer = refl
+
+pub waits_if : (asked : Option Request) (on_answer : OnAnswer) → is_some (option_map kind_of_request asked) ≡ true → IsWaiting (replied_status asked on_answer)
+waits_if None on_answer h = absurd (not_some h)
+waits_if (Some request) on_answer h = tt
+
+pub replied_as : (asked : Option Request) (status : Status) → IsWaiting status → AsksFor asked status → IsReplied (option_map_or RequestReply asked CompleteReply) status
+replied_as asked (RequestStatus request on_answer) w h = ap (λ (o : Option Request). option_map_or RequestReply o CompleteReply) h
+replied_as asked _ w h = absurd w
+
+pub ended_waits : {R O P : Type 0} (replied : Result (EvaluationResult R O P) Error) (status : Status) → IsWaiting status → IsEndedBy replied status
+ended_waits replied (RequestStatus request on_answer) w = tt
+ended_waits replied _ w = absurd w
+
+-- the kind of a request depends on no text and no offset
+pub kinds_alike : {R O P : Type 0} (t u : R → Text) (m n : O → ℕ) (r : EvaluationResult R O P) → option_map kind_of_request (request_in t m r) ≡ option_map kind_of_request (request_in u n r)
+kinds_alike t u m n result.Complete = refl
+kinds_alike t u m n (result.RequiresMemory address size space base_type) = refl
+kinds_alike t u m n (result.RequiresRegister register base_type) = refl
+kinds_alike t u m n (result.RequiresWasmLocal index) = refl
+kinds_alike t u m n (result.RequiresWasmGlobal index) = refl
+kinds_alike t u m n (result.RequiresWasmStack index) = refl
+kinds_alike t u m n result.RequiresFrameBase = refl
+kinds_alike t u m n (result.RequiresTls index) = refl
+kinds_alike t u m n result.RequiresCallFrameCfa = refl
+kinds_alike t u m n (result.RequiresAtLocation offset) = refl
+kinds_alike t u m n (result.RequiresEntryValue expression) = refl
+kinds_alike t u m n (result.RequiresParameterRef offset) = refl
+kinds_alike t u m n (result.RequiresRelocatedAddress address) = refl
+kinds_alike t u m n (result.RequiresIndexedAddress index relocate) = refl
+kinds_alike t u m n (result.RequiresBaseType base_type) = refl
+
+abbrev kind_or : Option WaitingKind → WaitingKind
+kind_or (Some k) = k
+kind_or None = kind.FrameBase
+
+pub admits_by : (one other : Option Request) (status : Status) → option_map kind_of_request one ≡ option_map kind_of_request other → AsksFor one status → IsWaiting status → AdmitsBy other status
+admits_by one None (RequestStatus request on_answer) e h w = absurd (not_some (sym (ap is_some e) ∙ ap (λ (o : Option Request). is_some (option_map kind_of_request o)) h))
+admits_by one (Some asked) (RequestStatus request on_answer) e h w = ap kind_or (sym (ap (λ (o : Option Request). option_map kind_of_request o) h) ∙ e)
+admits_by one other _ e h w = absurd w
+
+-- a request is open if its kind is kept
+pub waits_kind : (asked : Request) (status : Status) (kept : Option WaitingKind) → kept ≡ open_kind (asking_status asked status) → is_some kept ≡ true → IsWaiting status
+waits_kind asked (RequestStatus request on_answer) kept e h = tt
+waits_kind asked (Start initial_value) kept e h = absurd (not_some (sym (ap is_some e) ∙ h))
+waits_kind asked Running kept e h = absurd (not_some (sym (ap is_some e) ∙ h))
+waits_kind asked (CompleteStatus value) kept e h = absurd (not_some (sym (ap is_some e) ∙ h))
+waits_kind asked (FaultStatus error) kept e h = absurd (not_some (sym (ap is_some e) ∙ h))

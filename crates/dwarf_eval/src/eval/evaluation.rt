@@ -81,6 +81,7 @@ impl<R: Reader + Copy, S: EvaluationStorage<R>> Evaluation<R, S> {
     /// memory, so it takes none and gives none back.
     ///
     /// The encoding's addresses have from 1 to 8 bytes.
+    #[inline(always)]
     pub fn restart(&mut self, bytecode: R, encoding: Encoding)
         requires some { 0 < encoding.address_size }
         requires fits { encoding.address_size ≤ 8 }

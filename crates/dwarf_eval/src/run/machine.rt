@@ -583,6 +583,7 @@ impl<R: Reader + Copy, S: EvaluationStorage<R>> Machine<R, S> {
 
     /// Stands as a fresh evaluation of another text, over the same lists, which keep their memory.
     #[tactic(auto, unfolding(dwarf_meaning::specs::Run::most_operations))]
+    #[inline(always)]
     pub(crate) fn restart(&mut self, bytecode: R, encoding: Encoding)
         requires some { 0 < encoding.address_size }
         requires fits { encoding.address_size ≤ 8 }

@@ -8,12 +8,14 @@ SHARED = {"models", "clones", "std", "final", "Drop", "layout", "parsing", "requ
 # The preconditions of exports: for each, what is written by hand says that the caller sees to it.
 CONDITIONS = [
     ("dwexpr_evaluation_begin", "evaluation . old . held ≡ None"),
+    ("dwexpr_evaluation_evaluate", "IsBegun evaluation . old . held"),
     ("dwexpr_evaluation_resume", "IsBegun evaluation . old . held"),
     ("dwexpr_evaluation_start", "IsBegun evaluation . old . held"),
 ]
 # Which types of the exports the root names, each with its module.
 TYPES = ["encodings::DwexprEncoding", "held::DwexprEvaluation", "operations::DwexprOperation"]
-TYPES += ["outcomes::DwexprOutcome", "pieces::DwexprPiece", "steps::{DwexprStep, DwexprText}", "values::DwexprValue"]
+TYPES += ["outcomes::DwexprOutcome", "pieces::DwexprPiece", "settings::DwexprSettings"]
+TYPES += ["steps::{DwexprStep, DwexprText}", "values::DwexprValue"]
 CALLS = ["computing", "decoding", "holding", "starting"]
 USED = "".join(f"use crate::{name};\n" for name in TYPES)
 EXPORTED = "".join(f"pub use self::{name};\n" for name in [*(f"{module}::*" for module in CALLS), *TYPES])
@@ -46,9 +48,9 @@ PIECE = "use dwarf_op::Piece; use dwarf_value::Value;"
 FIRST = [("models", 1, f"{PIECE} use std::marker::Model;", PIECE.replace("dwarf_", "crate::sources::"))]
 ROWS = [
     # What is written by hand exports them, with a pointer and a count for a slice.
-    ("exports", 12, '#[unsafe(no_mangle)]\npub extern "C" fn', "pub fn"),
+    ("exports", 13, '#[unsafe(no_mangle)]\npub extern "C" fn', "pub fn"),
     ("exports", 1, USED, EXPORTED),
-    ("claims", 8, "prove!", "assert_of_64_bits!"),
+    ("claims", 9, "prove!", "assert_of_64_bits!"),
     # The pointer of a slice is never null.
     ("texts", 1, "pub bytes: &'a [u8],", "pub bytes: crate::exports::Bytes<'a>,"),
     ("texts", 1, "if text.bytes.is_empty() { &[] } else { text.bytes }", "text.bytes.slice()"),

@@ -94,7 +94,7 @@ static uint64_t evaluate(const uint8_t *bytes, size_t length, const struct job *
     static dwexpr_evaluation evaluation;
     const dwexpr_encoding encoding = encoding_of(job);
     const dwexpr_text texts[2] = {{bytes, length}, {NULL, 0}};
-    dwexpr_step steps[3];
+    const dwexpr_settings settings = {job->maximum, 1, 0x7000};
     dwexpr_outcome outcome;
     dwexpr_piece pieces[DWEXPR_MAX_PIECES];
     uint64_t given = 0;
@@ -103,10 +103,7 @@ static uint64_t evaluate(const uint8_t *bytes, size_t length, const struct job *
         evaluation.memory = memory;
         dwexpr_evaluation_begin(&evaluation);
     }
-    steps[0] = step_of(DWEXPR_SET_MAX_ITERATIONS, 0, job->maximum);
-    steps[1] = step_of(DWEXPR_SET_OBJECT_ADDRESS, 0, 0x7000);
-    steps[2] = step_of(DWEXPR_EVALUATE, 0, 0);
-    code = dwexpr_evaluation_start(&evaluation, texts, 2, encoding, steps, 3, &outcome, pieces, DWEXPR_MAX_PIECES);
+    code = dwexpr_evaluation_evaluate(&evaluation, texts, 2, encoding, settings, &outcome, pieces, DWEXPR_MAX_PIECES);
     while (code == DWEXPR_OK && outcome.request != DWEXPR_COMPLETE && given < job->answers) {
         code = dwexpr_evaluation_resume(&evaluation, texts, 2, answer_to(&outcome), &outcome, pieces,
                                         DWEXPR_MAX_PIECES);

@@ -2,7 +2,8 @@
 
 use crate::sources::c::{
     self, DwexprEncoding as Encoding, DwexprEvaluation as Evaluation, DwexprOperation as Operation,
-    DwexprOutcome as Outcome, DwexprPiece as Piece, DwexprStep as Step, DwexprText, DwexprValue as Value,
+    DwexprOutcome as Outcome, DwexprPiece as Piece, DwexprSettings as Settings, DwexprStep as Step, DwexprText,
+    DwexprValue as Value,
 };
 use core::marker::PhantomData;
 use core::slice::{from_raw_parts, from_raw_parts_mut};
@@ -43,6 +44,7 @@ unsafe fn room<'a, T>(at: *mut T, count: usize) -> &'a mut [T] {
 /// An export calls the proved function of its name, with references for what C hands over.
 macro_rules! exports {
     ($($(#[$duty:meta])* fn $name:ident($($argument:ident: $type:ty),*) $(-> $out:ty)? = ($($given:expr),*);)*) => {$(
+        #[doc = "# Safety"]
         $(#[$duty])*
         #[allow(unused_unsafe)]
         #[unsafe(no_mangle)]
@@ -54,12 +56,10 @@ macro_rules! exports {
 }
 
 exports! {
-    /// # Safety
     /// At `bytes` are `length` bytes. `operation` leads to one, set or not.
     fn dwexpr_decode(bytes: *const u8, length: usize, encoding: Encoding, offset: usize, operation: *mut Operation)
         -> u32 = (items(bytes, length), encoding, offset, &mut *operation);
 
-    /// # Safety
     /// The pointers with lengths lead to as many items, and those in the texts to as many bytes. `outcome` leads to
     /// one, set or not. What is written overlaps nothing else.
     fn dwexpr_evaluate(texts: *const Text, texts_length: usize, encoding: Encoding, steps: *const Step,
@@ -67,15 +67,12 @@ exports! {
         -> u32 = (items(texts, texts_length), encoding, items(steps, steps_length), &mut *outcome,
         room(pieces, pieces_length));
 
-    /// # Safety
     /// Any call is safe.
     fn dwexpr_evaluation_size() -> usize = ();
 
-    /// # Safety
     /// The memory has as many bytes, is aligned to 8, is not moved, and holds no evaluation that is to be kept.
     fn dwexpr_evaluation_begin(evaluation: *mut Evaluation) = (&mut *evaluation);
 
-    /// # Safety
     /// As of `dwexpr_evaluate`. The evaluation was begun, nothing else wrote there, and one call is made at a time. The
     /// bytes of the texts stay as they are until the next start.
     fn dwexpr_evaluation_start(evaluation: *mut Evaluation, texts: *const Text, texts_length: usize,
@@ -84,37 +81,36 @@ exports! {
         -> u32 = (&mut *evaluation, items(texts, texts_length), encoding, items(steps, steps_length), &mut *outcome,
         room(pieces, pieces_length));
 
-    /// # Safety
+    /// As of `dwexpr_evaluation_start`.
+    fn dwexpr_evaluation_evaluate(evaluation: *mut Evaluation, texts: *const Text, texts_length: usize,
+        encoding: Encoding, settings: Settings, outcome: *mut Outcome, pieces: *mut Piece, pieces_length: usize)
+        -> u32 = (&mut *evaluation, items(texts, texts_length), encoding, settings, &mut *outcome,
+        room(pieces, pieces_length));
+
     /// As of `dwexpr_evaluation_start`.
     fn dwexpr_evaluation_resume(evaluation: *mut Evaluation, texts: *const Text, texts_length: usize, step: Step,
         outcome: *mut Outcome, pieces: *mut Piece, pieces_length: usize)
         -> u32 = (&mut *evaluation, items(texts, texts_length), step, &mut *outcome, room(pieces, pieces_length));
 
-    /// # Safety
     /// `result` leads to one, set or not; so in the calls below.
     fn dwexpr_value_unary(operation: u32, value: Value, addr_mask: u64, result: *mut Value)
         -> u32 = (operation, value, addr_mask, &mut *result);
 
-    /// # Safety
     /// As above.
     fn dwexpr_value_binary(operation: u32, left: Value, right: Value, addr_mask: u64, result: *mut Value)
         -> u32 = (operation, left, right, addr_mask, &mut *result);
 
-    /// # Safety
     /// As above.
     fn dwexpr_value_convert(operation: u32, value: Value, value_type: u32, addr_mask: u64, result: *mut Value)
         -> u32 = (operation, value, value_type, addr_mask, &mut *result);
 
-    /// # Safety
     /// As above, and at `bytes` are `length` bytes.
     fn dwexpr_value_parse(value_type: u32, bytes: *const u8, length: usize, big_endian: u8, result: *mut Value)
         -> u32 = (value_type, items(bytes, length), big_endian, &mut *result);
 
-    /// # Safety
     /// Any call is safe.
     fn dwexpr_type_bit_size(value_type: u32, addr_mask: u64) -> u32 = (value_type, addr_mask);
 
-    /// # Safety
     /// Any call is safe.
     fn dwexpr_type_from_encoding(encoding: u8, byte_size: u64) -> u32 = (encoding, byte_size);
 }

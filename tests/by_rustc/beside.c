@@ -13,6 +13,7 @@ PROVED(dwexpr_evaluate);
 PROVED(dwexpr_evaluation_size);
 PROVED(dwexpr_evaluation_begin);
 PROVED(dwexpr_evaluation_start);
+PROVED(dwexpr_evaluation_evaluate);
 PROVED(dwexpr_evaluation_resume);
 PROVED(dwexpr_value_unary);
 PROVED(dwexpr_value_binary);
@@ -232,10 +233,19 @@ static int evaluates(struct maker *made, dwexpr_evaluation *proved, dwexpr_evalu
         steps[count++] = step_of((uint32_t)(below(20) ? 1 + below(2) : below(18)));
     steps[count++] = evaluate;
     fill(&one, &other);
-    one.code = proved_dwexpr_evaluation_start(proved, made->texts, TEXTS, made->encoding, steps, count, &one.outcome,
-                                              one.pieces, room);
-    other.code = dwexpr_evaluation_start(by_rustc, made->texts, TEXTS, made->encoding, steps, count, &other.outcome,
-                                         other.pieces, room);
+    if (below(2)) {
+        const dwexpr_settings settings = {(uint32_t)below(150), (uint32_t)below(2), number()};
+        count = steps_of(&settings, steps);
+        one.code = proved_dwexpr_evaluation_evaluate(proved, made->texts, TEXTS, made->encoding, settings,
+                                                     &one.outcome, one.pieces, room);
+        other.code = dwexpr_evaluation_evaluate(by_rustc, made->texts, TEXTS, made->encoding, settings,
+                                                &other.outcome, other.pieces, room);
+    } else {
+        one.code = proved_dwexpr_evaluation_start(proved, made->texts, TEXTS, made->encoding, steps, count,
+                                                  &one.outcome, one.pieces, room);
+        other.code = dwexpr_evaluation_start(by_rustc, made->texts, TEXTS, made->encoding, steps, count,
+                                             &other.outcome, other.pieces, room);
+    }
     while (is_same(&one, &other)) {
         const size_t texts = below(24) ? TEXTS : below(TEXTS);
         if (one.code == DWEXPR_BAD_ENCODING || count == STEPS || (one.outcome.request <= 1 && below(4))) {

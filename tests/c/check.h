@@ -86,4 +86,16 @@ static inline uint64_t any(void)
     return state;
 }
 
+/* The steps that settings stand for, and how many they are. */
+static inline size_t steps_of(const dwexpr_settings *settings, dwexpr_step *steps)
+{
+    size_t count = 0;
+    memset(steps, 0, 3 * sizeof *steps);
+    steps[count].kind = DWEXPR_SET_MAX_ITERATIONS, steps[count++].number = settings->max_iterations;
+    if (settings->has_object_address)
+        steps[count].kind = DWEXPR_SET_OBJECT_ADDRESS, steps[count++].number = settings->object_address;
+    steps[count++].kind = DWEXPR_EVALUATE;
+    return count;
+}
+
 #endif

@@ -405,6 +405,20 @@ static void holding(void)
     dwexpr_evaluation_begin(&unstarted);
     check(dwexpr_evaluation_resume(&unstarted, NULL, 0, cfa, &outcome, NULL, 0) == DWEXPR_MISPLACED, name, "the code");
 
+    begin("settings", "97 9c 22");
+    dwexpr_evaluation_evaluate(&evaluation, texts, 1, LE8, (dwexpr_settings){2, 1, 5}, &outcome, pieces, MANY);
+    want.request = DWEXPR_WANTS_CFA, expect();
+    dwexpr_evaluation_resume(&evaluation, texts, 1, cfa, &outcome, pieces, MANY);
+    end(DWEXPR_TOO_MANY_ITERATIONS, 0, 0), expect();
+    dwexpr_evaluation_evaluate(&evaluation, texts, 1, LE8, (dwexpr_settings){2, 0, 5}, &outcome, pieces, MANY);
+    end(DWEXPR_INVALID_PUSH_OBJECT_ADDRESS, 0, 1), expect();
+    dwexpr_evaluation_evaluate(&evaluation, texts, 1, LE8, (dwexpr_settings){0, 1, 5}, &outcome, pieces, MANY);
+    end(DWEXPR_TOO_MANY_ITERATIONS, 0, 2), expect();
+    /* any number but 0 says that there is an address */
+    dwexpr_evaluation_evaluate(&evaluation, texts, 1, LE8, (dwexpr_settings){3, 9, 5}, &outcome, pieces, MANY);
+    dwexpr_evaluation_resume(&evaluation, texts, 1, cfa, &outcome, pieces, MANY);
+    check(outcome.request == DWEXPR_COMPLETE && outcome.value == 10, name, "the value");
+
     begin("a setting in a request", "9c 97 22"), start();
     dwexpr_evaluation_start(&evaluation, texts, 1, LE8, steps, 1, &outcome, pieces, MANY);
     check(outcome.request == DWEXPR_WANTS_CFA, name, "the request");

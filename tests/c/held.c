@@ -80,7 +80,13 @@ int main(void)
         steps[0].kind = 1 + (uint32_t)(any() % 3), steps[0].number = any() % 32;
         steps[count - 1] = any_step(DWEXPR_NOTHING), steps[count - 1].kind = DWEXPR_EVALUATE;
         memset(places, 0xa5, sizeof places);
-        dwexpr_evaluation_start(&evaluation, texts, 3, encoding, steps, count, &held, places, PLACES);
+        if (any() % 2) {
+            dwexpr_evaluation_start(&evaluation, texts, 3, encoding, steps, count, &held, places, PLACES);
+        } else {
+            const dwexpr_settings settings = {(uint32_t)(any() % 32), any() % 2 ? 1 + (uint32_t)any() % 3 : 0, any()};
+            count = steps_of(&settings, steps);
+            dwexpr_evaluation_evaluate(&evaluation, texts, 3, encoding, settings, &held, places, PLACES);
+        }
         for (;;) {
             memset(pieces, 0xa5, sizeof pieces);
             dwexpr_evaluate(texts, 3, encoding, steps, count, &outcome, pieces, PLACES);

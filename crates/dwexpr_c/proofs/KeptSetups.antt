@@ -4,12 +4,15 @@ use Rattle.dwarf_base.specs.declared.errors.Error.{Error}
 use Rattle.dwarf_meaning.specs.Kinds.{kind_of_answer}
 use Rattle.dwarf_meaning.specs.Requests as requests
 use Rattle.dwarf_meaning.specs.Rest.{State, Status, Start, RequestStatus, CompleteStatus, FaultStatus}
+use Rattle.dwarf_meaning.specs.Stores.{Setup}
 use Rattle.dwarf_meaning.specs.Steps.{Step, InitialValue, ObjectAddress, MaxIterations, Evaluate, Resume}
 use Rattle.dwarf_eval.specs.Evaluation.{Evaluates, Resumes, input_of, IsClosed, IsReplied, reply_of}
 use Rattle.dwarf_eval.specs.Permits.{IsOpenFor}
 use Rattle.dwarf_eval.specs.declared.op.results.EvaluationResult.{EvaluationResult}
 use Rattle.dwarf_eval.specs.declared.op.results.EvaluationResult.TheVariants as replied
 use Rattle.dwarf_replay.specs.Stepping.{HasReplied, IsSet}
+use Rattle.dwexpr_c.specs.Held.{StandsAfter}
+use Rattle.dwexpr_c.specs.Outcomes.{step_coded}
 use Rattle.dwexpr_c.specs.StepEffects.{DoesStep, Stops}
 use Rattle.dwexpr_c.specs.CallerTexts.{text_of_placed}
 use Rattle.dwexpr_c.specs.declared.evaluating.Progress.{Progress}
@@ -17,6 +20,7 @@ use Rattle.dwexpr_c.specs.declared.evaluating.Progress.TheVariants.{Set, Asked, 
 use Rattle.dwexpr_c.specs.declared.faults.FaultNumbers.{FaultNumbers}
 use Rattle.dwexpr_c.specs.declared.outcomes.DwexprOutcome.{DwexprOutcome}
 use Rattle.dwexpr_c.specs.declared.places.Placed.{Placed}
+use Rattle.dwexpr_c.specs.declared.steps.DwexprStep.{DwexprStep}
 use Rattle.dwexpr_c.specs.declared.steps.DwexprText.{DwexprText}
 
 module _ (x new : State) where
@@ -76,3 +80,9 @@ module _ (x new : State) where
     step_keeps (Ok step) index before after Complete h = (replied_by (Ok replied.Complete) step h).setup
     step_keeps (Err code) index before after Set h = absurd h.0
     step_keeps (Err code) index before after _ h = absurd h
+
+-- the limits stay as the steps lead on
+pub limits_stay : (first : State) (texts : List DwexprText) (numbers : List DwexprStep) (new : State) (out : DwexprOutcome) → StandsAfter first texts numbers new out → new.setup.limits ≡ first.setup.limits
+limits_stay first texts numbers new out (inl h) = ap (λ (s : Setup). s.limits) h.done.setup
+limits_stay first texts numbers new out (inr h) =
+    ap (λ (s : Setup). s.limits) (stop_keeps h.before new texts (step_coded first.text.is_big texts h.cut.at) h.end h.stops ∙ h.done.setup)

@@ -4,3 +4,5 @@ pub mod Given
 pub mod KeptSetups
 pub mod StepsDone
 pub mod Runs
+pub mod SettingsDone
+pub mod WrittenPieces

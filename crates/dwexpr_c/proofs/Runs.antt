@@ -237,9 +237,9 @@ Finishes texts count pieces status Asked out after old places = (after ≡ out) 
 Finishes texts count pieces status Complete out after old places = FinishesOutcome texts count pieces out after old places status
 Finishes texts count pieces status Ended out after old places = ⊥
 
-module _ (texts : List DwexprText) (numbers : List DwexprStep) (first new : State) (progress : Progress) (out after : DwexprOutcome) (old places : List DwexprPiece) (ran : HasTaken first texts numbers new) (showed : ShowsStatus texts new.status progress out) (is_given : IsGiven texts first.text.bytes) where
+module _ (texts : List DwexprText) (count : ℕ) (numbers : List DwexprStep) (first new : State) (progress : Progress) (out after : DwexprOutcome) (old places : List DwexprPiece) (ran : HasTaken first texts numbers new) (showed : ShowsStatus texts new.status progress out) (is_given : IsGiven texts first.text.bytes) where
   abbrev FinishesAt : List Piece → Status → Progress → Type 0
-  FinishesAt pieces status one = Finishes texts (length numbers) pieces status one out after old places
+  FinishesAt pieces status one = Finishes texts count pieces status one out after old places
 
   done : (o : Option Outcome) → comes_of (given_at first texts) ran.steps ≡ o → ShowsOutcome texts o after old places → EvaluatesGiven (given_at first texts) numbers after old places
   done o e h =

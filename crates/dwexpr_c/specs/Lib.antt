@@ -4,6 +4,7 @@ pub mod Evaluated
 pub mod Held
 pub mod CodedOperations
 pub mod Outcomes
+pub mod Settings
 pub mod Owned
 pub mod StepEffects
 pub mod CallerTexts

@@ -9,14 +9,11 @@ ghost use Rattle.dwexpr_c.specs.CodedValues.{type_code, type_coded};
 use crate::encodings::order_of;
 use crate::faults::{BAD_VALUE, OK, numbers_of};
 use crate::kinds;
-use crate::values::{DwexprValue, code_of_type, numbers_of_value, type_of_code, value_of};
+use crate::values::{
+    DwexprValue, NO_VALUE, code_of_type, numbers_of_value, type_of_code, value_of,
+};
 use dwarf_base::{DwAte, EndianSlice, Result, RunTimeEndian};
 use dwarf_value::{Value, ValueType, is_addr_mask};
-
-const NO_VALUE: DwexprValue = DwexprValue {
-    value_type: 0,
-    content: 0,
-};
 
 /// The value that numbers say.
 fn value_in(numbers: DwexprValue) -> Option<Value>

@@ -1,21 +1,27 @@
 //! Steps of an evaluation, and what is shown of them.
 
-ghost use Rattle.std.specs.Prelude.{◌≡◌, None, option_map, slice_get};
+ghost use Rattle.std.specs.Prelude.{◌≡◌, Bool, IfNone, IfSome, IsOkAnd, List, None, Ok, Some, option_map, slice_get};
 ghost use Rattle.dwarf_base.specs.ByteOrder.{is_big_of};
-ghost use Rattle.dwarf_meaning.specs.Rest.{Start};
+ghost use Rattle.dwarf_meaning.specs.Inputs.{with_maximum, with_object};
+ghost use Rattle.dwarf_meaning.specs.Rest.{Start, State};
+ghost use Rattle.dwarf_meaning.specs.Steps.{MaxIterations, Step};
+ghost use Rattle.dwarf_replay.specs.Stepping.{HasReplied};
+ghost use Rattle.dwexpr_c.specs.CallerTexts.{text_of_placed};
 ghost use Rattle.dwexpr_c.specs.Evaluated.{EvaluatesGiven};
 ghost use Rattle.dwexpr_c.specs.Held.{HasCapacities, StandsAfter, given_at};
 ghost use Rattle.dwexpr_c.specs.Outcomes.{ended_outcome, step_coded};
 ghost use Rattle.dwexpr_c.specs.StepEffects.{DoesStep, FinishesOutcome};
+ghost use Rattle.dwexpr_c.specs.Settings.{number_step, steps_in};
 ghost use Rattle.dwexpr_c.specs.inner.Runs.{IsGiven, Runs, latest};
 
 use crate::faults::{FaultNumbers, LOST_TEXT, MISPLACED, code_alone, numbers_of};
 use crate::outcomes::{BLANK, DwexprOutcome, show_complete, show_end, show_request};
 use crate::pieces::{DwexprPiece, write_pieces};
 use crate::places::Placed;
-use crate::steps::{DwexprStep, DwexprText, step_of};
-use dwarf_base::RunTimeEndian;
-use dwarf_eval::eval::{Evaluation, Status};
+use crate::settings::DwexprSettings;
+use crate::steps::{DwexprStep, DwexprText, generic_in, step_of};
+use dwarf_base::{Result, RunTimeEndian};
+use dwarf_eval::eval::{Evaluation, Status, WaitingKind};
 use dwarf_eval::op::EvaluationResult;
 use dwarf_eval::store::EvaluationStorage;
 use dwarf_op::Piece;
@@ -56,6 +62,31 @@ fn latest(before: Progress, now: Progress) -> Progress
     }
 }
 
+/// Shows what a call asked, or why it ended the evaluation, with the index of the step that made it.
+#[inline(always)]
+pub(crate) fn show_reply<'a>(
+    texts: &[DwexprText<'a>],
+    reply: Result<EvaluationResult<Placed<'a>>>,
+    index: usize,
+    outcome: &mut DwexprOutcome,
+) -> Progress
+    ensures { (step : Step) (old new : State)
+        → HasReplied text_of_placed (λ x. x) step old new reply.entry
+        → DoesStep texts.now (Ok step) index old new outcome.old outcome.new result }
+{
+    match reply {
+        Ok(EvaluationResult::Complete) => Progress::Complete,
+        Ok(request) => {
+            if show_request(texts, request, outcome) {
+                Progress::Asked
+            } else {
+                end(code_alone(LOST_TEXT), index, outcome)
+            }
+        }
+        Err(error) => end(numbers_of(error), index, outcome),
+    }
+}
+
 /// Does the step at an index, and shows what it asked, or why it ended the evaluation.
 pub(crate) fn do_step<'a, S: EvaluationStorage<Placed<'a>>>(
     evaluation: &mut Evaluation<Placed<'a>, S>,
@@ -75,17 +106,7 @@ pub(crate) fn do_step<'a, S: EvaluationStorage<Placed<'a>>>(
     match take_step(evaluation, step) {
         Stepped::Misplaced => end(code_alone(MISPLACED), index, outcome),
         Stepped::Set => Progress::Set,
-        Stepped::Answered(answer) => match answer.0 {
-            Ok(EvaluationResult::Complete) => Progress::Complete,
-            Ok(request) => {
-                if show_request(texts, request, outcome) {
-                    Progress::Asked
-                } else {
-                    end(code_alone(LOST_TEXT), index, outcome)
-                }
-            }
-            Err(error) => end(numbers_of(error), index, outcome),
-        },
+        Stepped::Answered(answer) => show_reply(texts, answer.0, index, outcome),
     }
 }
 
@@ -115,6 +136,56 @@ fn do_early_step<'a, S: EvaluationStorage<Placed<'a>>>(
             Err(_) => do_step(evaluation, texts, order, numbers, index, outcome),
         },
         _ => do_step(evaluation, texts, order, numbers, index, outcome),
+    }
+}
+
+/// Gives an answer that most expressions want, and makes no step of it. `None` if the step is another one, or isn't
+/// allowed.
+#[inline(always)]
+fn try_answer<'a, S: EvaluationStorage<Placed<'a>>>(
+    evaluation: &mut Evaluation<Placed<'a>, S>,
+    numbers: &DwexprStep,
+) -> Option<Result<EvaluationResult<Placed<'a>>>>
+    ensures some { (big : Bool) (texts : List DwexprText)
+        → IfSome result (λ reply. IsOkAnd (step_coded big texts numbers.now)
+        (λ step. HasReplied text_of_placed (λ x. x) step evaluation.old evaluation.new reply)) }
+    ensures none { IfNone result (evaluation.new ≡ evaluation.old) }
+{
+    match numbers.kind {
+        5 if evaluation.is_open_for(WaitingKind::Memory) => {
+            Some(evaluation.resume_with_memory(generic_in(numbers)?))
+        }
+        6 if evaluation.is_open_for(WaitingKind::Register) => {
+            Some(evaluation.resume_with_register(generic_in(numbers)?))
+        }
+        8 if evaluation.is_open_for(WaitingKind::EntryValue) => {
+            Some(evaluation.resume_with_entry_value(generic_in(numbers)?))
+        }
+        9 if evaluation.is_open_for(WaitingKind::FrameBase) => {
+            Some(evaluation.resume_with_frame_base(numbers.number))
+        }
+        11 if evaluation.is_open_for(WaitingKind::CallFrameCfa) => {
+            Some(evaluation.resume_with_call_frame_cfa(numbers.number))
+        }
+        _ => None,
+    }
+}
+
+/// Does a step, and shows what it asked, or why it ended the evaluation.
+#[inline(always)]
+pub(crate) fn do_answer<'a, S: EvaluationStorage<Placed<'a>>>(
+    evaluation: &mut Evaluation<Placed<'a>, S>,
+    texts: &[DwexprText<'a>],
+    order: RunTimeEndian,
+    numbers: &DwexprStep,
+    outcome: &mut DwexprOutcome,
+) -> Progress
+    ensures { DoesStep texts.now (step_coded (is_big_of order) texts.now numbers.now) 0
+        evaluation.old evaluation.new outcome.old outcome.new result }
+{
+    match try_answer(evaluation, numbers) {
+        Some(reply) => show_reply(texts, reply, 0, outcome),
+        None => do_step(evaluation, texts, order, numbers, 0, outcome),
     }
 }
 
@@ -155,8 +226,51 @@ fn do_steps<'a, S: EvaluationStorage<Placed<'a>>>(
     progress
 }
 
+/// Sets what the settings say, which is as many steps.
+#[inline(always)]
+fn set<'a, S: EvaluationStorage<Placed<'a>>>(
+    evaluation: &mut Evaluation<Placed<'a>, S>,
+    settings: DwexprSettings,
+) -> usize
+    ensures said { (big : Bool) (texts : List DwexprText)
+        → step_coded big texts (number_step 3 settings.max_iterations)
+        ≡ Ok (MaxIterations settings.max_iterations) }
+    ensures status { evaluation.new.status ≡ evaluation.old.status }
+    ensures without { settings.has_object_address ≡ 0
+        → (result ≡ 1) × (evaluation.new ≡ with_maximum settings.max_iterations evaluation.old) }
+    ensures with { (settings.has_object_address ≡ 0 → ⊥)
+        → (result ≡ 2) × (evaluation.new
+        ≡ with_object (Some settings.object_address)
+        (with_maximum settings.max_iterations evaluation.old)) }
+{
+    evaluation.set_max_iterations(settings.max_iterations);
+    if settings.has_object_address == 0 {
+        return 1;
+    }
+    evaluation.set_object_address(settings.object_address);
+    2
+}
+
+/// Sets what the settings say, and evaluates. It shows what that asked, or why it ended the evaluation.
+#[inline(always)]
+fn set_and_evaluate<'a, S: EvaluationStorage<Placed<'a>>>(
+    evaluation: &mut Evaluation<Placed<'a>, S>,
+    texts: &[DwexprText<'a>],
+    settings: DwexprSettings,
+    outcome: &mut DwexprOutcome,
+) -> Progress
+    requires fresh { evaluation.old.status ≡ Start None }
+    requires capacities { HasCapacities evaluation.old }
+    requires given { IsGiven texts.now evaluation.old.text.bytes }
+    ensures { Runs texts.now (steps_in settings) evaluation.old evaluation.new result outcome.new }
+{
+    let index = set(evaluation, settings);
+    show_reply(texts, evaluation.evaluate(), index, outcome)
+}
+
 /// Shows the value and the pieces of an evaluation that is complete, or that some bytes are nowhere, which never comes
 /// of a start.
+#[inline(always)]
 pub(crate) fn show_status<'a, S: EvaluationStorage<Placed<'a>>>(
     evaluation: &Evaluation<Placed<'a>, S>,
     texts: &[DwexprText<'a>],
@@ -176,6 +290,30 @@ pub(crate) fn show_status<'a, S: EvaluationStorage<Placed<'a>>>(
             }
         }
         _ => {}
+    }
+}
+
+/// Shows what the settings of a fresh evaluation and its start come to.
+#[inline(always)]
+pub(crate) fn evaluate_set<'a, S: EvaluationStorage<Placed<'a>>>(
+    evaluation: &mut Evaluation<Placed<'a>, S>,
+    texts: &[DwexprText<'a>],
+    settings: DwexprSettings,
+    outcome: &mut DwexprOutcome,
+    places: &mut [DwexprPiece],
+)
+    requires fresh { evaluation.old.status ≡ Start None }
+    requires capacities { HasCapacities evaluation.old }
+    requires given { IsGiven texts.now evaluation.old.text.bytes }
+    ensures evaluates { EvaluatesGiven (given_at evaluation.old texts.now) (steps_in settings)
+        outcome.new places.old places.new }
+    ensures stands { StandsAfter evaluation.old texts.now (steps_in settings)
+        evaluation.new outcome.new }
+{
+    match set_and_evaluate(evaluation, texts, settings, outcome) {
+        Progress::Set => *outcome = BLANK,
+        Progress::Complete => show_status(evaluation, texts, 0, outcome, places),
+        Progress::Asked | Progress::Ended => {}
     }
 }
 

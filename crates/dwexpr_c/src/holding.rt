@@ -5,20 +5,40 @@ ghost use Rattle.std.specs.Prelude.{◌≡◌, IsSomeAnd, None};
 ghost use Rattle.dwexpr_c.specs.Encodings.{IsEncoding, encoding_in, is_big_in};
 ghost use Rattle.dwexpr_c.specs.Evaluated.{EvaluatesFirst};
 ghost use Rattle.dwexpr_c.specs.Held.{GoesOn, HasCapacities, HasResumed, IsBegun, IsUnstarted, StandsAfterFirst};
-ghost use Rattle.dwexpr_c.specs.Outcomes.{ended_outcome};
+ghost use Rattle.dwexpr_c.specs.Outcomes.{blank_outcome, ended_outcome};
+ghost use Rattle.dwexpr_c.specs.Settings.{steps_in};
+ghost use Rattle.dwexpr_c.specs.StepEffects.{FinishesOutcome};
 ghost use Rattle.dwexpr_c.specs.Owned.{held_row};
 ghost use Rattle.dwexpr_c.specs.CallerTexts.{text_at};
 ghost use Rattle.dwexpr_c.specs.declared.faults.TheConstants as codes;
 
 use crate::encodings::DwexprEncoding;
-use crate::evaluating::{Progress, do_step, show_status};
+use crate::evaluating::{Progress, do_answer, show_status};
 use crate::held::{DwexprEvaluation, Held, fresh_held};
 use crate::outcomes::{BLANK, DwexprOutcome};
 use crate::pieces::DwexprPiece;
-use crate::starting::start;
+use crate::settings::DwexprSettings;
+use crate::starting::{evaluate_first, start};
 use crate::steps::{DwexprStep, DwexprText};
 
+/// Shows nothing, or the end.
+#[cold]
+#[inline(never)]
+fn show_set<'a>(
+    held: &Held<'a>,
+    texts: &[DwexprText<'a>],
+    outcome: &mut DwexprOutcome,
+    places: &mut [DwexprPiece],
+)
+    ensures { FinishesOutcome texts.now 0 held.now.evaluation.store.pieces blank_outcome outcome.new
+        places.old places.new held.now.evaluation.status }
+{
+    *outcome = BLANK;
+    show_status(&held.evaluation, texts, 0, outcome, places);
+}
+
 /// Takes one more step, and shows what it answered.
+#[inline(always)]
 fn resume(
     held: &mut Held<'static>,
     texts: &[DwexprText<'static>],
@@ -30,11 +50,8 @@ fn resume(
     ensures resumes { HasResumed texts.now step held.old held.new outcome.new places.old places.new }
     ensures capacities { HasCapacities held.new.evaluation }
 {
-    match do_step(&mut held.evaluation, texts, held.order, &step, 0, outcome) {
-        Progress::Set => {
-            *outcome = BLANK;
-            show_status(&held.evaluation, texts, 0, outcome, places);
-        }
+    match do_answer(&mut held.evaluation, texts, held.order, &step, outcome) {
+        Progress::Set => show_set(held, texts, outcome, places),
         Progress::Complete => show_status(&held.evaluation, texts, 0, outcome, places),
         Progress::Asked | Progress::Ended => {}
     }
@@ -86,6 +103,37 @@ pub extern "C" fn dwexpr_evaluation_start(
         texts.now steps.now before after outcome.new)) }
 {
     start(evaluation.get(), texts, encoding, steps, outcome, pieces);
+    outcome.code
+}
+
+/// Starts an evaluation that is held with settings, and evaluates the first of the texts to a request or to the end
+/// (DWARF 5, sections 2.5 and 2.6). It answers and writes what `dwexpr_evaluation_start` does in the steps that the
+/// settings stand for: the maximum, the object's address if it is known, and the start.
+#[unsafe(no_mangle)]
+pub extern "C" fn dwexpr_evaluation_evaluate(
+    evaluation: &mut DwexprEvaluation,
+    texts: &[DwexprText<'static>],
+    encoding: DwexprEncoding,
+    settings: DwexprSettings,
+    outcome: &mut DwexprOutcome,
+    pieces: &mut [DwexprPiece],
+) -> u32
+    requires { IsBegun evaluation.old.held }
+    ensures begun { IsBegun evaluation.new.held }
+    ensures code { result ≡ outcome.new.code }
+    ensures encoding { (IsEncoding encoding → ⊥)
+        → (outcome.new ≡ ended_outcome codes.BAD_ENCODING 0 0) × (pieces.new ≡ pieces.old)
+        × (evaluation.new.held ≡ evaluation.old.held) }
+    ensures evaluates { IsEncoding encoding
+        → EvaluatesFirst (encoding_in encoding) (text_at (is_big_in encoding) texts.now 0) texts.now
+        (steps_in settings) outcome.new pieces.old pieces.new }
+    ensures starts { IsEncoding encoding
+        → IsSomeAnd evaluation.old.held
+        (λ before. IsSomeAnd evaluation.new.held
+        (λ after. StandsAfterFirst (encoding_in encoding) (text_at (is_big_in encoding) texts.now 0)
+        texts.now (steps_in settings) before after outcome.new)) }
+{
+    evaluate_first(evaluation.get(), texts, encoding, settings, outcome, pieces);
     outcome.code
 }
 

@@ -17,6 +17,7 @@ mod operations;
 mod outcomes;
 mod pieces;
 mod places;
+mod settings;
 mod starting;
 mod steps;
 mod values;
@@ -26,6 +27,7 @@ use crate::held::DwexprEvaluation;
 use crate::operations::DwexprOperation;
 use crate::outcomes::DwexprOutcome;
 use crate::pieces::DwexprPiece;
+use crate::settings::DwexprSettings;
 use crate::steps::{DwexprStep, DwexprText};
 use crate::values::DwexprValue;
 
@@ -37,6 +39,8 @@ const _: () = prove!(size_of::<DwexprOperation>() == 88);
 const _: () = prove!(size_of::<DwexprText>() == 16);
 
 const _: () = prove!(size_of::<DwexprStep>() == 24);
+
+const _: () = prove!(size_of::<DwexprSettings>() == 16);
 
 const _: () = prove!(size_of::<DwexprOutcome>() == 104);
 

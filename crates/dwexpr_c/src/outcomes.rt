@@ -8,7 +8,7 @@ ghost use Rattle.dwexpr_c.specs.CallerTexts.{text_of_placed, AsksNowhere};
 use crate::faults::{FaultNumbers, OK};
 use crate::places::Placed;
 use crate::steps::{DwexprText, place_of};
-use crate::values::numbers_of_value;
+use crate::values::{DwexprValue, NO_VALUE, numbers_of_value};
 use dwarf_base::Reader;
 use dwarf_eval::op::EvaluationResult;
 use dwarf_op::DieReference;
@@ -105,6 +105,7 @@ fn memory_outcome(address: u64, size: u8, base_type: usize) -> DwexprOutcome
 }
 
 /// Shows a request; `false` if it asks of a block that is nowhere.
+#[inline(always)]
 pub(crate) fn show_request(
     texts: &[DwexprText<'_>],
     request: EvaluationResult<Placed<'_>>,
@@ -195,22 +196,23 @@ pub(crate) fn show_request(
 }
 
 /// What is shown of a complete evaluation.
+#[inline(always)]
 pub(crate) fn show_complete(pieces: usize, value: Option<Value>) -> DwexprOutcome
     ensures { result ≡ complete_outcome pieces value }
 {
-    let complete = DwexprOutcome {
+    let numbers = match value {
+        None => NO_VALUE,
+        // Most are.
+        Some(Value::Generic(content)) => DwexprValue {
+            value_type: 1,
+            content,
+        },
+        Some(value) => numbers_of_value(value),
+    };
+    DwexprOutcome {
+        value_type: numbers.value_type,
+        value: numbers.content,
         pieces,
         ..request_outcome(1, 0)
-    };
-    match value {
-        None => complete,
-        Some(value) => {
-            let numbers = numbers_of_value(value);
-            DwexprOutcome {
-                value_type: numbers.value_type,
-                value: numbers.content,
-                ..complete
-            }
-        }
     }
 }

@@ -1,6 +1,6 @@
 //! Pieces in numbers.
 
-ghost use Rattle.std.specs.Prelude.{◌≡◌, is_some, true, false, map, option_map, slice_get, unwrap_or};
+ghost use Rattle.std.specs.Prelude.{◌≡◌, ◌<◌, [], ◌∷◌, IfSome, is_some, true, false, map, option_map, slice_get, unwrap_or};
 ghost use Rattle.dwarf_op.specs.Views.{location_of, piece_of};
 ghost use Rattle.dwexpr_c.specs.Outcomes.{AreWritten, ShowsLocation, piece_of_kind};
 ghost use Rattle.dwexpr_c.specs.CallerTexts.{text_of_placed, HoldsNowhere, SomeNowhere};
@@ -117,7 +117,8 @@ fn piece_at<'a, 'b>(pieces: &'b [Piece<Placed<'a>>], index: usize) -> Option<&'b
 }
 
 /// Writes as many pieces as there is room for; `false` if the bytes of one are nowhere.
-pub(crate) fn write_pieces(
+#[inline(never)]
+fn write_all(
     texts: &[DwexprText<'_>],
     pieces: &[Piece<Placed<'_>>],
     places: &mut [DwexprPiece],
@@ -143,4 +144,44 @@ pub(crate) fn write_pieces(
         }
     }
     true
+}
+
+/// The only piece, if there is one alone, and room for it.
+#[inline(always)]
+fn only<'a, 'b>(pieces: &'b [Piece<Placed<'a>>], room: usize) -> Option<&'b Piece<Placed<'a>>>
+    ensures alone { IfSome result (λ piece. pieces.now ≡ piece.now ∷ []) }
+    ensures room { IfSome result (λ piece. 0 < room) }
+{
+    if room == 0 {
+        return None;
+    }
+    if pieces.len() == 1 {
+        return piece_at(pieces, 0);
+    }
+    None
+}
+
+/// Does the same. Most variables are one piece, which is written in line.
+#[inline(always)]
+pub(crate) fn write_pieces(
+    texts: &[DwexprText<'_>],
+    pieces: &[Piece<Placed<'_>>],
+    places: &mut [DwexprPiece],
+) -> bool
+    ensures written { result ≡ true
+        → AreWritten texts.now (map (piece_of text_of_placed (λ x. x)) pieces.now) places.old
+        places.new }
+    ensures unplaced { result ≡ false
+        → SomeNowhere texts.now (map (piece_of text_of_placed (λ x. x)) pieces.now) }
+{
+    let Some(piece) = only(pieces, places.len()) else {
+        return write_all(texts, pieces, places);
+    };
+    show_location(
+        texts,
+        piece.size_in_bits,
+        piece.bit_offset,
+        piece.location,
+        &mut places[0],
+    )
 }

@@ -7,18 +7,34 @@ ghost use Rattle.dwexpr_c.specs.Encodings.{IsEncoding, encoding_in, is_big_in};
 ghost use Rattle.dwexpr_c.specs.Evaluated.{EvaluatesGiven, EvaluatesFirst, beginning, limited_setup};
 ghost use Rattle.dwexpr_c.specs.Held.{HasCapacities, StandsAfter, StandsAfterFirst};
 ghost use Rattle.dwexpr_c.specs.Outcomes.{ended_outcome};
+ghost use Rattle.dwexpr_c.specs.Settings.{steps_in};
 ghost use Rattle.dwexpr_c.specs.CallerTexts.{text_at, text_of_placed};
 ghost use Rattle.dwexpr_c.specs.inner.Runs.{IsGiven};
 ghost use Rattle.dwexpr_c.specs.declared.faults.TheConstants as codes;
 
 use crate::encodings::{DwexprEncoding, Reading, reading_of};
-use crate::evaluating::evaluate_steps;
+use crate::evaluating::{evaluate_set, evaluate_steps};
 use crate::faults::{BAD_ENCODING, BAD_TEXT, code_alone};
 use crate::held::{Held, fresh_held};
 use crate::outcomes::{DwexprOutcome, show_end};
 use crate::pieces::DwexprPiece;
 use crate::places::Placed;
+use crate::settings::DwexprSettings;
 use crate::steps::{DwexprStep, DwexprText, text_at};
+
+/// Has an evaluation stand at the beginning of a text.
+#[inline(always)]
+fn restart<'a>(held: &mut Held<'a>, text: Placed<'a>, reading: Reading)
+    requires capacities { HasCapacities held.old.evaluation }
+    requires some { 0 < reading.encoding.address_size }
+    requires fits { reading.encoding.address_size ≤ 8 }
+    ensures order { held.new.order ≡ reading.order }
+    ensures fresh { held.new.evaluation
+        ≡ fresh_state (limited_setup reading.encoding) (text_of_placed text.entry) }
+{
+    held.order = reading.order;
+    held.evaluation.restart(text, reading.encoding);
+}
 
 /// Shows what the steps of a text come to.
 fn start_text<'a>(
@@ -44,8 +60,7 @@ fn start_text<'a>(
         (fresh_state (limited_setup reading.encoding) (text_of_placed text.entry)) texts.now
         steps.now held.new.evaluation outcome.new }
 {
-    held.order = reading.order;
-    held.evaluation.restart(text, reading.encoding);
+    restart(held, text, reading);
     evaluate_steps(
         &mut held.evaluation,
         texts,
@@ -82,6 +97,66 @@ pub(crate) fn start<'a>(
         Some(reading) => match text_at(texts, reading.order, 0) {
             None => *outcome = show_end(code_alone(BAD_TEXT), 0),
             Some(text) => start_text(held, texts, text, reading, steps, outcome, places),
+        },
+    }
+}
+
+/// Shows what the settings come to, once a text is started with them.
+#[inline(always)]
+fn evaluate_text<'a>(
+    held: &mut Held<'a>,
+    texts: &[DwexprText<'a>],
+    text: Placed<'a>,
+    reading: Reading,
+    settings: DwexprSettings,
+    outcome: &mut DwexprOutcome,
+    places: &mut [DwexprPiece],
+)
+    requires capacities { HasCapacities held.old.evaluation }
+    requires some { 0 < reading.encoding.address_size }
+    requires fits { reading.encoding.address_size ≤ 8 }
+    requires order { (text_of_placed text).is_big ≡ is_big_of reading.order }
+    requires given { IsGiven texts.now (text_of_placed text).bytes }
+    ensures capacities { HasCapacities held.new.evaluation }
+    ensures evaluates { EvaluatesGiven
+        (beginning reading.encoding (text_of_placed text.entry) texts.now) (steps_in settings)
+        outcome.new places.old places.new }
+    ensures order { is_big_of held.new.order ≡ (text_of_placed text.entry).is_big }
+    ensures stands { StandsAfter
+        (fresh_state (limited_setup reading.encoding) (text_of_placed text.entry)) texts.now
+        (steps_in settings) held.new.evaluation outcome.new }
+{
+    restart(held, text, reading);
+    evaluate_set(&mut held.evaluation, texts, settings, outcome, places);
+}
+
+/// Shows what the settings come to; the evaluation of the first of the texts then stands where they lead.
+#[inline(always)]
+pub(crate) fn evaluate_first<'a>(
+    held: &mut Held<'a>,
+    texts: &[DwexprText<'a>],
+    numbers: DwexprEncoding,
+    settings: DwexprSettings,
+    outcome: &mut DwexprOutcome,
+    places: &mut [DwexprPiece],
+)
+    requires { HasCapacities held.old.evaluation }
+    ensures capacities { HasCapacities held.new.evaluation }
+    ensures encoding { (IsEncoding numbers → ⊥)
+        → (outcome.new ≡ ended_outcome codes.BAD_ENCODING 0 0) × (places.new ≡ places.old)
+        × (held.new ≡ held.old) }
+    ensures evaluates { IsEncoding numbers
+        → EvaluatesFirst (encoding_in numbers) (text_at (is_big_in numbers) texts.now 0) texts.now
+        (steps_in settings) outcome.new places.old places.new }
+    ensures stands { IsEncoding numbers
+        → StandsAfterFirst (encoding_in numbers) (text_at (is_big_in numbers) texts.now 0) texts.now
+        (steps_in settings) held.old held.new outcome.new }
+{
+    match reading_of(numbers) {
+        None => *outcome = show_end(code_alone(BAD_ENCODING), 0),
+        Some(reading) => match text_at(texts, reading.order, 0) {
+            None => *outcome = show_end(code_alone(BAD_TEXT), 0),
+            Some(text) => evaluate_text(held, texts, text, reading, settings, outcome, places),
         },
     }
 }

@@ -136,6 +136,7 @@ fn find(texts: &[DwexprText<'_>], block: &[u8]) -> Option<Place>
 
 /// Where the bytes are: where they should be, which no contract of a reader tells; else at the first place that has the
 /// same.
+#[inline(never)]
 pub(crate) fn place_of(texts: &[DwexprText<'_>], block: Placed<'_>) -> Option<Place>
     ensures some { IfSome result
         (λ place. IsPlaced texts.now place.text place.offset (text_of_placed block.entry).bytes) }
@@ -152,6 +153,18 @@ fn value_in(step: DwexprStep) -> Result<Value, u32>
     ensures { result ≡ ok_or (value_coded step.value_type step.number) codes.BAD_STEP }
 {
     value_of(step.value_type, step.number).ok_or(BAD_STEP)
+}
+
+/// The value that a step gives, if it is of the generic type.
+#[inline(always)]
+pub(crate) fn generic_in(step: &DwexprStep) -> Option<Value>
+    ensures { IfSome result
+        (λ value. value_coded step.now.value_type step.now.number ≡ Some value) }
+{
+    match step.value_type {
+        1 => value_of(1, step.number),
+        _ => None,
+    }
 }
 
 /// The step that the numbers say, or the code if they say none.

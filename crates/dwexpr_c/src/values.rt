@@ -6,6 +6,7 @@ ghost use Rattle.dwexpr_c.specs.CodedValues.{shown_value, type_code, type_coded,
 use dwarf_value::{Value, ValueType};
 
 /// The type of a code.
+#[inline(always)]
 pub(crate) fn type_of_code(code: u32) -> Option<ValueType>
     ensures { result ≡ type_coded code }
 {
@@ -51,7 +52,14 @@ pub struct DwexprValue {
     pub content: u64,
 }
 
+/// No value.
+pub(crate) const NO_VALUE: DwexprValue = DwexprValue {
+    value_type: 0,
+    content: 0,
+};
+
 /// The type and the content of a value.
+#[inline(never)]
 pub(crate) fn numbers_of_value(value: Value) -> DwexprValue
     ensures { result ≡ shown_value value }
 {
@@ -73,6 +81,7 @@ pub(crate) fn numbers_of_value(value: Value) -> DwexprValue
 }
 
 /// The value of the type of this code that the content wraps to.
+#[inline(always)]
 pub(crate) fn value_of(code: u32, content: u64) -> Option<Value>
     ensures { result ≡ value_coded code content }
 {

@@ -25,3 +25,8 @@ module _ (texts : List DwexprText) (said : Result Step ℕ) (index : ℕ) (old n
 pub returns-in-Misplaced : goal.returns-in-Misplaced
 returns-in-Misplaced g c =
     does_misplaced c.args.texts.now _ c.args.index c.args.evaluation.now c.take_step.new.eval c.args.outcome.now c.end-in-Misplaced.new.outcome c.end-in-Misplaced.result c.end-in-Misplaced.ensures.progress _ c.in-Ok.ensures.ok c.code_alone-in-Misplaced.result c.end-in-Misplaced.ensures.shown c.in-Misplaced.ensures c.code_alone-in-Misplaced.ensures
+
+pub returns-in-Answered : goal.returns-in-Answered
+returns-in-Answered g c =
+    subst (λ (r : Result Step ℕ). DoesStep c.args.texts.now r c.args.index c.args.evaluation.now c.take_step.new.eval c.args.outcome.now c.show_reply.new.outcome c.show_reply.result) (sym c.in-Ok.ensures.ok)
+    (c.show_reply.ensures _ c.args.evaluation.now c.take_step.new.eval c.in-Answered.ensures)

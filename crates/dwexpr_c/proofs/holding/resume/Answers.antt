@@ -8,21 +8,21 @@ use Rattle.dwexpr_c.proofs.holding.resume.Goals as goal
 
 pub returns-in-Set-clause-capacities : goal.returns-in-Set-clause-capacities
 returns-in-Set-clause-capacities c =
-    ap (λ (s : Setup). s.limits) (step_keeps c.args.held.now.evaluation c.do_step.new.evaluation c.args.texts.now (step_coded (is_big_of c.args.held.now.order) c.args.texts.now c.args.step) 0 c.args.outcome.now c.do_step.new.outcome c.do_step.result c.do_step.ensures) ∙ c.requires
+    ap (λ (s : Setup). s.limits) (step_keeps c.args.held.now.evaluation c.do_answer.new.evaluation c.args.texts.now (step_coded (is_big_of c.args.held.now.order) c.args.texts.now c.args.step) 0 c.args.outcome.now c.do_answer.new.outcome c.do_answer.result c.do_answer.ensures) ∙ c.requires
 
 pub returns-in-Complete-clause-resumes : goal.returns-in-Complete-clause-resumes
 returns-in-Complete-clause-resumes c = record {
   order = refl;
   progress = Complete;
-  unfinished = c.do_step.new.outcome;
+  unfinished = c.do_answer.new.outcome;
   does = c.in-Complete.ensures;
-  shown = c.show_status-in-Complete.ensures;
+  shown = c.show_status.ensures;
 }
 
 pub returns-in-Complete-clause-capacities : goal.returns-in-Complete-clause-capacities
 returns-in-Complete-clause-capacities c =
-    ap (λ (s : Setup). s.limits) (step_keeps c.args.held.now.evaluation c.do_step.new.evaluation c.args.texts.now (step_coded (is_big_of c.args.held.now.order) c.args.texts.now c.args.step) 0 c.args.outcome.now c.do_step.new.outcome c.do_step.result c.do_step.ensures) ∙ c.requires
+    ap (λ (s : Setup). s.limits) (step_keeps c.args.held.now.evaluation c.do_answer.new.evaluation c.args.texts.now (step_coded (is_big_of c.args.held.now.order) c.args.texts.now c.args.step) 0 c.args.outcome.now c.do_answer.new.outcome c.do_answer.result c.do_answer.ensures) ∙ c.requires
 
 pub returns-in-Asked-clause-capacities : goal.returns-in-Asked-clause-capacities
 returns-in-Asked-clause-capacities c =
-    ap (λ (s : Setup). s.limits) (step_keeps c.args.held.now.evaluation c.do_step.new.evaluation c.args.texts.now (step_coded (is_big_of c.args.held.now.order) c.args.texts.now c.args.step) 0 c.args.outcome.now c.do_step.new.outcome c.do_step.result c.do_step.ensures) ∙ c.requires
+    ap (λ (s : Setup). s.limits) (step_keeps c.args.held.now.evaluation c.do_answer.new.evaluation c.args.texts.now (step_coded (is_big_of c.args.held.now.order) c.args.texts.now c.args.step) 0 c.args.outcome.now c.do_answer.new.outcome c.do_answer.result c.do_answer.ensures) ∙ c.requires

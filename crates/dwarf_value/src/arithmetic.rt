@@ -19,7 +19,7 @@ impl Value {
         requires { IsAddressMask addr_mask }
         ensures { result ≡ combination ◌+ℤ◌ (width_of addr_mask) self rhs }
     {
-        let (value_type, x, y) = self.operands(rhs, u64::MAX, false)?;
+        let (value_type, _, x, y) = self.operands(rhs, u64::MAX, false)?;
         Ok(Value::wrapped(value_type, x + y, addr_mask))
     }
 
@@ -32,7 +32,7 @@ impl Value {
         requires { IsAddressMask addr_mask }
         ensures { result ≡ combination ◌-ℤ◌ (width_of addr_mask) self rhs }
     {
-        let (value_type, x, y) = self.operands(rhs, u64::MAX, false)?;
+        let (value_type, _, x, y) = self.operands(rhs, u64::MAX, false)?;
         Ok(Value::wrapped(value_type, x - y, addr_mask))
     }
 
@@ -45,7 +45,7 @@ impl Value {
         requires { IsAddressMask addr_mask }
         ensures { result ≡ combination ◌*ℤ◌ (width_of addr_mask) self rhs }
     {
-        let (value_type, x, y) = self.operands(rhs, u64::MAX, false)?;
+        let (value_type, _, x, y) = self.operands(rhs, u64::MAX, false)?;
         Ok(Value::wrapped(value_type, low_product(x, y), addr_mask))
     }
 
@@ -59,8 +59,8 @@ impl Value {
         requires { IsAddressMask addr_mask }
         ensures { result ≡ binary_of Div (width_of addr_mask) self rhs }
     {
-        let (value_type, x, y) = self.divided_by(rhs, addr_mask, true)?;
-        let quotient = quotient(value_type.is_signed(true), x, y);
+        let (value_type, signed, x, y) = self.divided_by(rhs, addr_mask, true)?;
+        let quotient = quotient(signed, x, y);
         Ok(Value::wrapped_to_64(value_type, quotient))
     }
 
@@ -74,8 +74,8 @@ impl Value {
         requires { IsAddressMask addr_mask }
         ensures { result ≡ binary_of Mod (width_of addr_mask) self rhs }
     {
-        let (value_type, x, y) = self.divided_by(rhs, addr_mask, false)?;
-        let remainder = remainder(value_type.is_signed(false), x, y);
+        let (value_type, signed, x, y) = self.divided_by(rhs, addr_mask, false)?;
+        let remainder = remainder(signed, x, y);
         Ok(Value::wrapped_to_64(value_type, remainder))
     }
 
@@ -108,12 +108,17 @@ impl Value {
         Ok(Value::wrapped_to_64(value_type, -word.integer()))
     }
 
-    /// The type and the integers of a dividend and a divisor. A zero divisor is refused before two types are.
+    /// What `operands` gives, of a dividend and a divisor. A zero divisor is refused before two types are.
     #[inline(always)]
-    fn divided_by(self, rhs: Value, addr_mask: u64, signed: bool) -> Result<(ValueType, i128, i128)>
+    fn divided_by(
+        self,
+        rhs: Value,
+        addr_mask: u64,
+        signed: bool,
+    ) -> Result<(ValueType, bool, i128, i128)>
         requires { IsAddressMask addr_mask }
         ensures { MatchResult result
-            (λ r. AreDivided signed (width_of addr_mask) self rhs r.0 r.1 r.2)
+            (λ r. AreDivided signed (width_of addr_mask) self rhs r.0 r.1 r.2 r.3)
             (UnfitDivision (width_of addr_mask) self rhs) }
     {
         let (value_type, first) = self.taken_apart(addr_mask, signed);
@@ -125,7 +130,7 @@ impl Value {
         if !same_type(value_type, other) {
             return Err(Error::TypeMismatch);
         }
-        Ok((value_type, first.integer(), divisor))
+        Ok((value_type, first.signed, first.integer(), divisor))
     }
 }
 

@@ -16,8 +16,7 @@ impl Value {
         requires { IsAddressMask addr_mask }
         ensures { result ≡ binary_of Eq (width_of addr_mask) self rhs }
     {
-        let (value_type, x, y) = self.operands(rhs, addr_mask, true)?;
-        let signed = value_type.is_signed(true);
+        let (_, signed, x, y) = self.operands(rhs, addr_mask, true)?;
         Ok(Value::Generic(u64::from(is_equal(signed, x, y))))
     }
 
@@ -30,8 +29,7 @@ impl Value {
         requires { IsAddressMask addr_mask }
         ensures { result ≡ binary_of Ge (width_of addr_mask) self rhs }
     {
-        let (value_type, x, y) = self.operands(rhs, addr_mask, true)?;
-        let signed = value_type.is_signed(true);
+        let (_, signed, x, y) = self.operands(rhs, addr_mask, true)?;
         Ok(Value::Generic(u64::from(!is_below(signed, x, y))))
     }
 
@@ -44,8 +42,7 @@ impl Value {
         requires { IsAddressMask addr_mask }
         ensures { result ≡ binary_of Gt (width_of addr_mask) self rhs }
     {
-        let (value_type, x, y) = self.operands(rhs, addr_mask, true)?;
-        let signed = value_type.is_signed(true);
+        let (_, signed, x, y) = self.operands(rhs, addr_mask, true)?;
         Ok(Value::Generic(u64::from(is_below(signed, y, x))))
     }
 
@@ -58,8 +55,7 @@ impl Value {
         requires { IsAddressMask addr_mask }
         ensures { result ≡ binary_of Le (width_of addr_mask) self rhs }
     {
-        let (value_type, x, y) = self.operands(rhs, addr_mask, true)?;
-        let signed = value_type.is_signed(true);
+        let (_, signed, x, y) = self.operands(rhs, addr_mask, true)?;
         Ok(Value::Generic(u64::from(!is_below(signed, y, x))))
     }
 
@@ -72,8 +68,7 @@ impl Value {
         requires { IsAddressMask addr_mask }
         ensures { result ≡ binary_of Lt (width_of addr_mask) self rhs }
     {
-        let (value_type, x, y) = self.operands(rhs, addr_mask, true)?;
-        let signed = value_type.is_signed(true);
+        let (_, signed, x, y) = self.operands(rhs, addr_mask, true)?;
         Ok(Value::Generic(u64::from(is_below(signed, x, y))))
     }
 
@@ -86,8 +81,7 @@ impl Value {
         requires { IsAddressMask addr_mask }
         ensures { result ≡ binary_of Ne (width_of addr_mask) self rhs }
     {
-        let (value_type, x, y) = self.operands(rhs, addr_mask, true)?;
-        let signed = value_type.is_signed(true);
+        let (_, signed, x, y) = self.operands(rhs, addr_mask, true)?;
         Ok(Value::Generic(u64::from(!is_equal(signed, x, y))))
     }
 }

@@ -2,7 +2,7 @@
 
 ghost use Rattle.std.specs.Prelude.{◌≡◌, ◌/◌, IsTrue};
 ghost use Rattle.dwarf_base.specs.Reads.{is_fixed_size};
-ghost use Rattle.dwarf_value.specs.Values.{IsAddressMask, width_of, type_of, bit_size_of, is_signed, from_encoding_of};
+ghost use Rattle.dwarf_value.specs.Values.{IsAddressMask, width_of, type_of, bit_size_of, from_encoding_of};
 
 use crate::masks::mask_width;
 use dwarf_base::DwAte;
@@ -98,19 +98,6 @@ impl ValueType {
             ValueType::I16 | ValueType::U16 => 2,
             ValueType::I32 | ValueType::U32 => 4,
             ValueType::Generic | ValueType::I64 | ValueType::U64 => 8,
-        }
-    }
-
-    /// Whether the type's integers have a sign; those of the generic type have one if they are to.
-    #[tactic(auto, unfolding(crate::specs::Values::is_signed))]
-    #[inline(always)]
-    pub(crate) fn is_signed(self, generic: bool) -> bool
-        ensures { result ≡ is_signed generic self }
-    {
-        match self {
-            ValueType::Generic => generic,
-            ValueType::I8 | ValueType::I16 | ValueType::I32 | ValueType::I64 => true,
-            ValueType::U8 | ValueType::U16 | ValueType::U32 | ValueType::U64 => false,
         }
     }
 

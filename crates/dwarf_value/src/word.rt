@@ -169,18 +169,18 @@ impl Value {
         self.parts(addr_mask, signed)
     }
 
-    /// The type and the integers of two values of one type; `TypeMismatch` if the types differ. The bits of generic
-    /// ones are those of an address, `signed` or not.
+    /// The type of two values of one type, whether its integers have a sign, and the two integers; `TypeMismatch` if the
+    /// types differ. The bits of generic ones are those of an address, `signed` or not.
     #[inline(always)]
     pub(crate) fn operands(
         self,
         rhs: Value,
         addr_mask: u64,
         signed: bool,
-    ) -> Result<(ValueType, i128, i128)>
+    ) -> Result<(ValueType, bool, i128, i128)>
         requires { IsAddressMask addr_mask }
         ensures { MatchResult result
-            (λ r. AreOperands signed (width_of addr_mask) self rhs r.0 r.1 r.2)
+            (λ r. AreOperands signed (width_of addr_mask) self rhs r.0 r.1 r.2 r.3)
             (UnfitOperands self rhs) }
     {
         let (Value::Generic(_), Value::Generic(_)) = (self, rhs) else {
@@ -196,10 +196,10 @@ impl Value {
         rhs: Value,
         addr_mask: u64,
         signed: bool,
-    ) -> Result<(ValueType, i128, i128)>
+    ) -> Result<(ValueType, bool, i128, i128)>
         requires { IsAddressMask addr_mask }
         ensures { MatchResult result
-            (λ r. AreOperands signed (width_of addr_mask) self rhs r.0 r.1 r.2)
+            (λ r. AreOperands signed (width_of addr_mask) self rhs r.0 r.1 r.2 r.3)
             (UnfitOperands self rhs) }
     {
         self.operands_in_line(rhs, addr_mask, signed)
@@ -212,10 +212,10 @@ impl Value {
         rhs: Value,
         addr_mask: u64,
         signed: bool,
-    ) -> Result<(ValueType, i128, i128)>
+    ) -> Result<(ValueType, bool, i128, i128)>
         requires { IsAddressMask addr_mask }
         ensures { MatchResult result
-            (λ r. AreOperands signed (width_of addr_mask) self rhs r.0 r.1 r.2)
+            (λ r. AreOperands signed (width_of addr_mask) self rhs r.0 r.1 r.2 r.3)
             (UnfitOperands self rhs) }
     {
         let (value_type, first) = self.parts(addr_mask, signed);
@@ -223,7 +223,7 @@ impl Value {
         if !same_type(value_type, other) {
             return Err(Error::TypeMismatch);
         }
-        Ok((value_type, first.integer(), second.integer()))
+        Ok((value_type, first.signed, first.integer(), second.integer()))
     }
 
     /// The value of a type that a word of 64 bits is cut to. A generic one keeps the bits of an address.

@@ -14,18 +14,19 @@ abbrev pub IsIn64 : (signed : Bool) → ℤ → Type 0
 IsIn64 true z = FitsSigned w64 z
 IsIn64 false z = (pos 0 ≤ℤ z) × (z <ℤ pos (2 ^ 64))
 
--- t is the type of both values, and a and b are their integers, in the range of the types
-pub record AreOperands (signed : Bool) (w : ℕ) (x y : Value) (t : ValueType) (a b : ℤ) : Type 0 where
+-- t is the type of both values, s is whether its integers have a sign, and a and b are the integers, in its range
+pub record AreOperands (signed : Bool) (w : ℕ) (x y : Value) (t : ValueType) (s : Bool) (a b : ℤ) : Type 0 where
   pub same : is_same (type_of x) (type_of y) ≡ true
   pub value_type : t ≡ type_of x
+  pub sign : s ≡ is_signed signed t
   pub first : a ≡ integer_of signed w x
   pub second : b ≡ integer_of signed w y
   pub first_least : neg_ℤ (pos (2 ^ 63)) ≤ℤ a
   pub first_most : a <ℤ pos (2 ^ 64)
   pub second_least : neg_ℤ (pos (2 ^ 63)) ≤ℤ b
   pub second_most : b <ℤ pos (2 ^ 64)
-  pub first_in_64 : IsIn64 (is_signed signed t) a
-  pub second_in_64 : IsIn64 (is_signed signed t) b
+  pub first_in_64 : IsIn64 s a
+  pub second_in_64 : IsIn64 s b
 
 -- the types differ, and the fault says so
 pub record UnfitOperands (x y : Value) (e : Error) : Type 0 where
@@ -33,8 +34,8 @@ pub record UnfitOperands (x y : Value) (e : Error) : Type 0 where
   pub fault : e ≡ TypeMismatch
 
 -- the same of a dividend and a divisor
-pub record AreDivided (signed : Bool) (w : ℕ) (x y : Value) (t : ValueType) (a b : ℤ) : Type 0 where
-  pub operands : AreOperands signed w x y t a b
+pub record AreDivided (signed : Bool) (w : ℕ) (x y : Value) (t : ValueType) (s : Bool) (a b : ℤ) : Type 0 where
+  pub operands : AreOperands signed w x y t s a b
   pub nonzero : int_eq (unsigned_integer w y) (pos 0) ≡ false
   pub divisor : b ≢ pos 0
 

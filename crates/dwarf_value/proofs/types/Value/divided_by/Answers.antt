@@ -40,14 +40,15 @@ returns c =
       operands = record {
         same = is;
         value_type = left.value_type;
+        sign = first;
         first = search arith;
         second = search arith;
         first_least = search arith;
         first_most = search arith;
         second_least = search arith;
         second_most = search arith;
-        first_in_64 = carry_in_64 _ _ _ _ c.integer.ensures.in_64 first (sym x);
-        second_in_64 = carry_in_64 _ _ _ _ c.integer-divisor.ensures.in_64 second (sym y);
+        first_in_64 = carry_in_64 _ _ _ _ c.integer.ensures.in_64 refl (sym x);
+        second_in_64 = carry_in_64 _ _ _ _ c.integer-divisor.ensures.in_64 (second ∙ sym first) (sym y);
       };
       nonzero = nonzero_divisor c.args.signed (width_of c.args.addr_mask) c.args.rhs nonzero;
       divisor = λ e. let zero : c.integer-divisor.result ≡ pos 0 = omega (arith, ints, e) in omega (arith, ints);

@@ -1,4 +1,4 @@
-use Rattle.std.proofs.Common.{◌≡◌, sym, ap, ◌∙◌, arith, rules, true}
+use Rattle.std.proofs.Common.{◌≡◌, refl, sym, ap, ◌∙◌, arith, rules, true}
 use Rattle.std.specs.Int.{w128}
 use Rattle.std.proofs.lemmas.Int.{to_z-of_z}
 use Rattle.dwarf_value.specs.Values.{type_of, is_signed, is_same}
@@ -22,12 +22,13 @@ returns c =
     record {
       same = is;
       value_type = left.value_type;
+      sign = first;
       first = search arith;
       second = search arith;
       first_least = search arith;
       first_most = search arith;
       second_least = search arith;
       second_most = search arith;
-      first_in_64 = carry_in_64 _ _ _ _ c.integer.ensures.in_64 first (sym x);
-      second_in_64 = carry_in_64 _ _ _ _ c.integer-2.ensures.in_64 second (sym y);
+      first_in_64 = carry_in_64 _ _ _ _ c.integer.ensures.in_64 refl (sym x);
+      second_in_64 = carry_in_64 _ _ _ _ c.integer-2.ensures.in_64 (second ∙ sym first) (sym y);
     }

@@ -85,9 +85,9 @@ TAKEN = [
 REFUSED_OF_C = [
     ("c/computing", 'extern "C" fn dwexpr_value_unary', 'extern "D" fn dwexpr_value_unary', 'an unknown sign: `"`'),
     ("c/computing", "#[unsafe(no_mangle)]", "#[unsafe(no_mangle, cold)]", "the unknown attribute"),
-    ("c/computing", "#[unsafe(no_mangle)]\n", "", "a row about exports is met 11 times, and not 12"),
+    ("c/computing", "#[unsafe(no_mangle)]\n", "", "a row about exports is met 12 times, and not 13"),
     ("c/faults", "FaultNumbers { code, number: 0 }", "prove!(0 == 0)", "an unknown macro: `prove`"),
-    ("c/mod", "const _: () = prove!(size_of::<DwexprText>() == 16);", "", "a row about claims is met 7 times"),
+    ("c/mod", "const _: () = prove!(size_of::<DwexprText>() == 16);", "", "a row about claims is met 8 times"),
     ("c/mod", "use crate::held::DwexprEvaluation;\n", "", "a row about exports is met 0 times"),
     ("c/steps", "pub bytes: &'a [u8],", "pub bytes: &'a [u8; 1],", "a row about texts is met 0 times"),
     ("c/steps", "if text.bytes.is_empty()", "if text.bytes.len() == 0", "a row about texts is met 0 times"),

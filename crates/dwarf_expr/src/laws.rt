@@ -28,8 +28,8 @@ pub use dwarf_value::value_laws;
 /// Bits above an address change nothing that matters, of two evaluations that were replayed.
 ///
 /// It does nothing. Its contract is the law, over what `replay` says of each of them, in whatever way each ended; and
-/// that the premises hold of fresh evaluations of one text, as those of `twin_rows`. The last clause is a worked row: two
-/// evaluations without limits meet the same refusal, at the push of the answer.
+/// that the premises hold of fresh evaluations of one text, as those of `twin_rows`. The last clause is a worked row:
+/// two evaluations without limits meet the same refusal, at the push of the answer.
 pub fn two_replays()
     ensures alike { TwoReplays }
     ensures met { (text : Text) (steps others : List Step)

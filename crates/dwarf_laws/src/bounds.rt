@@ -34,8 +34,8 @@ pub fn tight_bounds()
         (sample 1 2 (Generic 5 ∷ []) [] []) }
 {}
 
-/// Worked rows of the other bounds: on decodings at a fault and at a location, on callers and decodings alone, on calls,
-/// turns, counts and limits, on what may be refused, and on the length of an inlined text.
+/// Worked rows of the other bounds: on decodings at a fault and at a location, on callers and decodings alone, on
+/// calls, turns, counts and limits, on what may be refused, and on the length of an inlined text.
 ///
 /// It does nothing. Each clause of its contract gives what a bound still holds of, or what is next to that and it
 /// doesn't hold of.

@@ -1,5 +1,5 @@
-//! Each byte of an operation that is decoded is read once, and no other byte is, but for a look, in memory, at the piece
-//! after a location.
+//! Each byte of an operation that is decoded is read once, and no other byte is, but for a look, in memory, at the
+//! piece after a location.
 
 ghost use Rattle.std.specs.Prelude.{◌≡◌, None};
 ghost use Rattle.dwarf_meaning.specs.Rest.{Start};

@@ -169,8 +169,8 @@ impl Value {
         self.parts(addr_mask, signed)
     }
 
-    /// The type of two values of one type, whether its integers have a sign, and the two integers; `TypeMismatch` if the
-    /// types differ. The bits of generic ones are those of an address, `signed` or not.
+    /// The type of two values of one type, whether its integers have a sign, and the two integers; `TypeMismatch` if
+    /// the types differ. The bits of generic ones are those of an address, `signed` or not.
     #[inline(always)]
     pub(crate) fn operands(
         self,

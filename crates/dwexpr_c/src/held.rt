@@ -83,7 +83,8 @@ impl DwexprEvaluation {
     /// The evaluation.
     pub(crate) fn get(&mut self) -> &mut Held<'static>
         requires { IsBegun self.old.held }
-        ensures* writes_back { sem 𝓛 (Lends the_row held_row self.entry result (λ w. record self.old { held = Some w })) }
+        ensures* writes_back { sem 𝓛
+            (Lends the_row held_row self.entry result (λ w. record self.old { held = Some w })) }
         ensures held { self.old.held ≡ Some result.now }
     {
         unsafe { &mut *(self.memory as *mut Held<'static>) }

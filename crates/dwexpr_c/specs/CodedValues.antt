@@ -12,33 +12,34 @@ use Rattle.dwexpr_c.specs.Codes.{code_of_fault}
 use Rattle.dwexpr_c.specs.CodedOperations.{binary_kind, unary_kind}
 use Rattle.dwexpr_c.specs.declared.kinds.TheConstants as kinds
 use Rattle.dwexpr_c.specs.declared.faults.TheConstants as codes
+use Rattle.dwexpr_c.specs.declared.types.TheConstants as types
 
 -- the type of a code
 abbrev pub type_coded : (code : ℕ) → Option ValueType
 type_coded code =
-    if code == 1 then Some value_type.Generic
-    else if code == 2 then Some value_type.I8
-    else if code == 3 then Some value_type.U8
-    else if code == 4 then Some value_type.I16
-    else if code == 5 then Some value_type.U16
-    else if code == 6 then Some value_type.I32
-    else if code == 7 then Some value_type.U32
-    else if code == 8 then Some value_type.I64
-    else if code == 9 then Some value_type.U64
+    if code == types.GENERIC then Some value_type.Generic
+    else if code == types.I8 then Some value_type.I8
+    else if code == types.U8 then Some value_type.U8
+    else if code == types.I16 then Some value_type.I16
+    else if code == types.U16 then Some value_type.U16
+    else if code == types.I32 then Some value_type.I32
+    else if code == types.U32 then Some value_type.U32
+    else if code == types.I64 then Some value_type.I64
+    else if code == types.U64 then Some value_type.U64
     else None
 
 -- the code of a type, or 0
 abbrev pub type_code : Option ValueType → ℕ
-type_code None = 0
-type_code (Some value_type.Generic) = 1
-type_code (Some value_type.I8) = 2
-type_code (Some value_type.U8) = 3
-type_code (Some value_type.I16) = 4
-type_code (Some value_type.U16) = 5
-type_code (Some value_type.I32) = 6
-type_code (Some value_type.U32) = 7
-type_code (Some value_type.I64) = 8
-type_code (Some value_type.U64) = 9
+type_code None = types.NO_TYPE
+type_code (Some value_type.Generic) = types.GENERIC
+type_code (Some value_type.I8) = types.I8
+type_code (Some value_type.U8) = types.U8
+type_code (Some value_type.I16) = types.I16
+type_code (Some value_type.U16) = types.U16
+type_code (Some value_type.I32) = types.I32
+type_code (Some value_type.U32) = types.U32
+type_code (Some value_type.I64) = types.I64
+type_code (Some value_type.U64) = types.U64
 
 -- the value that a type's code and a content say: the content wraps to the type
 abbrev pub value_coded : (code content : ℕ) → Option Value
@@ -46,15 +47,15 @@ value_coded code content = option_map (λ t. from_u64_of t content) (type_coded 
 
 -- a value as a caller sees it; a signed content is extended to 64 bits
 abbrev pub shown_value : Value → DwexprValue
-shown_value (value.Generic content) = record { value_type = 1; content = content }
-shown_value (value.I8 number) = record { value_type = 2; content = residue 64 number }
-shown_value (value.U8 number) = record { value_type = 3; content = number }
-shown_value (value.I16 number) = record { value_type = 4; content = residue 64 number }
-shown_value (value.U16 number) = record { value_type = 5; content = number }
-shown_value (value.I32 number) = record { value_type = 6; content = residue 64 number }
-shown_value (value.U32 number) = record { value_type = 7; content = number }
-shown_value (value.I64 number) = record { value_type = 8; content = residue 64 number }
-shown_value (value.U64 number) = record { value_type = 9; content = number }
+shown_value (value.Generic content) = record { value_type = types.GENERIC; content = content }
+shown_value (value.I8 number) = record { value_type = types.I8; content = residue 64 number }
+shown_value (value.U8 number) = record { value_type = types.U8; content = number }
+shown_value (value.I16 number) = record { value_type = types.I16; content = residue 64 number }
+shown_value (value.U16 number) = record { value_type = types.U16; content = number }
+shown_value (value.I32 number) = record { value_type = types.I32; content = residue 64 number }
+shown_value (value.U32 number) = record { value_type = types.U32; content = number }
+shown_value (value.I64 number) = record { value_type = types.I64; content = residue 64 number }
+shown_value (value.U64 number) = record { value_type = types.U64; content = number }
 
 -- ---- calls on values
 
@@ -64,7 +65,7 @@ Computed = Option (Result Value Fault)
 
 -- no value
 abbrev pub no_value : DwexprValue
-no_value = record { value_type = 0; content = 0 }
+no_value = record { value_type = types.NO_TYPE; content = 0 }
 
 -- the code that is answered, and the value that is written
 abbrev pub Answers : Computed → (code : ℕ) → DwexprValue → Type 0

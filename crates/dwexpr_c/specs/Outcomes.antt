@@ -17,12 +17,16 @@ use Rattle.dwarf_meaning.specs.declared.kinds.WaitingKind.TheVariants as kind
 use Rattle.dwarf_meaning.specs.Steps as meaning
 use Rattle.dwexpr_c.specs.declared.steps.DwexprStep.{DwexprStep}
 use Rattle.dwexpr_c.specs.declared.faults.TheConstants as codes
+use Rattle.dwexpr_c.specs.declared.piece_kinds.TheConstants as piece_kinds
+use Rattle.dwexpr_c.specs.declared.requests.TheConstants as shown
+use Rattle.dwexpr_c.specs.declared.step_kinds.TheConstants as step_kinds
+use Rattle.dwexpr_c.specs.declared.types.TheConstants as types
 
 -- all numbers are 0: nothing was evaluated
 abbrev pub blank_outcome : DwexprOutcome
 blank_outcome = record {
   code = 0;
-  request = 0;
+  request = shown.NOTHING;
   detail = 0;
   step = 0;
   number = 0;
@@ -31,7 +35,7 @@ blank_outcome = record {
   register_number = 0;
   size = 0;
   flag = 0;
-  value_type = 0;
+  value_type = types.NO_TYPE;
   value = 0;
   block_text = 0;
   block_offset = 0;
@@ -50,26 +54,26 @@ ended_outcome code number step = record blank_outcome { code = code; detail = nu
 -- a request and what it names, but for a block
 abbrev pub shown_request : Request → DwexprOutcome
 shown_request (requests.RequiresMemory address size None base_type) =
-    record (request_outcome 2 address) { size = size; base_type = base_type }
+    record (request_outcome shown.WANTS_MEMORY address) { size = size; base_type = base_type }
 shown_request (requests.RequiresMemory address size (Some space) base_type) =
-    record (request_outcome 2 address) { size = size; base_type = base_type; flag = 1; space = space }
+    record (request_outcome shown.WANTS_MEMORY address) { size = size; base_type = base_type; flag = 1; space = space }
 shown_request (requests.RequiresRegister register base_type) =
-    record (request_outcome 3 0) { register_number = register; base_type = base_type }
-shown_request requests.RequiresFrameBase = request_outcome 4 0
-shown_request (requests.RequiresTls index) = request_outcome 5 index
-shown_request requests.RequiresCallFrameCfa = request_outcome 6 0
-shown_request (requests.RequiresAtLocation (operations.UnitRef offset)) = request_outcome 7 offset
+    record (request_outcome shown.WANTS_REGISTER 0) { register_number = register; base_type = base_type }
+shown_request requests.RequiresFrameBase = request_outcome shown.WANTS_FRAME_BASE 0
+shown_request (requests.RequiresTls index) = request_outcome shown.WANTS_TLS index
+shown_request requests.RequiresCallFrameCfa = request_outcome shown.WANTS_CFA 0
+shown_request (requests.RequiresAtLocation (operations.UnitRef offset)) = request_outcome shown.WANTS_LOCATION offset
 shown_request (requests.RequiresAtLocation (operations.DebugInfoRef offset)) =
-    record (request_outcome 7 offset) { flag = 1 }
-shown_request (requests.RequiresEntryValue expression) = request_outcome 8 0
-shown_request (requests.RequiresParameterRef offset) = request_outcome 9 offset
-shown_request (requests.RequiresRelocatedAddress address) = request_outcome 10 address
+    record (request_outcome shown.WANTS_LOCATION offset) { flag = 1 }
+shown_request (requests.RequiresEntryValue expression) = request_outcome shown.WANTS_ENTRY_VALUE 0
+shown_request (requests.RequiresParameterRef offset) = request_outcome shown.WANTS_PARAMETER offset
+shown_request (requests.RequiresRelocatedAddress address) = request_outcome shown.WANTS_RELOCATED address
 shown_request (requests.RequiresIndexedAddress index relocate) =
-    record (request_outcome 11 index) { flag = flag_of relocate }
-shown_request (requests.RequiresBaseType offset) = record (request_outcome 12 0) { base_type = offset }
-shown_request (requests.RequiresWasmLocal index) = request_outcome 13 index
-shown_request (requests.RequiresWasmGlobal index) = request_outcome 14 index
-shown_request (requests.RequiresWasmStack index) = request_outcome 15 index
+    record (request_outcome shown.WANTS_INDEXED index) { flag = flag_of relocate }
+shown_request (requests.RequiresBaseType offset) = record (request_outcome shown.WANTS_BASE_TYPE 0) { base_type = offset }
+shown_request (requests.RequiresWasmLocal index) = request_outcome shown.WANTS_WASM_LOCAL index
+shown_request (requests.RequiresWasmGlobal index) = request_outcome shown.WANTS_WASM_GLOBAL index
+shown_request (requests.RequiresWasmStack index) = request_outcome shown.WANTS_WASM_STACK index
 
 -- the outcome names the place of these bytes, and nothing else differs
 abbrev pub ShowsBlock : List DwexprText → List ℕ → (shown out : DwexprOutcome) → Type 0
@@ -80,7 +84,7 @@ ShowsBlock texts block shown out =
 -- the outcome shows a request, with the place of its block
 abbrev pub ShowsRequest : List DwexprText → Request → DwexprOutcome → Type 0
 ShowsRequest texts (requests.RequiresEntryValue expression) out =
-    ShowsBlock texts expression.bytes (request_outcome 8 0) out
+    ShowsBlock texts expression.bytes (request_outcome shown.WANTS_ENTRY_VALUE 0) out
 ShowsRequest texts request out = out ≡ shown_request request
 
 -- a call replied a request
@@ -90,9 +94,9 @@ ShowsReply texts _ out = ⊥
 
 -- the value of a complete evaluation, and how many pieces it has
 abbrev pub complete_outcome : (pieces : ℕ) → Option Value → DwexprOutcome
-complete_outcome pieces None = record (request_outcome 1 0) { pieces = pieces }
+complete_outcome pieces None = record (request_outcome shown.COMPLETE 0) { pieces = pieces }
 complete_outcome pieces (Some value) =
-    record (request_outcome 1 0) {
+    record (request_outcome shown.COMPLETE 0) {
       value_type = (shown_value value).value_type;
       value = (shown_value value).content;
       pieces = pieces;
@@ -109,23 +113,23 @@ resume_or answer (Some x) code = Ok (meaning.Resume (answer x))
 abbrev pub step_coded : (big : Bool) → List DwexprText → DwexprStep → Result meaning.Step ℕ
 step_coded big texts step =
     let value = value_coded step.value_type step.number in
-    if step.kind == 1 then Ok (meaning.InitialValue step.number)
-    else if step.kind == 2 then Ok (meaning.ObjectAddress step.number)
-    else if step.kind == 3 then (if nat_lt step.number (2 ^ 32) then Ok (meaning.MaxIterations step.number)
+    if step.kind == step_kinds.SET_INITIAL_VALUE then Ok (meaning.InitialValue step.number)
+    else if step.kind == step_kinds.SET_OBJECT_ADDRESS then Ok (meaning.ObjectAddress step.number)
+    else if step.kind == step_kinds.SET_MAX_ITERATIONS then (if nat_lt step.number (2 ^ 32) then Ok (meaning.MaxIterations step.number)
     else Err codes.BAD_STEP)
-    else if step.kind == 4 then Ok meaning.Evaluate
-    else if step.kind == 5 then resume_or (requests.ValueAnswer kind.Memory) value codes.BAD_STEP
-    else if step.kind == 6 then resume_or (requests.ValueAnswer kind.Register) value codes.BAD_STEP
-    else if step.kind == 7 then resume_or (requests.ValueAnswer kind.WasmValue) value codes.BAD_STEP
-    else if step.kind == 8 then resume_or (requests.ValueAnswer kind.EntryValue) value codes.BAD_STEP
-    else if step.kind == 9 then Ok (meaning.Resume (requests.NumberAnswer kind.FrameBase step.number))
-    else if step.kind == 10 then Ok (meaning.Resume (requests.NumberAnswer kind.Tls step.number))
-    else if step.kind == 11 then Ok (meaning.Resume (requests.NumberAnswer kind.CallFrameCfa step.number))
-    else if step.kind == 12 then Ok (meaning.Resume (requests.NumberAnswer kind.ParameterRef step.number))
-    else if step.kind == 13 then Ok (meaning.Resume (requests.NumberAnswer kind.RelocatedAddress step.number))
-    else if step.kind == 14 then Ok (meaning.Resume (requests.NumberAnswer kind.IndexedAddress step.number))
-    else if step.kind == 15 then resume_or requests.LocationAnswer (text_at big texts step.text) codes.BAD_TEXT
-    else if step.kind == 16 then resume_or requests.BaseTypeAnswer (type_coded step.value_type) codes.BAD_STEP
+    else if step.kind == step_kinds.EVALUATE then Ok meaning.Evaluate
+    else if step.kind == step_kinds.ANSWER_MEMORY then resume_or (requests.ValueAnswer kind.Memory) value codes.BAD_STEP
+    else if step.kind == step_kinds.ANSWER_REGISTER then resume_or (requests.ValueAnswer kind.Register) value codes.BAD_STEP
+    else if step.kind == step_kinds.ANSWER_WASM then resume_or (requests.ValueAnswer kind.WasmValue) value codes.BAD_STEP
+    else if step.kind == step_kinds.ANSWER_ENTRY_VALUE then resume_or (requests.ValueAnswer kind.EntryValue) value codes.BAD_STEP
+    else if step.kind == step_kinds.ANSWER_FRAME_BASE then Ok (meaning.Resume (requests.NumberAnswer kind.FrameBase step.number))
+    else if step.kind == step_kinds.ANSWER_TLS then Ok (meaning.Resume (requests.NumberAnswer kind.Tls step.number))
+    else if step.kind == step_kinds.ANSWER_CFA then Ok (meaning.Resume (requests.NumberAnswer kind.CallFrameCfa step.number))
+    else if step.kind == step_kinds.ANSWER_PARAMETER then Ok (meaning.Resume (requests.NumberAnswer kind.ParameterRef step.number))
+    else if step.kind == step_kinds.ANSWER_RELOCATED then Ok (meaning.Resume (requests.NumberAnswer kind.RelocatedAddress step.number))
+    else if step.kind == step_kinds.ANSWER_INDEXED then Ok (meaning.Resume (requests.NumberAnswer kind.IndexedAddress step.number))
+    else if step.kind == step_kinds.ANSWER_LOCATION then resume_or requests.LocationAnswer (text_at big texts step.text) codes.BAD_TEXT
+    else if step.kind == step_kinds.ANSWER_BASE_TYPE then resume_or requests.BaseTypeAnswer (type_coded step.value_type) codes.BAD_STEP
     else Err codes.BAD_STEP
 
 -- ---- pieces
@@ -138,7 +142,7 @@ piece_of_kind kind size_in_bits bit_offset = record {
   size_in_bits = unwrap_or size_in_bits 0;
   bit_offset = unwrap_or bit_offset 0;
   has_bit_offset = flag_of (is_some bit_offset);
-  value_type = 0;
+  value_type = types.NO_TYPE;
   number = 0;
   byte_offset = pos 0;
   block_text = 0;
@@ -154,19 +158,19 @@ ShowsBytes texts block shown out =
 
 -- the place shows a location, with its size and offset
 abbrev pub ShowsLocation : List DwexprText → (size_in_bits bit_offset : Option ℕ) → Location → DwexprPiece → Type 0
-ShowsLocation texts size offset Empty out = out ≡ piece_of_kind 1 size offset
+ShowsLocation texts size offset Empty out = out ≡ piece_of_kind piece_kinds.EMPTY size offset
 ShowsLocation texts size offset (InRegister register) out =
-    out ≡ record (piece_of_kind 2 size offset) { number = register }
+    out ≡ record (piece_of_kind piece_kinds.IN_REGISTER size offset) { number = register }
 ShowsLocation texts size offset (AtAddress address) out =
-    out ≡ record (piece_of_kind 3 size offset) { number = address }
+    out ≡ record (piece_of_kind piece_kinds.AT_ADDRESS size offset) { number = address }
 ShowsLocation texts size offset (HoldsValue value) out =
-    out ≡ record (piece_of_kind 4 size offset) {
+    out ≡ record (piece_of_kind piece_kinds.HOLDS_VALUE size offset) {
       value_type = (shown_value value).value_type;
       number = (shown_value value).content;
     }
-ShowsLocation texts size offset (HoldsBytes value) out = ShowsBytes texts value.bytes (piece_of_kind 5 size offset) out
+ShowsLocation texts size offset (HoldsBytes value) out = ShowsBytes texts value.bytes (piece_of_kind piece_kinds.HOLDS_BYTES size offset) out
 ShowsLocation texts size offset (PointsInto value byte_offset) out =
-    out ≡ record (piece_of_kind 6 size offset) { number = value; byte_offset = byte_offset }
+    out ≡ record (piece_of_kind piece_kinds.POINTS_INTO size offset) { number = value; byte_offset = byte_offset }
 
 -- the place shows a piece
 abbrev pub ShowsPiece : List DwexprText → Piece → DwexprPiece → Type 0

@@ -12,6 +12,7 @@ ghost use Rattle.dwexpr_c.specs.Held.{HasCapacities, StandsAfter, given_at};
 ghost use Rattle.dwexpr_c.specs.Outcomes.{ended_outcome, step_coded};
 ghost use Rattle.dwexpr_c.specs.StepEffects.{DoesStep, FinishesOutcome};
 ghost use Rattle.dwexpr_c.specs.Settings.{number_step, steps_in};
+ghost use Rattle.dwexpr_c.specs.declared.step_kinds.TheConstants as step_kinds;
 ghost use Rattle.dwexpr_c.specs.inner.Runs.{IsGiven, Runs, latest};
 
 use crate::faults::{FaultNumbers, LOST_TEXT, MISPLACED, code_alone, numbers_of};
@@ -19,6 +20,7 @@ use crate::outcomes::{BLANK, DwexprOutcome, show_complete, show_end, show_reques
 use crate::pieces::{DwexprPiece, write_pieces};
 use crate::places::Placed;
 use crate::settings::DwexprSettings;
+use crate::step_kinds;
 use crate::steps::{DwexprStep, DwexprText, generic_in, step_of};
 use dwarf_base::{Result, RunTimeEndian};
 use dwarf_eval::eval::{Evaluation, Status, WaitingKind};
@@ -124,11 +126,11 @@ fn do_early_step<'a, S: EvaluationStorage<Placed<'a>>>(
         evaluation.old evaluation.new outcome.old outcome.new result }
 {
     match numbers.kind {
-        2 => {
+        step_kinds::SET_OBJECT_ADDRESS => {
             evaluation.set_object_address(numbers.number);
             Progress::Set
         }
-        3 => match u32::try_from(numbers.number) {
+        step_kinds::SET_MAX_ITERATIONS => match u32::try_from(numbers.number) {
             Ok(maximum) => {
                 evaluation.set_max_iterations(maximum);
                 Progress::Set
@@ -152,19 +154,19 @@ fn try_answer<'a, S: EvaluationStorage<Placed<'a>>>(
     ensures none { IfNone result (evaluation.new ≡ evaluation.old) }
 {
     match numbers.kind {
-        5 if evaluation.is_open_for(WaitingKind::Memory) => {
+        step_kinds::ANSWER_MEMORY if evaluation.is_open_for(WaitingKind::Memory) => {
             Some(evaluation.resume_with_memory(generic_in(numbers)?))
         }
-        6 if evaluation.is_open_for(WaitingKind::Register) => {
+        step_kinds::ANSWER_REGISTER if evaluation.is_open_for(WaitingKind::Register) => {
             Some(evaluation.resume_with_register(generic_in(numbers)?))
         }
-        8 if evaluation.is_open_for(WaitingKind::EntryValue) => {
+        step_kinds::ANSWER_ENTRY_VALUE if evaluation.is_open_for(WaitingKind::EntryValue) => {
             Some(evaluation.resume_with_entry_value(generic_in(numbers)?))
         }
-        9 if evaluation.is_open_for(WaitingKind::FrameBase) => {
+        step_kinds::ANSWER_FRAME_BASE if evaluation.is_open_for(WaitingKind::FrameBase) => {
             Some(evaluation.resume_with_frame_base(numbers.number))
         }
-        11 if evaluation.is_open_for(WaitingKind::CallFrameCfa) => {
+        step_kinds::ANSWER_CFA if evaluation.is_open_for(WaitingKind::CallFrameCfa) => {
             Some(evaluation.resume_with_call_frame_cfa(numbers.number))
         }
         _ => None,
@@ -233,7 +235,7 @@ fn set<'a, S: EvaluationStorage<Placed<'a>>>(
     settings: DwexprSettings,
 ) -> usize
     ensures said { (big : Bool) (texts : List DwexprText)
-        → step_coded big texts (number_step 3 settings.max_iterations)
+        → step_coded big texts (number_step step_kinds.SET_MAX_ITERATIONS settings.max_iterations)
         ≡ Ok (MaxIterations settings.max_iterations) }
     ensures status { evaluation.new.status ≡ evaluation.old.status }
     ensures without { settings.has_object_address ≡ 0

@@ -9,6 +9,50 @@ use dwarf_base::Error;
 /// The code of what went well.
 pub(crate) const OK: u32 = 0;
 
+// The codes of faults.
+
+pub(crate) const UNEXPECTED_EOF: u32 = 1;
+
+pub(crate) const BAD_UNSIGNED_LEB128: u32 = 2;
+
+pub(crate) const BAD_SIGNED_LEB128: u32 = 3;
+
+pub(crate) const UNSUPPORTED_ADDRESS_SIZE: u32 = 4;
+
+pub(crate) const UNSUPPORTED_OFFSET: u32 = 5;
+
+pub(crate) const UNSUPPORTED_REGISTER: u32 = 6;
+
+pub(crate) const INVALID_EXPRESSION: u32 = 7;
+
+pub(crate) const INVALID_PIECE_SIZE: u32 = 8;
+
+pub(crate) const UNSUPPORTED_TYPE_OPERATION: u32 = 9;
+
+pub(crate) const TYPE_MISMATCH: u32 = 10;
+
+pub(crate) const DIVISION_BY_ZERO: u32 = 11;
+
+pub(crate) const INVALID_SHIFT_EXPRESSION: u32 = 12;
+
+pub(crate) const NOT_ENOUGH_STACK_ITEMS: u32 = 13;
+
+pub(crate) const INVALID_DEREF_SIZE: u32 = 14;
+
+pub(crate) const INVALID_PUSH_OBJECT_ADDRESS: u32 = 15;
+
+pub(crate) const UNSUPPORTED_EVALUATION: u32 = 16;
+
+pub(crate) const BAD_BRANCH_TARGET: u32 = 17;
+
+pub(crate) const TOO_MANY_ITERATIONS: u32 = 18;
+
+pub(crate) const INVALID_PIECE: u32 = 19;
+
+pub(crate) const INVALID_EXPRESSION_TERMINATOR: u32 = 20;
+
+pub(crate) const STACK_FULL: u32 = 21;
+
 /// The code of an encoding whose numbers say none.
 pub(crate) const BAD_ENCODING: u32 = 64;
 
@@ -62,26 +106,29 @@ pub(crate) fn numbers_of(error: Error) -> FaultNumbers
         } }
 {
     match error {
-        Error::UnexpectedEof(_) => code_alone(1),
-        Error::BadUnsignedLeb128 => code_alone(2),
-        Error::BadSignedLeb128 => code_alone(3),
-        Error::UnsupportedAddressSize(size) => code_with(4, u64::from(size)),
-        Error::UnsupportedOffset => code_alone(5),
-        Error::UnsupportedRegister(register) => code_with(6, register),
-        Error::InvalidExpression(opcode) => code_with(7, u64::from(opcode.0)),
-        Error::InvalidPieceSize(size) => code_with(8, size),
-        Error::UnsupportedTypeOperation => code_alone(9),
-        Error::TypeMismatch => code_alone(10),
-        Error::DivisionByZero => code_alone(11),
-        Error::InvalidShiftExpression => code_alone(12),
-        Error::NotEnoughStackItems => code_alone(13),
-        Error::InvalidDerefSize(size) => code_with(14, u64::from(size)),
-        Error::InvalidPushObjectAddress => code_alone(15),
-        Error::UnsupportedEvaluation => code_alone(16),
-        Error::BadBranchTarget(target) => code_with(17, target),
-        Error::TooManyIterations => code_alone(18),
-        Error::InvalidPiece => code_alone(19),
-        Error::InvalidExpressionTerminator(place) => code_with(20, place),
-        Error::StackFull => code_alone(21),
+        Error::UnexpectedEof(_) => code_alone(UNEXPECTED_EOF),
+        Error::BadUnsignedLeb128 => code_alone(BAD_UNSIGNED_LEB128),
+        Error::BadSignedLeb128 => code_alone(BAD_SIGNED_LEB128),
+        Error::UnsupportedAddressSize(size) => code_with(UNSUPPORTED_ADDRESS_SIZE, u64::from(size)),
+        Error::UnsupportedOffset => code_alone(UNSUPPORTED_OFFSET),
+        Error::UnsupportedRegister(register) => code_with(UNSUPPORTED_REGISTER, register),
+        Error::InvalidExpression(opcode) => code_with(INVALID_EXPRESSION, u64::from(opcode.0)),
+        Error::InvalidPieceSize(size) => code_with(INVALID_PIECE_SIZE, size),
+        Error::UnsupportedTypeOperation => code_alone(UNSUPPORTED_TYPE_OPERATION),
+        Error::TypeMismatch => code_alone(TYPE_MISMATCH),
+        Error::DivisionByZero => code_alone(DIVISION_BY_ZERO),
+        Error::InvalidShiftExpression => code_alone(INVALID_SHIFT_EXPRESSION),
+        Error::NotEnoughStackItems => code_alone(NOT_ENOUGH_STACK_ITEMS),
+        Error::InvalidDerefSize(size) => code_with(INVALID_DEREF_SIZE, u64::from(size)),
+        Error::InvalidPushObjectAddress => code_alone(INVALID_PUSH_OBJECT_ADDRESS),
+        Error::UnsupportedEvaluation => code_alone(UNSUPPORTED_EVALUATION),
+        Error::BadBranchTarget(target) => code_with(BAD_BRANCH_TARGET, target),
+        Error::TooManyIterations => code_alone(TOO_MANY_ITERATIONS),
+        Error::InvalidPiece => code_alone(INVALID_PIECE),
+        Error::InvalidExpressionTerminator(place) => code_with(
+            INVALID_EXPRESSION_TERMINATOR,
+            place,
+        ),
+        Error::StackFull => code_alone(STACK_FULL),
     }
 }

@@ -15,11 +15,15 @@ mod holding;
 mod kinds;
 mod operations;
 mod outcomes;
+mod piece_kinds;
 mod pieces;
 mod places;
+mod requests;
 mod settings;
 mod starting;
+mod step_kinds;
 mod steps;
+mod types;
 mod values;
 
 use crate::encodings::DwexprEncoding;

@@ -3,12 +3,14 @@
 ghost use Rattle.std.specs.Prelude.{◌≡◌, true, false};
 ghost use Rattle.dwarf_eval.specs.Evaluation.{ok_reply};
 ghost use Rattle.dwexpr_c.specs.Outcomes.{ShowsReply, request_outcome, complete_outcome, ended_outcome};
+ghost use Rattle.dwexpr_c.specs.declared.requests.TheConstants as requests;
 ghost use Rattle.dwexpr_c.specs.CallerTexts.{text_of_placed, AsksNowhere};
 
 use crate::faults::{FaultNumbers, OK};
 use crate::places::Placed;
 use crate::steps::{DwexprText, place_of};
 use crate::values::{DwexprValue, NO_VALUE, numbers_of_value};
+use crate::{requests, types};
 use dwarf_base::Reader;
 use dwarf_eval::op::EvaluationResult;
 use dwarf_op::DieReference;
@@ -54,7 +56,7 @@ pub struct DwexprOutcome {
 
 pub(crate) const BLANK: DwexprOutcome = DwexprOutcome {
     code: OK,
-    request: 0,
+    request: requests::NOTHING,
     detail: 0,
     step: 0,
     number: 0,
@@ -63,7 +65,7 @@ pub(crate) const BLANK: DwexprOutcome = DwexprOutcome {
     register_number: 0,
     size: 0,
     flag: 0,
-    value_type: 0,
+    value_type: types::NO_TYPE,
     value: 0,
     block_text: 0,
     block_offset: 0,
@@ -95,12 +97,12 @@ fn request_outcome(request: u32, number: u64) -> DwexprOutcome
 
 /// A request of memory.
 fn memory_outcome(address: u64, size: u8, base_type: usize) -> DwexprOutcome
-    ensures { result ≡ record (request_outcome 2 address) { size = size; base_type = base_type } }
+    ensures { result ≡ record (request_outcome requests.WANTS_MEMORY address) { size = size; base_type = base_type } }
 {
     DwexprOutcome {
         size: u32::from(size),
         base_type: base_type as u64,
-        ..request_outcome(2, address)
+        ..request_outcome(requests::WANTS_MEMORY, address)
     }
 }
 
@@ -141,17 +143,26 @@ pub(crate) fn show_request(
         } => *outcome = DwexprOutcome {
             register_number: u32::from(register.0),
             base_type: base_type.0 as u64,
-            ..request_outcome(3, 0)
+            ..request_outcome(requests::WANTS_REGISTER, 0)
         },
-        EvaluationResult::RequiresFrameBase => *outcome = request_outcome(4, 0),
-        EvaluationResult::RequiresTls(index) => *outcome = request_outcome(5, index),
-        EvaluationResult::RequiresCallFrameCfa => *outcome = request_outcome(6, 0),
+        EvaluationResult::RequiresFrameBase => *outcome = request_outcome(
+            requests::WANTS_FRAME_BASE,
+            0,
+        ),
+        EvaluationResult::RequiresTls(index) => *outcome = request_outcome(
+            requests::WANTS_TLS,
+            index,
+        ),
+        EvaluationResult::RequiresCallFrameCfa => *outcome = request_outcome(
+            requests::WANTS_CFA,
+            0,
+        ),
         EvaluationResult::RequiresAtLocation(DieReference::UnitRef(offset)) => *outcome =
-            request_outcome(7, offset.0 as u64),
+            request_outcome(requests::WANTS_LOCATION, offset.0 as u64),
         EvaluationResult::RequiresAtLocation(DieReference::DebugInfoRef(offset)) => *outcome =
             DwexprOutcome {
                 flag: 1,
-                ..request_outcome(7, offset.0 as u64)
+                ..request_outcome(requests::WANTS_LOCATION, offset.0 as u64)
             },
         EvaluationResult::RequiresEntryValue(expression) => {
             let Some(place) = place_of(texts, expression.0) else {
@@ -161,34 +172,35 @@ pub(crate) fn show_request(
                 block_text: place.text,
                 block_offset: place.offset,
                 block_length: expression.0.len(),
-                ..request_outcome(8, 0)
+                ..request_outcome(requests::WANTS_ENTRY_VALUE, 0)
             };
         }
         EvaluationResult::RequiresParameterRef(offset) => *outcome = request_outcome(
-            9,
+            requests::WANTS_PARAMETER,
             offset.0 as u64,
         ),
         EvaluationResult::RequiresRelocatedAddress(address) => *outcome = request_outcome(
-            10, address,
+            requests::WANTS_RELOCATED,
+            address,
         ),
         EvaluationResult::RequiresIndexedAddress { index, relocate } => *outcome = DwexprOutcome {
             flag: u32::from(relocate),
-            ..request_outcome(11, index.0 as u64)
+            ..request_outcome(requests::WANTS_INDEXED, index.0 as u64)
         },
         EvaluationResult::RequiresBaseType(offset) => *outcome = DwexprOutcome {
             base_type: offset.0 as u64,
-            ..request_outcome(12, 0)
+            ..request_outcome(requests::WANTS_BASE_TYPE, 0)
         },
         EvaluationResult::RequiresWasmLocal { index } => *outcome = request_outcome(
-            13,
+            requests::WANTS_WASM_LOCAL,
             u64::from(index),
         ),
         EvaluationResult::RequiresWasmGlobal { index } => *outcome = request_outcome(
-            14,
+            requests::WANTS_WASM_GLOBAL,
             u64::from(index),
         ),
         EvaluationResult::RequiresWasmStack { index } => *outcome = request_outcome(
-            15,
+            requests::WANTS_WASM_STACK,
             u64::from(index),
         ),
     }
@@ -204,7 +216,7 @@ pub(crate) fn show_complete(pieces: usize, value: Option<Value>) -> DwexprOutcom
         None => NO_VALUE,
         // Most are.
         Some(Value::Generic(content)) => DwexprValue {
-            value_type: 1,
+            value_type: types::GENERIC,
             content,
         },
         Some(value) => numbers_of_value(value),
@@ -213,6 +225,6 @@ pub(crate) fn show_complete(pieces: usize, value: Option<Value>) -> DwexprOutcom
         value_type: numbers.value_type,
         value: numbers.content,
         pieces,
-        ..request_outcome(1, 0)
+        ..request_outcome(requests::COMPLETE, 0)
     }
 }

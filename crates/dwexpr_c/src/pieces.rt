@@ -8,6 +8,7 @@ ghost use Rattle.dwexpr_c.specs.CallerTexts.{text_of_placed, HoldsNowhere, SomeN
 use crate::places::Placed;
 use crate::steps::{DwexprText, place_of};
 use crate::values::numbers_of_value;
+use crate::{piece_kinds, types};
 use dwarf_base::Reader;
 use dwarf_op::{Location, Piece};
 
@@ -48,7 +49,7 @@ fn piece_of_kind(kind: u32, size_in_bits: Option<u64>, bit_offset: Option<u64>) 
         size_in_bits: size_in_bits.unwrap_or(0),
         bit_offset: bit_offset.unwrap_or(0),
         has_bit_offset: u32::from(bit_offset.is_some()),
-        value_type: 0,
+        value_type: types::NO_TYPE,
         number: 0,
         byte_offset: 0,
         block_text: 0,
@@ -72,21 +73,21 @@ fn show_location(
         → HoldsNowhere texts.now (location_of text_of_placed (λ x. x) location.entry) }
 {
     match location {
-        Location::Empty => *shown = piece_of_kind(1, size, offset),
+        Location::Empty => *shown = piece_of_kind(piece_kinds::EMPTY, size, offset),
         Location::Register { register } => *shown = DwexprPiece {
             number: u64::from(register.0),
-            ..piece_of_kind(2, size, offset)
+            ..piece_of_kind(piece_kinds::IN_REGISTER, size, offset)
         },
         Location::Address { address } => *shown = DwexprPiece {
             number: address,
-            ..piece_of_kind(3, size, offset)
+            ..piece_of_kind(piece_kinds::AT_ADDRESS, size, offset)
         },
         Location::Value { value } => {
             let numbers = numbers_of_value(value);
             *shown = DwexprPiece {
                 value_type: numbers.value_type,
                 number: numbers.content,
-                ..piece_of_kind(4, size, offset)
+                ..piece_of_kind(piece_kinds::HOLDS_VALUE, size, offset)
             };
         }
         Location::Bytes { value } => {
@@ -97,13 +98,13 @@ fn show_location(
                 block_text: place.text,
                 block_offset: place.offset,
                 block_length: value.len(),
-                ..piece_of_kind(5, size, offset)
+                ..piece_of_kind(piece_kinds::HOLDS_BYTES, size, offset)
             };
         }
         Location::ImplicitPointer { value, byte_offset } => *shown = DwexprPiece {
             number: value.0 as u64,
             byte_offset,
-            ..piece_of_kind(6, size, offset)
+            ..piece_of_kind(piece_kinds::POINTS_INTO, size, offset)
         },
     }
     true

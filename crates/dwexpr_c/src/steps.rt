@@ -12,6 +12,7 @@ ghost use Rattle.dwexpr_c.specs.declared.faults.TheConstants as codes;
 use crate::faults::{BAD_STEP, BAD_TEXT};
 use crate::places::Placed;
 use crate::values::{type_of_code, value_of};
+use crate::{step_kinds, types};
 use dwarf_base::RunTimeEndian;
 use dwarf_replay::Step;
 use dwarf_value::Value;
@@ -162,7 +163,7 @@ pub(crate) fn generic_in(step: &DwexprStep) -> Option<Value>
         (λ value. value_coded step.now.value_type step.now.number ≡ Some value) }
 {
     match step.value_type {
-        1 => value_of(1, step.number),
+        types::GENERIC => value_of(types::GENERIC, step.number),
         _ => None,
     }
 }
@@ -180,25 +181,29 @@ pub(crate) fn step_of<'a>(
 {
     let number = step.number;
     Ok(match step.kind {
-        1 => Step::InitialValue(number),
-        2 => Step::ObjectAddress(number),
-        3 => match u32::try_from(number) {
+        step_kinds::SET_INITIAL_VALUE => Step::InitialValue(number),
+        step_kinds::SET_OBJECT_ADDRESS => Step::ObjectAddress(number),
+        step_kinds::SET_MAX_ITERATIONS => match u32::try_from(number) {
             Ok(maximum) => Step::MaxIterations(maximum),
             Err(_) => return Err(BAD_STEP),
         },
-        4 => Step::Evaluate,
-        5 => Step::Memory(value_in(step)?),
-        6 => Step::Register(value_in(step)?),
-        7 => Step::WasmValue(value_in(step)?),
-        8 => Step::EntryValue(value_in(step)?),
-        9 => Step::FrameBase(number),
-        10 => Step::Tls(number),
-        11 => Step::CallFrameCfa(number),
-        12 => Step::ParameterRef(number),
-        13 => Step::RelocatedAddress(number),
-        14 => Step::IndexedAddress(number),
-        15 => Step::AtLocation(text_at(texts, order, step.text).ok_or(BAD_TEXT)?),
-        16 => Step::BaseType(type_of_code(step.value_type).ok_or(BAD_STEP)?),
+        step_kinds::EVALUATE => Step::Evaluate,
+        step_kinds::ANSWER_MEMORY => Step::Memory(value_in(step)?),
+        step_kinds::ANSWER_REGISTER => Step::Register(value_in(step)?),
+        step_kinds::ANSWER_WASM => Step::WasmValue(value_in(step)?),
+        step_kinds::ANSWER_ENTRY_VALUE => Step::EntryValue(value_in(step)?),
+        step_kinds::ANSWER_FRAME_BASE => Step::FrameBase(number),
+        step_kinds::ANSWER_TLS => Step::Tls(number),
+        step_kinds::ANSWER_CFA => Step::CallFrameCfa(number),
+        step_kinds::ANSWER_PARAMETER => Step::ParameterRef(number),
+        step_kinds::ANSWER_RELOCATED => Step::RelocatedAddress(number),
+        step_kinds::ANSWER_INDEXED => Step::IndexedAddress(number),
+        step_kinds::ANSWER_LOCATION => Step::AtLocation(text_at(texts, order, step.text).ok_or(
+            BAD_TEXT,
+        )?),
+        step_kinds::ANSWER_BASE_TYPE => Step::BaseType(type_of_code(step.value_type).ok_or(
+            BAD_STEP,
+        )?),
         _ => return Err(BAD_STEP),
     })
 }

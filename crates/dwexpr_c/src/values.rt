@@ -3,6 +3,7 @@
 ghost use Rattle.std.specs.Prelude.{◌≡◌};
 ghost use Rattle.dwexpr_c.specs.CodedValues.{shown_value, type_code, type_coded, value_coded};
 
+use crate::types;
 use dwarf_value::{Value, ValueType};
 
 /// The type of a code.
@@ -11,15 +12,15 @@ pub(crate) fn type_of_code(code: u32) -> Option<ValueType>
     ensures { result ≡ type_coded code }
 {
     match code {
-        1 => Some(ValueType::Generic),
-        2 => Some(ValueType::I8),
-        3 => Some(ValueType::U8),
-        4 => Some(ValueType::I16),
-        5 => Some(ValueType::U16),
-        6 => Some(ValueType::I32),
-        7 => Some(ValueType::U32),
-        8 => Some(ValueType::I64),
-        9 => Some(ValueType::U64),
+        types::GENERIC => Some(ValueType::Generic),
+        types::I8 => Some(ValueType::I8),
+        types::U8 => Some(ValueType::U8),
+        types::I16 => Some(ValueType::I16),
+        types::U16 => Some(ValueType::U16),
+        types::I32 => Some(ValueType::I32),
+        types::U32 => Some(ValueType::U32),
+        types::I64 => Some(ValueType::I64),
+        types::U64 => Some(ValueType::U64),
         _ => None,
     }
 }
@@ -29,16 +30,16 @@ pub(crate) fn code_of_type(value_type: Option<ValueType>) -> u32
     ensures { result ≡ type_code value_type }
 {
     match value_type {
-        None => 0,
-        Some(ValueType::Generic) => 1,
-        Some(ValueType::I8) => 2,
-        Some(ValueType::U8) => 3,
-        Some(ValueType::I16) => 4,
-        Some(ValueType::U16) => 5,
-        Some(ValueType::I32) => 6,
-        Some(ValueType::U32) => 7,
-        Some(ValueType::I64) => 8,
-        Some(ValueType::U64) => 9,
+        None => types::NO_TYPE,
+        Some(ValueType::Generic) => types::GENERIC,
+        Some(ValueType::I8) => types::I8,
+        Some(ValueType::U8) => types::U8,
+        Some(ValueType::I16) => types::I16,
+        Some(ValueType::U16) => types::U16,
+        Some(ValueType::I32) => types::I32,
+        Some(ValueType::U32) => types::U32,
+        Some(ValueType::I64) => types::I64,
+        Some(ValueType::U64) => types::U64,
     }
 }
 
@@ -54,7 +55,7 @@ pub struct DwexprValue {
 
 /// No value.
 pub(crate) const NO_VALUE: DwexprValue = DwexprValue {
-    value_type: 0,
+    value_type: types::NO_TYPE,
     content: 0,
 };
 
@@ -64,15 +65,15 @@ pub(crate) fn numbers_of_value(value: Value) -> DwexprValue
     ensures { result ≡ shown_value value }
 {
     let (value_type, content) = match value {
-        Value::Generic(content) => (1, content),
-        Value::I8(number) => (2, i64::from(number).cast_unsigned()),
-        Value::U8(number) => (3, u64::from(number)),
-        Value::I16(number) => (4, i64::from(number).cast_unsigned()),
-        Value::U16(number) => (5, u64::from(number)),
-        Value::I32(number) => (6, i64::from(number).cast_unsigned()),
-        Value::U32(number) => (7, u64::from(number)),
-        Value::I64(number) => (8, number.cast_unsigned()),
-        Value::U64(number) => (9, number),
+        Value::Generic(content) => (types::GENERIC, content),
+        Value::I8(number) => (types::I8, i64::from(number).cast_unsigned()),
+        Value::U8(number) => (types::U8, u64::from(number)),
+        Value::I16(number) => (types::I16, i64::from(number).cast_unsigned()),
+        Value::U16(number) => (types::U16, u64::from(number)),
+        Value::I32(number) => (types::I32, i64::from(number).cast_unsigned()),
+        Value::U32(number) => (types::U32, u64::from(number)),
+        Value::I64(number) => (types::I64, number.cast_unsigned()),
+        Value::U64(number) => (types::U64, number),
     };
     DwexprValue {
         value_type,

@@ -103,8 +103,8 @@ REFUSED_OF_C = [
 TAKEN_OF_C = [
     ("c/held", "ensures* writes_back {", "ensures* {", "", ""),
     ("c/decoding", "ensures code { result", "ensures more { ⊤ }\n    ensures code { result", "", ""),
-    ("c/pieces", "piece_of_kind(1, size, offset)", "piece_of_kind(7, size, offset)",
-     "piece_of_kind(1, size, offset)", "piece_of_kind(7, size, offset)"),
+    ("c/pieces", "piece_of_kind(piece_kinds::EMPTY, size", "piece_of_kind(piece_kinds::HOLDS_BYTES, size",
+     "piece_of_kind(piece_kinds::EMPTY, size", "piece_of_kind(piece_kinds::HOLDS_BYTES, size"),
 ]  # fmt: skip
 
 

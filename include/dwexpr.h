@@ -341,16 +341,19 @@ uint32_t dwexpr_evaluation_start(dwexpr_evaluation *evaluation, const dwexpr_tex
 /* What an evaluation starts with. */
 typedef struct dwexpr_settings {
     uint32_t max_iterations;     /* how many operations there may be; 0 are none */
-    uint32_t has_object_address; /* 0: no object's address is known */
+    uint16_t has_object_address; /* 0: no object's address is known */
+    uint16_t has_initial_value;  /* 0: the stack is empty at the start */
     uint64_t object_address;     /* for DW_OP_push_object_address */
+    uint64_t initial_value;      /* stands on the stack at the start */
 } dwexpr_settings;
 
 /* Starts texts[0] with the settings, and evaluates it to the first request or to the end. It answers and writes the same
- * as dwexpr_evaluation_start with up to three steps, and takes less time: DWEXPR_SET_MAX_ITERATIONS, then
- * DWEXPR_SET_OBJECT_ADDRESS if there is one, and DWEXPR_EVALUATE. So in `step` a fault has 1, or 2 with an address. */
+ * as dwexpr_evaluation_start with up to four steps, and takes less time: DWEXPR_SET_MAX_ITERATIONS, then
+ * DWEXPR_SET_OBJECT_ADDRESS and DWEXPR_SET_INITIAL_VALUE if they are there, and DWEXPR_EVALUATE. `step` has the index
+ * of the last one if there is a fault, 1 to 3. */
 uint32_t dwexpr_evaluation_evaluate(dwexpr_evaluation *evaluation, const dwexpr_text *texts, size_t texts_length,
-                                    dwexpr_encoding encoding, dwexpr_settings settings, dwexpr_outcome *outcome,
-                                    dwexpr_piece *pieces, size_t pieces_length);
+                                    dwexpr_encoding encoding, const dwexpr_settings *settings,
+                                    dwexpr_outcome *outcome, dwexpr_piece *pieces, size_t pieces_length);
 
 /* Takes one more step: the answer to what was asked, or a setting.
  *
@@ -561,10 +564,12 @@ DWEXPR_AT(dwexpr_step, kind, 0, 0, 0);
 DWEXPR_AT(dwexpr_step, value_type, 4, 4, 4);
 DWEXPR_AT(dwexpr_step, number, 8, 8, 8);
 DWEXPR_AT(dwexpr_step, text, 16, 16, 16);
-DWEXPR_SIZE(dwexpr_settings, 16, 16, 16);
+DWEXPR_SIZE(dwexpr_settings, 24, 24, 24);
 DWEXPR_AT(dwexpr_settings, max_iterations, 0, 0, 0);
 DWEXPR_AT(dwexpr_settings, has_object_address, 4, 4, 4);
+DWEXPR_AT(dwexpr_settings, has_initial_value, 6, 6, 6);
 DWEXPR_AT(dwexpr_settings, object_address, 8, 8, 8);
+DWEXPR_AT(dwexpr_settings, initial_value, 16, 16, 16);
 DWEXPR_SIZE(dwexpr_value, 16, 16, 12);
 DWEXPR_AT(dwexpr_value, value_type, 0, 0, 0);
 DWEXPR_AT(dwexpr_value, content, 8, 8, 4);

@@ -52,22 +52,22 @@ typedef struct dwexpr_callbacks {
     int (*wasm)(void *context, uint32_t request, uint64_t index, uint32_t *value_type, uint64_t *content);
 } dwexpr_callbacks;
 
-/* Evaluates an expression with the settings, DWEXPR_SET_*, in an evaluation of the caller's, which was begun.
+/* Evaluates an expression with the settings, in an evaluation of the caller's, which was begun.
  *
  * Answers 0 if it is complete; a code; DWEXPR_REFUSED if a callback gave another number than 0, which is then written
  * to `refusal` unless that is NULL; or DWEXPR_TOO_MANY_TEXTS if the table has no room for a called text. There may be
  * any number of requests. `texts->length` and `outcome` are written in each case.
  *
- * An expression may loop. Without a maximum it ends after 4294967295 operations, which takes about half a minute. */
-uint32_t dwexpr_run_in(dwexpr_evaluation *evaluation, const dwexpr_step *settings, size_t settings_length,
-                       dwexpr_text text, dwexpr_encoding encoding, const dwexpr_callbacks *calls, void *context,
-                       int *refusal, dwexpr_texts *texts, dwexpr_outcome *outcome, dwexpr_piece *pieces,
-                       size_t pieces_length);
+ * An expression may loop. With the largest maximum it ends after 4294967295 operations, which takes about half a
+ * minute. */
+uint32_t dwexpr_run_in(dwexpr_evaluation *evaluation, const dwexpr_settings *settings, dwexpr_text text,
+                       dwexpr_encoding encoding, const dwexpr_callbacks *calls, void *context, int *refusal,
+                       dwexpr_texts *texts, dwexpr_outcome *outcome, dwexpr_piece *pieces, size_t pieces_length);
 
 /* The most operations that dwexpr_run allows. */
 #define DWEXPR_RUN_OPERATIONS 100000
 
-/* The same with one setting, a maximum of DWEXPR_RUN_OPERATIONS, in an evaluation on the stack, which it begins anew.
+/* The same with a maximum of DWEXPR_RUN_OPERATIONS and no other setting, in an evaluation on the stack, which it begins anew.
  * That alone takes about as long as a short expression: for many of them begin one, and call dwexpr_run_in. */
 uint32_t dwexpr_run(dwexpr_text text, dwexpr_encoding encoding, const dwexpr_callbacks *calls, void *context,
                     int *refusal, dwexpr_texts *texts, dwexpr_outcome *outcome, dwexpr_piece *pieces,

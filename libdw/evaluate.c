@@ -271,23 +271,17 @@ static uint32_t make_job(enum purpose purpose, dwexpr_libdw_frame *frame, const 
 static uint32_t start(struct job *job, const uint64_t *object, const uint64_t *initial)
 {
     dwexpr_libdw_value *value = job->value;
-    dwexpr_step steps[4] = {{DWEXPR_SET_MAX_ITERATIONS, DWEXPR_NO_TYPE, OPERATIONS, 0}};
-    size_t count = 1;
+    const dwexpr_settings settings = {.max_iterations = OPERATIONS,
+                                      .has_object_address = object != NULL,
+                                      .has_initial_value = initial != NULL,
+                                      .object_address = object ? *object : 0,
+                                      .initial_value = initial ? *initial : 0};
     if (!value->texts[0].length)
         return DWEXPR_LIBDW_OPTIMIZED_AWAY;
     /* it has the bias of addresses */
     dwexpr_libdw_find_place(job->frame);
-    if (object) {
-        steps[count].kind = DWEXPR_SET_OBJECT_ADDRESS;
-        steps[count++].number = *object;
-    }
-    if (initial) {
-        steps[count].kind = DWEXPR_SET_INITIAL_VALUE;
-        steps[count++].number = *initial;
-    }
-    steps[count++].kind = DWEXPR_EVALUATE;
-    return dwexpr_evaluation_start(&job->evaluation, value->texts, 1, value->encoding, steps, count, &value->outcome,
-                                   value->pieces, DWEXPR_MAX_PIECES);
+    return dwexpr_evaluation_evaluate(&job->evaluation, value->texts, 1, value->encoding, &settings, &value->outcome,
+                                      value->pieces, DWEXPR_MAX_PIECES);
 }
 
 static uint32_t resume(struct job *job)

@@ -78,49 +78,15 @@ static size_t index_of(dwexpr_texts *texts, dwexpr_text called)
     return i;
 }
 
-/* Whether the steps set nothing but the maximum and the object's address, which they do then in `settings`. */
-static int is_short(const dwexpr_step *steps, size_t length, dwexpr_settings *settings)
-{
-    size_t i;
-    for (i = 0; i < length; i++) {
-        if (steps[i].kind == DWEXPR_SET_MAX_ITERATIONS && steps[i].number <= UINT32_MAX) {
-            settings->max_iterations = (uint32_t)steps[i].number;
-        } else if (steps[i].kind == DWEXPR_SET_OBJECT_ADDRESS) {
-            settings->has_object_address = 1;
-            settings->object_address = steps[i].number;
-        } else {
-            return 0;
-        }
-    }
-    return 1;
-}
-
-/* Starts the only text of the table, and evaluates it to the first request or to the end. */
-static uint32_t start(dwexpr_evaluation *evaluation, const dwexpr_step *steps, size_t length, dwexpr_encoding encoding,
-                      const dwexpr_texts *texts, dwexpr_outcome *outcome, dwexpr_piece *pieces, size_t pieces_length)
-{
-    const dwexpr_step evaluate = {DWEXPR_EVALUATE, DWEXPR_NO_TYPE, 0, 0};
-    dwexpr_settings settings = {UINT32_MAX, 0, 0};
-    if (is_short(steps, length, &settings)) {
-        dwexpr_evaluation_evaluate(evaluation, texts->items, 1, encoding, settings, outcome, pieces, pieces_length);
-        outcome->step = 0; /* no setting ended it */
-    } else if (!dwexpr_evaluation_start(evaluation, texts->items, 1, encoding, steps, length, outcome, pieces,
-                                        pieces_length)) {
-        dwexpr_evaluation_resume(evaluation, texts->items, 1, evaluate, outcome, pieces, pieces_length);
-    }
-    return outcome->code;
-}
-
-uint32_t dwexpr_run_in(dwexpr_evaluation *evaluation, const dwexpr_step *settings, size_t settings_length,
-                       dwexpr_text text, dwexpr_encoding encoding, const dwexpr_callbacks *calls, void *context,
-                       int *refusal, dwexpr_texts *texts, dwexpr_outcome *outcome, dwexpr_piece *pieces,
-                       size_t pieces_length)
+uint32_t dwexpr_run_in(dwexpr_evaluation *evaluation, const dwexpr_settings *settings, dwexpr_text text,
+                       dwexpr_encoding encoding, const dwexpr_callbacks *calls, void *context, int *refusal,
+                       dwexpr_texts *texts, dwexpr_outcome *outcome, dwexpr_piece *pieces, size_t pieces_length)
 {
     dwexpr_step step = {DWEXPR_EVALUATE, DWEXPR_NO_TYPE, 0, 0};
     uint32_t code;
     texts->items[0] = text;
     texts->length = 1;
-    code = start(evaluation, settings, settings_length, encoding, texts, outcome, pieces, pieces_length);
+    code = dwexpr_evaluation_evaluate(evaluation, texts->items, 1, encoding, settings, outcome, pieces, pieces_length);
     while (code == DWEXPR_OK && outcome->request != DWEXPR_COMPLETE) {
         dwexpr_text called;
         int refused = answer(outcome, texts, calls, context, &step, &called);
@@ -143,11 +109,11 @@ uint32_t dwexpr_run(dwexpr_text text, dwexpr_encoding encoding, const dwexpr_cal
                     int *refusal, dwexpr_texts *texts, dwexpr_outcome *outcome, dwexpr_piece *pieces,
                     size_t pieces_length)
 {
-    const dwexpr_step maximum = {DWEXPR_SET_MAX_ITERATIONS, DWEXPR_NO_TYPE, DWEXPR_RUN_OPERATIONS, 0};
+    const dwexpr_settings settings = {.max_iterations = DWEXPR_RUN_OPERATIONS};
     uint64_t memory[DWEXPR_EVALUATION_SIZE / 8];
     dwexpr_evaluation evaluation;
     evaluation.memory = memory;
     dwexpr_evaluation_begin(&evaluation);
-    return dwexpr_run_in(&evaluation, &maximum, 1, text, encoding, calls, context, refusal, texts, outcome, pieces,
+    return dwexpr_run_in(&evaluation, &settings, text, encoding, calls, context, refusal, texts, outcome, pieces,
                          pieces_length);
 }

@@ -94,7 +94,8 @@ static uint64_t evaluate(const uint8_t *bytes, size_t length, const struct job *
     static dwexpr_evaluation evaluation;
     const dwexpr_encoding encoding = encoding_of(job);
     const dwexpr_text texts[2] = {{bytes, length}, {NULL, 0}};
-    const dwexpr_settings settings = {job->maximum, 1, 0x7000};
+    const dwexpr_settings settings = {
+        .max_iterations = job->maximum, .has_object_address = 1, .object_address = 0x7000};
     dwexpr_outcome outcome;
     dwexpr_piece pieces[DWEXPR_MAX_PIECES];
     uint64_t given = 0;
@@ -103,7 +104,7 @@ static uint64_t evaluate(const uint8_t *bytes, size_t length, const struct job *
         evaluation.memory = memory;
         dwexpr_evaluation_begin(&evaluation);
     }
-    code = dwexpr_evaluation_evaluate(&evaluation, texts, 2, encoding, settings, &outcome, pieces, DWEXPR_MAX_PIECES);
+    code = dwexpr_evaluation_evaluate(&evaluation, texts, 2, encoding, &settings, &outcome, pieces, DWEXPR_MAX_PIECES);
     while (code == DWEXPR_OK && outcome.request != DWEXPR_COMPLETE && given < job->answers) {
         code = dwexpr_evaluation_resume(&evaluation, texts, 2, answer_to(&outcome), &outcome, pieces,
                                         DWEXPR_MAX_PIECES);
@@ -225,13 +226,13 @@ static void run_in(const struct bench_case *it, struct answer *answer)
     static dwexpr_evaluation evaluation;
     dwexpr_text items[4];
     dwexpr_texts texts = {items, 4, 0};
-    const dwexpr_step settings[2] = {step_of(DWEXPR_SET_MAX_ITERATIONS, 0, it->job.maximum),
-                                     step_of(DWEXPR_SET_OBJECT_ADDRESS, 0, 0x7000)};
+    const dwexpr_settings settings = {
+        .max_iterations = it->job.maximum, .has_object_address = 1, .object_address = 0x7000};
     if (!evaluation.memory) {
         evaluation.memory = held;
         dwexpr_evaluation_begin(&evaluation);
     }
-    answer->code = dwexpr_run_in(&evaluation, settings, 2, text_of(it), encoding_of(&it->job), &CALLS, NULL, NULL,
+    answer->code = dwexpr_run_in(&evaluation, &settings, text_of(it), encoding_of(&it->job), &CALLS, NULL, NULL,
                                  &texts, &answer->outcome, answer->pieces, DWEXPR_MAX_PIECES);
 }
 

@@ -81,10 +81,10 @@ exports! {
         -> u32 = (&mut *evaluation, items(texts, texts_length), encoding, items(steps, steps_length), &mut *outcome,
         room(pieces, pieces_length));
 
-    /// As of `dwexpr_evaluation_start`.
+    /// As of `dwexpr_evaluation_start`. `settings` leads to one that is set.
     fn dwexpr_evaluation_evaluate(evaluation: *mut Evaluation, texts: *const Text, texts_length: usize,
-        encoding: Encoding, settings: Settings, outcome: *mut Outcome, pieces: *mut Piece, pieces_length: usize)
-        -> u32 = (&mut *evaluation, items(texts, texts_length), encoding, settings, &mut *outcome,
+        encoding: Encoding, settings: *const Settings, outcome: *mut Outcome, pieces: *mut Piece, pieces_length: usize)
+        -> u32 = (&mut *evaluation, items(texts, texts_length), encoding, &*settings, &mut *outcome,
         room(pieces, pieces_length));
 
     /// As of `dwexpr_evaluation_start`.

@@ -234,11 +234,11 @@ static int evaluates(struct maker *made, dwexpr_evaluation *proved, dwexpr_evalu
     steps[count++] = evaluate;
     fill(&one, &other);
     if (below(2)) {
-        const dwexpr_settings settings = {(uint32_t)below(150), (uint32_t)below(2), number()};
+        const dwexpr_settings settings = {(uint32_t)below(150), (uint16_t)below(2), (uint16_t)below(2), number(), number()};
         count = steps_of(&settings, steps);
-        one.code = proved_dwexpr_evaluation_evaluate(proved, made->texts, TEXTS, made->encoding, settings,
+        one.code = proved_dwexpr_evaluation_evaluate(proved, made->texts, TEXTS, made->encoding, &settings,
                                                      &one.outcome, one.pieces, room);
-        other.code = dwexpr_evaluation_evaluate(by_rustc, made->texts, TEXTS, made->encoding, settings,
+        other.code = dwexpr_evaluation_evaluate(by_rustc, made->texts, TEXTS, made->encoding, &settings,
                                                 &other.outcome, other.pieces, room);
     } else {
         one.code = proved_dwexpr_evaluation_start(proved, made->texts, TEXTS, made->encoding, steps, count,

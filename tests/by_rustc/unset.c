@@ -15,7 +15,7 @@ int main(void)
     /* A frame base, a call and memory; two pieces; a block; a value; an unknown opcode; no bytes. */
     static const char *const lines[] = {"917006", "98050006", "5093049d0801", "9e02aabb", "3132229f", "01", ""};
     const dwexpr_encoding encoding = encoding_of(8, 4, 5, 0), bad = encoding_of(8, 4, 9, 0);
-    const dwexpr_settings settings = {9, 1, 7};
+    const dwexpr_settings settings = {9, 1, 0, 7, 0};
     static const uint32_t answers[] = {4, 4, 5, 6, 9, 10, 11, 15};
 
     for (size_t i = 0; i < sizeof lines / sizeof *lines; i++) {
@@ -34,7 +34,7 @@ int main(void)
         of_all += dwexpr_decode(bytes, texts->length, encoding, 0, operation) + sum(operation, sizeof *operation);
         of_all += dwexpr_evaluate(texts, 2, encoding, &evaluate, 1, outcome, pieces, 0) + sum(outcome, sizeof *outcome);
         dwexpr_evaluation_begin(&evaluation);
-        of_all += dwexpr_evaluation_evaluate(&evaluation, texts, 2, encoding, settings, outcome, pieces, 0);
+        of_all += dwexpr_evaluation_evaluate(&evaluation, texts, 2, encoding, &settings, outcome, pieces, 0);
         of_all += sum(outcome, sizeof *outcome);
         dwexpr_evaluation_start(&evaluation, texts, 2, encoding, &evaluate, 1, outcome, pieces, DWEXPR_MAX_PIECES);
         for (int left = 9; left && outcome->code == DWEXPR_OK && outcome->request != DWEXPR_COMPLETE; left--) {

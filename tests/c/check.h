@@ -90,10 +90,12 @@ static inline uint64_t any(void)
 static inline size_t steps_of(const dwexpr_settings *settings, dwexpr_step *steps)
 {
     size_t count = 0;
-    memset(steps, 0, 3 * sizeof *steps);
+    memset(steps, 0, 4 * sizeof *steps);
     steps[count].kind = DWEXPR_SET_MAX_ITERATIONS, steps[count++].number = settings->max_iterations;
     if (settings->has_object_address)
         steps[count].kind = DWEXPR_SET_OBJECT_ADDRESS, steps[count++].number = settings->object_address;
+    if (settings->has_initial_value)
+        steps[count].kind = DWEXPR_SET_INITIAL_VALUE, steps[count++].number = settings->initial_value;
     steps[count++].kind = DWEXPR_EVALUATE;
     return count;
 }

@@ -393,6 +393,7 @@ static void holding(void)
     const dwexpr_step cfa = {DWEXPR_ANSWER_CFA, DWEXPR_GENERIC, 5, 0};
     const dwexpr_step object = {DWEXPR_SET_OBJECT_ADDRESS, 0, 5, 0};
     dwexpr_evaluation unstarted;
+    dwexpr_settings settings;
     uint64_t more[DWEXPR_EVALUATION_SIZE / 8];
     dwexpr_text block;
 
@@ -406,18 +407,33 @@ static void holding(void)
     check(dwexpr_evaluation_resume(&unstarted, NULL, 0, cfa, &outcome, NULL, 0) == DWEXPR_MISPLACED, name, "the code");
 
     begin("settings", "97 9c 22");
-    dwexpr_evaluation_evaluate(&evaluation, texts, 1, LE8, (dwexpr_settings){2, 1, 5}, &outcome, pieces, MANY);
+    settings = (dwexpr_settings){.max_iterations = 2, .has_object_address = 1, .object_address = 5};
+    dwexpr_evaluation_evaluate(&evaluation, texts, 1, LE8, &settings, &outcome, pieces, MANY);
     want.request = DWEXPR_WANTS_CFA, expect();
     dwexpr_evaluation_resume(&evaluation, texts, 1, cfa, &outcome, pieces, MANY);
     end(DWEXPR_TOO_MANY_ITERATIONS, 0, 0), expect();
-    dwexpr_evaluation_evaluate(&evaluation, texts, 1, LE8, (dwexpr_settings){2, 0, 5}, &outcome, pieces, MANY);
+    settings.has_object_address = 0;
+    dwexpr_evaluation_evaluate(&evaluation, texts, 1, LE8, &settings, &outcome, pieces, MANY);
     end(DWEXPR_INVALID_PUSH_OBJECT_ADDRESS, 0, 1), expect();
-    dwexpr_evaluation_evaluate(&evaluation, texts, 1, LE8, (dwexpr_settings){0, 1, 5}, &outcome, pieces, MANY);
+    settings.max_iterations = 0, settings.has_object_address = 1;
+    dwexpr_evaluation_evaluate(&evaluation, texts, 1, LE8, &settings, &outcome, pieces, MANY);
     end(DWEXPR_TOO_MANY_ITERATIONS, 0, 2), expect();
-    /* any number but 0 says that there is an address */
-    dwexpr_evaluation_evaluate(&evaluation, texts, 1, LE8, (dwexpr_settings){3, 9, 5}, &outcome, pieces, MANY);
+    settings.has_initial_value = 1;
+    dwexpr_evaluation_evaluate(&evaluation, texts, 1, LE8, &settings, &outcome, pieces, MANY);
+    end(DWEXPR_TOO_MANY_ITERATIONS, 0, 3), expect();
+    /* any number but 0 says that there is one */
+    settings = (dwexpr_settings){.max_iterations = 3, .has_object_address = 9, .object_address = 5};
+    dwexpr_evaluation_evaluate(&evaluation, texts, 1, LE8, &settings, &outcome, pieces, MANY);
     dwexpr_evaluation_resume(&evaluation, texts, 1, cfa, &outcome, pieces, MANY);
     check(outcome.request == DWEXPR_COMPLETE && outcome.value == 10, name, "the value");
+
+    begin("an initial value as a setting", "35 22");
+    settings = (dwexpr_settings){.max_iterations = 2, .has_initial_value = 0x100, .initial_value = 4};
+    dwexpr_evaluation_evaluate(&evaluation, texts, 1, LE8, &settings, &outcome, pieces, MANY);
+    check(outcome.request == DWEXPR_COMPLETE && outcome.value == 9, name, "the value");
+    settings.has_initial_value = 0;
+    dwexpr_evaluation_evaluate(&evaluation, texts, 1, LE8, &settings, &outcome, pieces, MANY);
+    end(DWEXPR_NOT_ENOUGH_STACK_ITEMS, 0, 1), expect();
 
     begin("a setting in a request", "9c 97 22"), start();
     dwexpr_evaluation_start(&evaluation, texts, 1, LE8, steps, 1, &outcome, pieces, MANY);

@@ -83,9 +83,9 @@ int main(void)
         if (any() % 2) {
             dwexpr_evaluation_start(&evaluation, texts, 3, encoding, steps, count, &held, places, PLACES);
         } else {
-            const dwexpr_settings settings = {(uint32_t)(any() % 32), any() % 2 ? 1 + (uint32_t)any() % 3 : 0, any()};
+            const dwexpr_settings settings = {(uint32_t)(any() % 32), any() % 4, any() % 2, any(), any()};
             count = steps_of(&settings, steps);
-            dwexpr_evaluation_evaluate(&evaluation, texts, 3, encoding, settings, &held, places, PLACES);
+            dwexpr_evaluation_evaluate(&evaluation, texts, 3, encoding, &settings, &held, places, PLACES);
         }
         for (;;) {
             memset(pieces, 0xa5, sizeof pieces);

@@ -239,12 +239,16 @@ static void arguments(void)
 {
     static uint64_t memory[DWEXPR_EVALUATION_SIZE / 8];
     static const uint8_t addition[] = {0x97, 0x22}, call[] = {0x9c};
-    const dwexpr_step settings[] = {{DWEXPR_SET_INITIAL_VALUE, 0, 3, 0}, {DWEXPR_SET_OBJECT_ADDRESS, 0, 4, 0}};
+    const dwexpr_settings settings = {.max_iterations = 2,
+                                      .has_object_address = 1,
+                                      .has_initial_value = 1,
+                                      .object_address = 4,
+                                      .initial_value = 3};
     dwexpr_text text = {addition, sizeof addition};
     dwexpr_evaluation evaluation = {memory};
     dwexpr_evaluation_begin(&evaluation);
     name = "settings";
-    check(dwexpr_run_in(&evaluation, settings, 2, text, LE8, &none, NULL, NULL, &texts, &outcome, pieces, MANY) == 0,
+    check(dwexpr_run_in(&evaluation, &settings, text, LE8, &none, NULL, NULL, &texts, &outcome, pieces, MANY) == 0,
           name, "the result");
     check(outcome.value == 7 && pieces[0].number == 7, name, "the value");
     name = "a bad encoding";

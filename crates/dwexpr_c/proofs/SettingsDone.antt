@@ -1,10 +1,10 @@
 -- The settings of a start and the start, one after another, are the steps that they stand for.
-use Rattle.std.proofs.Common.{ℕ, suc, ◌≡◌, ◌≤◌, List, [], ◌∷◌, take, slice_get, Some, None, Result, Ok, length, refl, sym, subst, arith}
+use Rattle.std.proofs.Common.{ℕ, suc, ◌≡◌, ◌∙◌, ◌≤◌, ◌+◌, List, [], ◌∷◌, take, slice_get, Some, None, Result, Ok, length, refl, sym, ap, subst, arith}
 use Rattle.std.specs.Prelude.{◌==◌, IsOkAnd}
 use Rattle.std.proofs.lemmas.Bool.{both_ways, cond_both, eq-eqb, eqb-true}
-use Rattle.dwarf_meaning.specs.Inputs.{with_maximum, with_object}
+use Rattle.dwarf_meaning.specs.Inputs.{with_maximum, with_object, with_status}
 use Rattle.dwarf_meaning.specs.Rest.{State, Start}
-use Rattle.dwarf_meaning.specs.Steps.{Step, Evaluate, MaxIterations, ObjectAddress}
+use Rattle.dwarf_meaning.specs.Steps.{Step, Evaluate, InitialValue, MaxIterations, ObjectAddress}
 use Rattle.dwarf_replay.specs.Stepping.{IsSet}
 use Rattle.dwexpr_c.specs.Evaluated.{capacities}
 use Rattle.dwexpr_c.specs.Outcomes.{step_coded}
@@ -37,31 +37,75 @@ module _ (texts : List DwexprText) (first new : State) (before out : DwexprOutco
   ends all index there past x r Complete h =
       ran_all texts all (suc index) first new Complete out limits past (next texts all index (number_step step_kinds.EVALUATE 0) there first limits is_given x new Set before r out Complete h (λ e. let s : Complete ≡ Ended = e in cc))
 
-  module _ (maximum : ℕ) (said : step_coded first.text.is_big texts (number_step step_kinds.SET_MAX_ITERATIONS maximum) ≡ Ok (MaxIterations maximum)) (progress : Progress) where
-    without_object : (x : State) → x ≡ with_maximum maximum first → DoesStep texts (Ok Evaluate) 1 x new before out progress → Runs texts (number_step step_kinds.SET_MAX_ITERATIONS maximum ∷ number_step step_kinds.EVALUATE 0 ∷ []) first new progress out
-    without_object x e h =
-        let all : List DwexprStep = number_step step_kinds.SET_MAX_ITERATIONS maximum ∷ number_step step_kinds.EVALUATE 0 ∷ [] in
-        let one = set_next all 0 (number_step step_kinds.SET_MAX_ITERATIONS maximum) refl first x (at_first texts first before fresh) (MaxIterations maximum) said e in
-        ends all 1 refl (omega arith) x one progress h
+  module _ (settings : DwexprSettings) (said : step_coded first.text.is_big texts (number_step step_kinds.SET_MAX_ITERATIONS settings.max_iterations) ≡ Ok (MaxIterations settings.max_iterations)) (progress : Progress) where
+    maximum : DwexprStep
+    maximum = number_step step_kinds.SET_MAX_ITERATIONS settings.max_iterations
 
-    with_address : (address : ℕ) (x : State) → x ≡ with_object (Some address) (with_maximum maximum first) → DoesStep texts (Ok Evaluate) 2 x new before out progress → Runs texts (number_step step_kinds.SET_MAX_ITERATIONS maximum ∷ number_step step_kinds.SET_OBJECT_ADDRESS address ∷ number_step step_kinds.EVALUATE 0 ∷ []) first new progress out
-    with_address address x e h =
-        let all : List DwexprStep = number_step step_kinds.SET_MAX_ITERATIONS maximum ∷ number_step step_kinds.SET_OBJECT_ADDRESS address ∷ number_step step_kinds.EVALUATE 0 ∷ [] in
-        let one = set_next all 0 (number_step step_kinds.SET_MAX_ITERATIONS maximum) refl first (with_maximum maximum first) (at_first texts first before fresh) (MaxIterations maximum) said refl in
-        let two = set_next all 1 (number_step step_kinds.SET_OBJECT_ADDRESS address) refl (with_maximum maximum first) x one (ObjectAddress address) refl e in
-        ends all 2 refl (omega arith) x two progress h
+    object : DwexprStep
+    object = number_step step_kinds.SET_OBJECT_ADDRESS settings.object_address
 
-  -- the settings were done, and then the start at this index
-  pub runs : (settings : DwexprSettings) (x : State) (index : ℕ)
-      → step_coded first.text.is_big texts (number_step step_kinds.SET_MAX_ITERATIONS settings.max_iterations) ≡ Ok (MaxIterations settings.max_iterations)
-      → (settings.has_object_address ≡ 0 → (index ≡ 1) × (x ≡ with_maximum settings.max_iterations first))
-      → ((settings.has_object_address ≡ 0 → ⊥) → (index ≡ 2) × (x ≡ with_object (Some settings.object_address) (with_maximum settings.max_iterations first)))
-      → (progress : Progress) → DoesStep texts (Ok Evaluate) index x new before out progress → Runs texts (steps_in settings) first new progress out
-  runs settings x index said without with progress h =
-      cond_both (settings.has_object_address == 0) _ _ (λ (l : List DwexprStep). Runs texts (number_step step_kinds.SET_MAX_ITERATIONS settings.max_iterations ∷ l) first new progress out)
-      (λ e.
-      let is = without (eqb-true settings.has_object_address 0 e) in
-      without_object settings.max_iterations said progress x is.1 (subst (λ (n : ℕ). DoesStep texts (Ok Evaluate) n x new before out progress) is.0 h))
-      (λ e.
-      let is = with (λ z. both_ways (settings.has_object_address == 0) e (eq-eqb settings.has_object_address 0 z)) in
-      with_address settings.max_iterations said progress settings.object_address x is.1 (subst (λ (n : ℕ). DoesStep texts (Ok Evaluate) n x new before out progress) is.0 h))
+    initial : DwexprStep
+    initial = number_step step_kinds.SET_INITIAL_VALUE settings.initial_value
+
+    start : DwexprStep
+    start = number_step step_kinds.EVALUATE 0
+
+    limited : State
+    limited = with_maximum settings.max_iterations first
+
+    -- the maximum is set, before all others
+    one : (rest : List DwexprStep) → Reached texts (maximum ∷ []) first limited Set before
+    one rest = set_next (maximum ∷ rest) 0 maximum refl first limited (at_first texts first before fresh) (MaxIterations settings.max_iterations) said refl
+
+    -- there is no other setting
+    alone : (index : ℕ) (x : State) → index ≡ 1 → x ≡ limited → DoesStep texts (Ok Evaluate) index x new before out progress → Runs texts (maximum ∷ start ∷ []) first new progress out
+    alone index x i e h =
+        ends (maximum ∷ start ∷ []) 1 refl (omega arith) x (subst (λ (z : State). Reached texts (maximum ∷ []) first z Set before) (sym e) (one (start ∷ []))) progress
+        (subst (λ (n : ℕ). DoesStep texts (Ok Evaluate) n x new before out progress) i h)
+
+    -- there is one more
+    with_one : (at : DwexprStep) (step : Step) → step_coded first.text.is_big texts at ≡ Ok step → (index : ℕ) (x : State) → index ≡ 2 → IsSet step limited x → DoesStep texts (Ok Evaluate) index x new before out progress → Runs texts (maximum ∷ at ∷ start ∷ []) first new progress out
+    with_one at step is index x i set h =
+        let all : List DwexprStep = maximum ∷ at ∷ start ∷ [] in
+        ends all 2 refl (omega arith) x (set_next all 1 at refl limited x (one (at ∷ start ∷ [])) step is set) progress
+        (subst (λ (n : ℕ). DoesStep texts (Ok Evaluate) n x new before out progress) i h)
+
+    -- there are both
+    with_both : (index : ℕ) (x y : State) → index ≡ 3 → IsSet (ObjectAddress settings.object_address) limited x → IsSet (InitialValue settings.initial_value) x y → DoesStep texts (Ok Evaluate) index y new before out progress → Runs texts (maximum ∷ object ∷ initial ∷ start ∷ []) first new progress out
+    with_both index x y i object_set initial_set h =
+        let all : List DwexprStep = maximum ∷ object ∷ initial ∷ start ∷ [] in
+        let two = set_next all 1 object refl limited x (one (object ∷ initial ∷ start ∷ [])) (ObjectAddress settings.object_address) refl object_set in
+        ends all 3 refl (omega arith) y (set_next all 2 initial refl x y two (InitialValue settings.initial_value) refl initial_set) progress
+        (subst (λ (n : ℕ). DoesStep texts (Ok Evaluate) n y new before out progress) i h)
+
+    -- a setting that comes in so many steps, if there is one
+    abbrev Comes : (has : ℕ) → (index : ℕ) → (x y changed : State) → Type 0
+    Comes has index x y changed =
+        (has ≡ 0 → (index ≡ 0) × (y ≡ x)) × ((has ≡ 0 → ⊥) → (index ≡ 1) × (y ≡ changed))
+
+    -- the settings were done, and then the start
+    pub runs : (objects values : ℕ) (x y : State)
+        → Comes settings.has_object_address objects limited x (with_object (Some settings.object_address) limited)
+        → Comes settings.has_initial_value values x y (with_status (Start (Some settings.initial_value)) x)
+        → DoesStep texts (Ok Evaluate) (1 + objects + values) y new before out progress → Runs texts (steps_in settings) first new progress out
+    runs objects values x y object_comes initial_comes h =
+        cond_both (settings.has_object_address == 0) _ _ (λ (l : List DwexprStep). Runs texts (maximum ∷ l) first new progress out)
+        (λ no_object.
+        let o = object_comes.0 (eqb-true settings.has_object_address 0 no_object) in
+        cond_both (settings.has_initial_value == 0) _ _ (λ (l : List DwexprStep). Runs texts (maximum ∷ l) first new progress out)
+        (λ no_initial.
+        let v = initial_comes.0 (eqb-true settings.has_initial_value 0 no_initial) in
+        alone (1 + objects + values) y (omega arith) (v.1 ∙ o.1) h)
+        (λ an_initial.
+        let v = initial_comes.1 (λ z. both_ways (settings.has_initial_value == 0) an_initial (eq-eqb settings.has_initial_value 0 z)) in
+        with_one initial (InitialValue settings.initial_value) refl (1 + objects + values) y (omega arith)
+        (subst (λ (z : State). IsSet (InitialValue settings.initial_value) z y) o.1 (ap (λ (z : State). z.status) o.1 ∙ fresh, v.1)) h))
+        (λ an_object.
+        let o = object_comes.1 (λ z. both_ways (settings.has_object_address == 0) an_object (eq-eqb settings.has_object_address 0 z)) in
+        cond_both (settings.has_initial_value == 0) _ _ (λ (l : List DwexprStep). Runs texts (maximum ∷ object ∷ l) first new progress out)
+        (λ no_initial.
+        let v = initial_comes.0 (eqb-true settings.has_initial_value 0 no_initial) in
+        with_one object (ObjectAddress settings.object_address) refl (1 + objects + values) y (omega arith) (v.1 ∙ o.1) h)
+        (λ an_initial.
+        let v = initial_comes.1 (λ z. both_ways (settings.has_initial_value == 0) an_initial (eq-eqb settings.has_initial_value 0 z)) in
+        with_both (1 + objects + values) x y (omega arith) o.1 (ap (λ (z : State). z.status) o.1 ∙ fresh, v.1) h))

@@ -2,7 +2,8 @@
 
 ghost use Rattle.std.specs.Prelude.{◌≡◌, Bool, IfNone, IfSome, IsOkAnd, List, None, Ok, Some, option_map, slice_get};
 ghost use Rattle.dwarf_base.specs.ByteOrder.{is_big_of};
-ghost use Rattle.dwarf_meaning.specs.Inputs.{with_maximum, with_object};
+ghost use Rattle.dwarf_meaning.specs.Inputs.{with_maximum, with_object, with_status};
+ghost use Rattle.dwarf_eval.specs.Evaluation.{IsClosed};
 ghost use Rattle.dwarf_meaning.specs.Rest.{Start, State};
 ghost use Rattle.dwarf_meaning.specs.Steps.{MaxIterations, Step};
 ghost use Rattle.dwarf_replay.specs.Stepping.{HasReplied};
@@ -228,29 +229,58 @@ fn do_steps<'a, S: EvaluationStorage<Placed<'a>>>(
     progress
 }
 
-/// Sets what the settings say, which is as many steps.
+/// Sets the maximum.
 #[inline(always)]
-fn set<'a, S: EvaluationStorage<Placed<'a>>>(
+fn set_maximum<'a, S: EvaluationStorage<Placed<'a>>>(
     evaluation: &mut Evaluation<Placed<'a>, S>,
-    settings: DwexprSettings,
-) -> usize
+    maximum: u32,
+)
     ensures said { (big : Bool) (texts : List DwexprText)
-        → step_coded big texts (number_step step_kinds.SET_MAX_ITERATIONS settings.max_iterations)
-        ≡ Ok (MaxIterations settings.max_iterations) }
-    ensures status { evaluation.new.status ≡ evaluation.old.status }
-    ensures without { settings.has_object_address ≡ 0
-        → (result ≡ 1) × (evaluation.new ≡ with_maximum settings.max_iterations evaluation.old) }
-    ensures with { (settings.has_object_address ≡ 0 → ⊥)
-        → (result ≡ 2) × (evaluation.new
-        ≡ with_object (Some settings.object_address)
-        (with_maximum settings.max_iterations evaluation.old)) }
+        → step_coded big texts (number_step step_kinds.SET_MAX_ITERATIONS maximum)
+        ≡ Ok (MaxIterations maximum) }
+    ensures set { evaluation.new ≡ with_maximum maximum evaluation.old }
 {
-    evaluation.set_max_iterations(settings.max_iterations);
+    evaluation.set_max_iterations(maximum);
+}
+
+/// Sets the object's address if it is known, in as many steps.
+#[inline(always)]
+fn set_object<'a, S: EvaluationStorage<Placed<'a>>>(
+    evaluation: &mut Evaluation<Placed<'a>, S>,
+    settings: &DwexprSettings,
+) -> usize
+    ensures without { settings.now.has_object_address ≡ 0
+        → (result ≡ 0) × (evaluation.new ≡ evaluation.old) }
+    ensures with { (settings.now.has_object_address ≡ 0 → ⊥)
+        → (result ≡ 1)
+        × (evaluation.new ≡ with_object (Some settings.now.object_address) evaluation.old) }
+{
     if settings.has_object_address == 0 {
-        return 1;
+        return 0;
     }
     evaluation.set_object_address(settings.object_address);
-    2
+    1
+}
+
+/// Sets the initial value if there is one, in as many steps.
+#[inline(always)]
+fn set_initial<'a, S: EvaluationStorage<Placed<'a>>>(
+    evaluation: &mut Evaluation<Placed<'a>, S>,
+    settings: &DwexprSettings,
+) -> usize
+    requires { evaluation.old.status ≡ Start None }
+    ensures without { settings.now.has_initial_value ≡ 0
+        → (result ≡ 0) × (evaluation.new ≡ evaluation.old) }
+    ensures with { (settings.now.has_initial_value ≡ 0 → ⊥)
+        → (result ≡ 1)
+        × (evaluation.new ≡ with_status (Start (Some settings.now.initial_value)) evaluation.old) }
+    ensures closed { IsClosed evaluation.new.status }
+{
+    if settings.has_initial_value == 0 {
+        return 0;
+    }
+    evaluation.set_initial_value(settings.initial_value);
+    1
 }
 
 /// Sets what the settings say, and evaluates. It shows what that asked, or why it ended the evaluation.
@@ -258,16 +288,18 @@ fn set<'a, S: EvaluationStorage<Placed<'a>>>(
 fn set_and_evaluate<'a, S: EvaluationStorage<Placed<'a>>>(
     evaluation: &mut Evaluation<Placed<'a>, S>,
     texts: &[DwexprText<'a>],
-    settings: DwexprSettings,
+    settings: &DwexprSettings,
     outcome: &mut DwexprOutcome,
 ) -> Progress
     requires fresh { evaluation.old.status ≡ Start None }
     requires capacities { HasCapacities evaluation.old }
     requires given { IsGiven texts.now evaluation.old.text.bytes }
-    ensures { Runs texts.now (steps_in settings) evaluation.old evaluation.new result outcome.new }
+    ensures { Runs texts.now (steps_in settings.now) evaluation.old evaluation.new result outcome.new }
 {
-    let index = set(evaluation, settings);
-    show_reply(texts, evaluation.evaluate(), index, outcome)
+    set_maximum(evaluation, settings.max_iterations);
+    let objects = set_object(evaluation, settings);
+    let values = set_initial(evaluation, settings);
+    show_reply(texts, evaluation.evaluate(), 1 + objects + values, outcome)
 }
 
 /// Shows the value and the pieces of an evaluation that is complete, or that some bytes are nowhere, which never comes
@@ -300,16 +332,16 @@ pub(crate) fn show_status<'a, S: EvaluationStorage<Placed<'a>>>(
 pub(crate) fn evaluate_set<'a, S: EvaluationStorage<Placed<'a>>>(
     evaluation: &mut Evaluation<Placed<'a>, S>,
     texts: &[DwexprText<'a>],
-    settings: DwexprSettings,
+    settings: &DwexprSettings,
     outcome: &mut DwexprOutcome,
     places: &mut [DwexprPiece],
 )
     requires fresh { evaluation.old.status ≡ Start None }
     requires capacities { HasCapacities evaluation.old }
     requires given { IsGiven texts.now evaluation.old.text.bytes }
-    ensures evaluates { EvaluatesGiven (given_at evaluation.old texts.now) (steps_in settings)
+    ensures evaluates { EvaluatesGiven (given_at evaluation.old texts.now) (steps_in settings.now)
         outcome.new places.old places.new }
-    ensures stands { StandsAfter evaluation.old texts.now (steps_in settings)
+    ensures stands { StandsAfter evaluation.old texts.now (steps_in settings.now)
         evaluation.new outcome.new }
 {
     match set_and_evaluate(evaluation, texts, settings, outcome) {

@@ -108,13 +108,13 @@ pub extern "C" fn dwexpr_evaluation_start(
 
 /// Starts an evaluation that is held with settings, and evaluates the first of the texts to a request or to the end
 /// (DWARF 5, sections 2.5 and 2.6). It answers and writes what `dwexpr_evaluation_start` does in the steps that the
-/// settings stand for: the maximum, the object's address if it is known, and the start.
+/// settings stand for: the maximum, the object's address and the initial value if there are any, and the start.
 #[unsafe(no_mangle)]
 pub extern "C" fn dwexpr_evaluation_evaluate(
     evaluation: &mut DwexprEvaluation,
     texts: &[DwexprText<'static>],
     encoding: DwexprEncoding,
-    settings: DwexprSettings,
+    settings: &DwexprSettings,
     outcome: &mut DwexprOutcome,
     pieces: &mut [DwexprPiece],
 ) -> u32
@@ -126,12 +126,12 @@ pub extern "C" fn dwexpr_evaluation_evaluate(
         × (evaluation.new.held ≡ evaluation.old.held) }
     ensures evaluates { IsEncoding encoding
         → EvaluatesFirst (encoding_in encoding) (text_at (is_big_in encoding) texts.now 0) texts.now
-        (steps_in settings) outcome.new pieces.old pieces.new }
+        (steps_in settings.now) outcome.new pieces.old pieces.new }
     ensures starts { IsEncoding encoding
         → IsSomeAnd evaluation.old.held
         (λ before. IsSomeAnd evaluation.new.held
         (λ after. StandsAfterFirst (encoding_in encoding) (text_at (is_big_in encoding) texts.now 0)
-        texts.now (steps_in settings) before after outcome.new)) }
+        texts.now (steps_in settings.now) before after outcome.new)) }
 {
     evaluate_first(evaluation.get(), texts, encoding, settings, outcome, pieces);
     outcome.code

@@ -44,7 +44,7 @@ const _: () = prove!(size_of::<DwexprText>() == 16);
 
 const _: () = prove!(size_of::<DwexprStep>() == 24);
 
-const _: () = prove!(size_of::<DwexprSettings>() == 16);
+const _: () = prove!(size_of::<DwexprSettings>() == 24);
 
 const _: () = prove!(size_of::<DwexprOutcome>() == 104);
 

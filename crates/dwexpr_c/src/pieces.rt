@@ -1,8 +1,9 @@
 //! Pieces in numbers.
 
-ghost use Rattle.std.specs.Prelude.{◌≡◌, ◌<◌, [], ◌∷◌, IfSome, is_some, true, false, map, option_map, slice_get, unwrap_or};
-ghost use Rattle.dwarf_op.specs.Views.{location_of, piece_of};
-ghost use Rattle.dwexpr_c.specs.Outcomes.{AreWritten, ShowsLocation, piece_of_kind};
+ghost use Rattle.std.specs.Prelude.{◌≡◌, ◌<◌, [], ◌∷◌, List, IfSome, is_some, true, false, map, option_map, slice_get, unwrap_or};
+ghost use Rattle.dwarf_meaning.specs.Locations.{HoldsBytes, HoldsValue};
+ghost use Rattle.dwarf_op.specs.Views.{piece_of};
+ghost use Rattle.dwexpr_c.specs.Outcomes.{AreWritten, ShowsLocation, ShowsPiece, piece_of_kind};
 ghost use Rattle.dwexpr_c.specs.CallerTexts.{text_of_placed, HoldsNowhere, SomeNowhere};
 
 use crate::places::Placed;
@@ -11,6 +12,7 @@ use crate::values::numbers_of_value;
 use crate::{piece_kinds, types};
 use dwarf_base::Reader;
 use dwarf_op::{Location, Piece};
+use dwarf_value::Value;
 
 /// A piece of a variable. What its kind doesn't name is 0.
 #[repr(C)]
@@ -58,21 +60,60 @@ fn piece_of_kind(kind: u32, size_in_bits: Option<u64>, bit_offset: Option<u64>) 
     }
 }
 
-/// Writes a piece where the caller wants it; `false` if its bytes are nowhere.
-fn show_location(
+/// Writes a piece that holds a value.
+#[inline(never)]
+fn show_value(value: Value, size: Option<u64>, offset: Option<u64>, shown: &mut DwexprPiece)
+    ensures { (texts : List DwexprText)
+        → ShowsLocation texts size offset (HoldsValue value) shown.new }
+{
+    let numbers = numbers_of_value(value);
+    *shown = DwexprPiece {
+        value_type: numbers.value_type,
+        number: numbers.content,
+        ..piece_of_kind(piece_kinds::HOLDS_VALUE, size, offset)
+    };
+}
+
+/// Writes a piece that holds bytes; `false` if they are nowhere.
+#[inline(never)]
+fn show_bytes(
     texts: &[DwexprText<'_>],
+    bytes: Placed<'_>,
     size: Option<u64>,
     offset: Option<u64>,
-    location: Location<Placed<'_>>,
     shown: &mut DwexprPiece,
 ) -> bool
     ensures some { result ≡ true
-        → ShowsLocation texts.now size offset
-        (location_of text_of_placed (λ x. x) location.entry) shown.new }
+        → ShowsLocation texts.now size offset (HoldsBytes (text_of_placed bytes.entry)) shown.new }
     ensures none { result ≡ false
-        → HoldsNowhere texts.now (location_of text_of_placed (λ x. x) location.entry) }
+        → HoldsNowhere texts.now (HoldsBytes (text_of_placed bytes.entry)) }
 {
-    match location {
+    let Some(place) = place_of(texts, bytes) else {
+        return false;
+    };
+    *shown = DwexprPiece {
+        block_text: place.text,
+        block_offset: place.offset,
+        block_length: bytes.len(),
+        ..piece_of_kind(piece_kinds::HOLDS_BYTES, size, offset)
+    };
+    true
+}
+
+/// Writes a piece where the caller wants it; `false` if its bytes are nowhere.
+// Its calls are its last acts, so it needs no frame.
+fn show_piece(
+    texts: &[DwexprText<'_>],
+    piece: &Piece<Placed<'_>>,
+    shown: &mut DwexprPiece,
+) -> bool
+    ensures some { result ≡ true
+        → ShowsPiece texts.now (piece_of text_of_placed (λ x. x) piece.now) shown.new }
+    ensures none { result ≡ false
+        → HoldsNowhere texts.now (piece_of text_of_placed (λ x. x) piece.now).location }
+{
+    let (size, offset) = (piece.size_in_bits, piece.bit_offset);
+    match piece.location {
         Location::Empty => *shown = piece_of_kind(piece_kinds::EMPTY, size, offset),
         Location::Register { register } => *shown = DwexprPiece {
             number: u64::from(register.0),
@@ -82,25 +123,8 @@ fn show_location(
             number: address,
             ..piece_of_kind(piece_kinds::AT_ADDRESS, size, offset)
         },
-        Location::Value { value } => {
-            let numbers = numbers_of_value(value);
-            *shown = DwexprPiece {
-                value_type: numbers.value_type,
-                number: numbers.content,
-                ..piece_of_kind(piece_kinds::HOLDS_VALUE, size, offset)
-            };
-        }
-        Location::Bytes { value } => {
-            let Some(place) = place_of(texts, value) else {
-                return false;
-            };
-            *shown = DwexprPiece {
-                block_text: place.text,
-                block_offset: place.offset,
-                block_length: value.len(),
-                ..piece_of_kind(piece_kinds::HOLDS_BYTES, size, offset)
-            };
-        }
+        Location::Value { value } => show_value(value, size, offset, shown),
+        Location::Bytes { value } => return show_bytes(texts, value, size, offset, shown),
         Location::ImplicitPointer { value, byte_offset } => *shown = DwexprPiece {
             number: value.0 as u64,
             byte_offset,
@@ -134,13 +158,7 @@ fn write_all(
         let Some(piece) = piece_at(pieces, index) else {
             return true;
         };
-        if !show_location(
-            texts,
-            piece.size_in_bits,
-            piece.bit_offset,
-            piece.location,
-            &mut places[index],
-        ) {
+        if !show_piece(texts, piece, &mut places[index]) {
             return false;
         }
     }
@@ -178,11 +196,5 @@ pub(crate) fn write_pieces(
     let Some(piece) = only(pieces, places.len()) else {
         return write_all(texts, pieces, places);
     };
-    show_location(
-        texts,
-        piece.size_in_bits,
-        piece.bit_offset,
-        piece.location,
-        &mut places[0],
-    )
+    show_piece(texts, piece, &mut places[0])
 }

@@ -108,7 +108,7 @@ fn evaluate_text<'a>(
     texts: &[DwexprText<'a>],
     text: Placed<'a>,
     reading: Reading,
-    settings: DwexprSettings,
+    settings: &DwexprSettings,
     outcome: &mut DwexprOutcome,
     places: &mut [DwexprPiece],
 )
@@ -119,12 +119,12 @@ fn evaluate_text<'a>(
     requires given { IsGiven texts.now (text_of_placed text).bytes }
     ensures capacities { HasCapacities held.new.evaluation }
     ensures evaluates { EvaluatesGiven
-        (beginning reading.encoding (text_of_placed text.entry) texts.now) (steps_in settings)
+        (beginning reading.encoding (text_of_placed text.entry) texts.now) (steps_in settings.now)
         outcome.new places.old places.new }
     ensures order { is_big_of held.new.order ≡ (text_of_placed text.entry).is_big }
     ensures stands { StandsAfter
         (fresh_state (limited_setup reading.encoding) (text_of_placed text.entry)) texts.now
-        (steps_in settings) held.new.evaluation outcome.new }
+        (steps_in settings.now) held.new.evaluation outcome.new }
 {
     restart(held, text, reading);
     evaluate_set(&mut held.evaluation, texts, settings, outcome, places);
@@ -136,7 +136,7 @@ pub(crate) fn evaluate_first<'a>(
     held: &mut Held<'a>,
     texts: &[DwexprText<'a>],
     numbers: DwexprEncoding,
-    settings: DwexprSettings,
+    settings: &DwexprSettings,
     outcome: &mut DwexprOutcome,
     places: &mut [DwexprPiece],
 )
@@ -147,10 +147,10 @@ pub(crate) fn evaluate_first<'a>(
         × (held.new ≡ held.old) }
     ensures evaluates { IsEncoding numbers
         → EvaluatesFirst (encoding_in numbers) (text_at (is_big_in numbers) texts.now 0) texts.now
-        (steps_in settings) outcome.new places.old places.new }
+        (steps_in settings.now) outcome.new places.old places.new }
     ensures stands { IsEncoding numbers
         → StandsAfterFirst (encoding_in numbers) (text_at (is_big_in numbers) texts.now 0) texts.now
-        (steps_in settings) held.old held.new outcome.new }
+        (steps_in settings.now) held.old held.new outcome.new }
 {
     match reading_of(numbers) {
         None => *outcome = show_end(code_alone(BAD_ENCODING), 0),

@@ -59,21 +59,21 @@ loop-index-preserved c =
     let seen = seen_at (piece_of text_of_placed (λ x. x)) pieces index piece there in
     let within : index < length pieces = slice_get_within pieces index piece there in
     let inside : index < length c.loop-index.places = omega (arith, c.loop-index-test.true, inv.0) in
-    let shown = c.show_location.new.shown in (
+    let shown = c.show_piece.new.shown in (
       length-set c.loop-index.places index shown ∙ inv.0,
       omega arith,
-      shown_next c.args.texts.now _ c.loop-index.places index _ shown seen inside (c.if-not-show_location.ensures.some refl) inv.2,
+      shown_next c.args.texts.now _ c.loop-index.places index _ shown seen inside (c.if-not-show_piece.ensures.some refl) inv.2,
       kept_next c.loop-index.places c.args.places.now index shown inv.3,
     )
 
-pub returns-then-not-show_location-clause-unplaced : goal.returns-then-not-show_location-clause-unplaced
-returns-then-not-show_location-clause-unplaced c e =
+pub returns-then-not-show_piece-clause-unplaced : goal.returns-then-not-show_piece-clause-unplaced
+returns-then-not-show_piece-clause-unplaced c e =
     let pieces = c.args.pieces.now in
     let index = c.loop-index.index in
     let there : slice_get pieces index ≡ Some c.in-Some.piece.now = sym c.piece_at.ensures ∙ ap (option_map (λ piece. piece.now)) c.in-Some.is in
     let piece = piece_of text_of_placed (λ x. x) c.in-Some.piece.now in
     let seen = seen_at (piece_of text_of_placed (λ x. x)) pieces index c.in-Some.piece.now there in
-    (index, piece, slice_get_within _ index piece seen, get_or_from_slice_get _ index piece piece seen, c.if-not-show_location.ensures.none refl)
+    (index, piece, slice_get_within _ index piece seen, get_or_from_slice_get _ index piece piece seen, c.if-not-show_piece.ensures.none refl)
 
 pub returns-clause-written : goal.returns-clause-written
 returns-clause-written c e =

@@ -37,25 +37,22 @@ module _ (texts : List DwexprText) (first new : State) (before out : DwexprOutco
   ends all index there past x r Complete h =
       ran_all texts all (suc index) first new Complete out limits past (next texts all index (number_step step_kinds.EVALUATE 0) there first limits is_given x new Set before r out Complete h (λ e. let s : Complete ≡ Ended = e in cc))
 
-  module _ (settings : DwexprSettings) (said : step_coded first.text.is_big texts (number_step step_kinds.SET_MAX_ITERATIONS settings.max_iterations) ≡ Ok (MaxIterations settings.max_iterations)) (progress : Progress) where
-    maximum : DwexprStep
+  module _ (settings : DwexprSettings) (said : step_coded first.text.is_big texts (number_step step_kinds.SET_MAX_ITERATIONS settings.max_iterations) ≡ Ok (MaxIterations settings.max_iterations)) (limited : State) (limit : limited ≡ with_maximum settings.max_iterations first) (progress : Progress) where
+    abbrev maximum : DwexprStep
     maximum = number_step step_kinds.SET_MAX_ITERATIONS settings.max_iterations
 
-    object : DwexprStep
+    abbrev object : DwexprStep
     object = number_step step_kinds.SET_OBJECT_ADDRESS settings.object_address
 
-    initial : DwexprStep
+    abbrev initial : DwexprStep
     initial = number_step step_kinds.SET_INITIAL_VALUE settings.initial_value
 
-    start : DwexprStep
+    abbrev start : DwexprStep
     start = number_step step_kinds.EVALUATE 0
-
-    limited : State
-    limited = with_maximum settings.max_iterations first
 
     -- the maximum is set, before all others
     one : (rest : List DwexprStep) → Reached texts (maximum ∷ []) first limited Set before
-    one rest = set_next (maximum ∷ rest) 0 maximum refl first limited (at_first texts first before fresh) (MaxIterations settings.max_iterations) said refl
+    one rest = set_next (maximum ∷ rest) 0 maximum refl first limited (at_first texts first before fresh) (MaxIterations settings.max_iterations) said limit
 
     -- there is no other setting
     alone : (index : ℕ) (x : State) → index ≡ 1 → x ≡ limited → DoesStep texts (Ok Evaluate) index x new before out progress → Runs texts (maximum ∷ start ∷ []) first new progress out
@@ -99,7 +96,7 @@ module _ (texts : List DwexprText) (first new : State) (before out : DwexprOutco
         (λ an_initial.
         let v = initial_comes.1 (λ z. both_ways (settings.has_initial_value == 0) an_initial (eq-eqb settings.has_initial_value 0 z)) in
         with_one initial (InitialValue settings.initial_value) refl (1 + objects + values) y (omega arith)
-        (subst (λ (z : State). IsSet (InitialValue settings.initial_value) z y) o.1 (ap (λ (z : State). z.status) o.1 ∙ fresh, v.1)) h))
+        (subst (λ (z : State). IsSet (InitialValue settings.initial_value) z y) o.1 (ap (λ (z : State). z.status) o.1 ∙ (ap (λ (z : State). z.status) limit ∙ fresh), v.1)) h))
         (λ an_object.
         let o = object_comes.1 (λ z. both_ways (settings.has_object_address == 0) an_object (eq-eqb settings.has_object_address 0 z)) in
         cond_both (settings.has_initial_value == 0) _ _ (λ (l : List DwexprStep). Runs texts (maximum ∷ object ∷ l) first new progress out)
@@ -108,4 +105,4 @@ module _ (texts : List DwexprText) (first new : State) (before out : DwexprOutco
         with_one object (ObjectAddress settings.object_address) refl (1 + objects + values) y (omega arith) (v.1 ∙ o.1) h)
         (λ an_initial.
         let v = initial_comes.1 (λ z. both_ways (settings.has_initial_value == 0) an_initial (eq-eqb settings.has_initial_value 0 z)) in
-        with_both (1 + objects + values) x y (omega arith) o.1 (ap (λ (z : State). z.status) o.1 ∙ fresh, v.1) h))
+        with_both (1 + objects + values) x y (omega arith) o.1 (ap (λ (z : State). z.status) o.1 ∙ (ap (λ (z : State). z.status) limit ∙ fresh), v.1) h))

@@ -247,18 +247,17 @@ fn set_maximum<'a, S: EvaluationStorage<Placed<'a>>>(
 #[inline(always)]
 fn set_object<'a, S: EvaluationStorage<Placed<'a>>>(
     evaluation: &mut Evaluation<Placed<'a>, S>,
-    settings: &DwexprSettings,
+    has_address: u16,
+    address: u64,
 ) -> usize
-    ensures without { settings.now.has_object_address ≡ 0
-        → (result ≡ 0) × (evaluation.new ≡ evaluation.old) }
-    ensures with { (settings.now.has_object_address ≡ 0 → ⊥)
-        → (result ≡ 1)
-        × (evaluation.new ≡ with_object (Some settings.now.object_address) evaluation.old) }
+    ensures without { has_address ≡ 0 → (result ≡ 0) × (evaluation.new ≡ evaluation.old) }
+    ensures with { (has_address ≡ 0 → ⊥)
+        → (result ≡ 1) × (evaluation.new ≡ with_object (Some address) evaluation.old) }
 {
-    if settings.has_object_address == 0 {
+    if has_address == 0 {
         return 0;
     }
-    evaluation.set_object_address(settings.object_address);
+    evaluation.set_object_address(address);
     1
 }
 
@@ -266,20 +265,19 @@ fn set_object<'a, S: EvaluationStorage<Placed<'a>>>(
 #[inline(always)]
 fn set_initial<'a, S: EvaluationStorage<Placed<'a>>>(
     evaluation: &mut Evaluation<Placed<'a>, S>,
-    settings: &DwexprSettings,
+    has_value: u16,
+    value: u64,
 ) -> usize
     requires { evaluation.old.status ≡ Start None }
-    ensures without { settings.now.has_initial_value ≡ 0
-        → (result ≡ 0) × (evaluation.new ≡ evaluation.old) }
-    ensures with { (settings.now.has_initial_value ≡ 0 → ⊥)
-        → (result ≡ 1)
-        × (evaluation.new ≡ with_status (Start (Some settings.now.initial_value)) evaluation.old) }
+    ensures without { has_value ≡ 0 → (result ≡ 0) × (evaluation.new ≡ evaluation.old) }
+    ensures with { (has_value ≡ 0 → ⊥)
+        → (result ≡ 1) × (evaluation.new ≡ with_status (Start (Some value)) evaluation.old) }
     ensures closed { IsClosed evaluation.new.status }
 {
-    if settings.has_initial_value == 0 {
+    if has_value == 0 {
         return 0;
     }
-    evaluation.set_initial_value(settings.initial_value);
+    evaluation.set_initial_value(value);
     1
 }
 
@@ -297,8 +295,8 @@ fn set_and_evaluate<'a, S: EvaluationStorage<Placed<'a>>>(
     ensures { Runs texts.now (steps_in settings.now) evaluation.old evaluation.new result outcome.new }
 {
     set_maximum(evaluation, settings.max_iterations);
-    let objects = set_object(evaluation, settings);
-    let values = set_initial(evaluation, settings);
+    let objects = set_object(evaluation, settings.has_object_address, settings.object_address);
+    let values = set_initial(evaluation, settings.has_initial_value, settings.initial_value);
     show_reply(texts, evaluation.evaluate(), 1 + objects + values, outcome)
 }
 

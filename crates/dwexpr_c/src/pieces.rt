@@ -1,10 +1,12 @@
 //! Pieces in numbers.
 
-ghost use Rattle.std.specs.Prelude.{◌≡◌, ◌<◌, [], ◌∷◌, List, IfSome, is_some, true, false, map, option_map, slice_get, unwrap_or};
-ghost use Rattle.dwarf_meaning.specs.Locations.{HoldsBytes, HoldsValue};
+ghost use Rattle.std.specs.Prelude.{◌≡◌, ◌<◌, [], ◌∷◌, IfSome, is_some, true, false, map, option_map, slice_get, unwrap_or};
+ghost use Rattle.dwarf_meaning.specs.Locations.{HoldsBytes};
 ghost use Rattle.dwarf_op.specs.Views.{piece_of};
 ghost use Rattle.dwexpr_c.specs.Outcomes.{AreWritten, ShowsLocation, ShowsPiece, piece_of_kind};
-ghost use Rattle.dwexpr_c.specs.CallerTexts.{text_of_placed, HoldsNowhere, SomeNowhere};
+ghost use Rattle.dwexpr_c.specs.CodedValues.{shown_value};
+ghost use Rattle.dwexpr_c.specs.declared.piece_kinds.TheConstants as piece_kinds;
+ghost use Rattle.dwexpr_c.specs.CallerTexts.{text_of_placed, HoldsNowhere, IsNowhere, SomeNowhere};
 
 use crate::places::Placed;
 use crate::steps::{DwexprText, place_of};
@@ -63,8 +65,9 @@ fn piece_of_kind(kind: u32, size_in_bits: Option<u64>, bit_offset: Option<u64>) 
 /// Writes a piece that holds a value.
 #[inline(never)]
 fn show_value(value: Value, size: Option<u64>, offset: Option<u64>, shown: &mut DwexprPiece)
-    ensures { (texts : List DwexprText)
-        → ShowsLocation texts size offset (HoldsValue value) shown.new }
+    ensures { shown.new ≡ record (piece_of_kind piece_kinds.HOLDS_VALUE size offset) {
+        value_type = (shown_value value).value_type;
+        number = (shown_value value).content } }
 {
     let numbers = numbers_of_value(value);
     *shown = DwexprPiece {
@@ -86,7 +89,7 @@ fn show_bytes(
     ensures some { result ≡ true
         → ShowsLocation texts.now size offset (HoldsBytes (text_of_placed bytes.entry)) shown.new }
     ensures none { result ≡ false
-        → HoldsNowhere texts.now (HoldsBytes (text_of_placed bytes.entry)) }
+        → IsNowhere texts.now (text_of_placed bytes.entry).bytes }
 {
     let Some(place) = place_of(texts, bytes) else {
         return false;

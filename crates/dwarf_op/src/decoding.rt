@@ -131,7 +131,7 @@ fn read_piece<R: Reader + Copy>(bytes: &mut R) -> Result<Operation<R>>
         (R.text bytes.old) (R.text bytes.new) result
         (operands_in R.Offset.BITS (R.text bytes.old) (entry_row encoding 0 Entry.Piece)) }
 {
-    let size = read_unsigned(Unsigned::Uleb128, bytes)?;
+    let size = bytes.read_uleb128()?;
     let Some(size_in_bits) = size.checked_mul(8) else {
         return Err(Error::InvalidPieceSize(size));
     };
@@ -375,13 +375,13 @@ fn read_operands<R: Reader + Copy>(
             value: read_unsigned(shape, bytes)?,
         }),
         Entry::PlusConstant => Ok(Operation::PlusConstant {
-            value: read_unsigned(Unsigned::Uleb128, bytes)?,
+            value: bytes.read_uleb128()?,
         }),
         Entry::SignedConstant(shape) => Ok(Operation::SignedConstant {
             value: read_signed(shape, bytes)?,
         }),
         Entry::FrameOffset => Ok(Operation::FrameOffset {
-            offset: read_signed(Signed::Sleb128, bytes)?,
+            offset: bytes.read_sleb128()?,
         }),
         Entry::Bra => Ok(Operation::Bra {
             target: read_i16(bytes)?,
@@ -391,7 +391,7 @@ fn read_operands<R: Reader + Copy>(
         }),
         Entry::BaseRegister(register) => Ok(Operation::RegisterOffset {
             register: Register(u16::from(register)),
-            offset: read_signed(Signed::Sleb128, bytes)?,
+            offset: bytes.read_sleb128()?,
             base_type: generic_type(),
         }),
         Entry::Piece => read_piece(bytes),
@@ -436,10 +436,6 @@ impl<R: Reader + Copy> Operation<R> {
             (length (R.text bytes.new).bytes < length (R.text bytes.old).bytes) }
     {
         let opcode = bytes.read_u8()?;
-        // A branch for the opcodes that are met most, so that fewer jumps are mispredicted.
-        if let 0x70..=0x8f = opcode {
-            return read_operands(entry_at(opcode), opcode, bytes, encoding);
-        }
         read_operands(entry_at(opcode), opcode, bytes, encoding)
     }
 

@@ -25,10 +25,9 @@ fixed_one true (byte ∷ rest) = grind (arith, nat_tests)
 fixed_one false (byte ∷ rest) = grind (arith, nat_tests)
 
 one_byte : (big : Bool) (bytes : List ℕ) → length bytes ≡ 1 → slice_index_or bytes 0 0 ≡ number_of big bytes
-one_byte big [] h = absurd (omega arith)
 one_byte true (a ∷ []) h = omega arith
 one_byte false (a ∷ []) h = omega arith
-one_byte big (a ∷ t ∷ bytes) h = absurd (omega arith)
+one_byte big bytes h = absurd (omega arith)
 
 pub fixed_first : (big : Bool) (bytes front rest : List ℕ) (number : ℕ) → split_at 1 bytes ≡ Ok (front, rest) → number ≡ slice_index_or front 0 0
     → fixed_at big 1 bytes ≡ Ok (number, rest)
@@ -37,49 +36,26 @@ fixed_first big bytes front rest number h e = fixed_taken big 1 bytes front rest
 -- ---- more bytes than one
 
 -- what std makes of an array, the highest byte first or the lowest
-abbrev from_bytes : (big : Bool) → Width → List ℕ → ℕ
+abbrev pub from_bytes : (big : Bool) → Width → List ℕ → ℕ
 from_bytes big w bytes = if big then from_be_bytes w bytes else from_le_bytes w bytes
 
-two_bytes : (big : Bool) (bytes : List ℕ) → length bytes ≡ 2 → from_bytes big w16 bytes ≡ number_of big bytes
-two_bytes big [] h = absurd (omega arith)
-two_bytes big (a ∷ []) h = absurd (omega arith)
+pub fixed_wide : (w : Width) (n : ℕ) → ((big : Bool) (bytes : List ℕ) → length bytes ≡ n → from_bytes big w bytes ≡ number_of big bytes)
+    → (big order : Bool) (bytes front rest : List ℕ) (number : ℕ) → split_at n bytes ≡ Ok (front, rest) → big ≡ order
+    → number ≡ from_bytes order w front → fixed_at big n bytes ≡ Ok (number, rest)
+fixed_wide w n same_number big order bytes front rest number h same e =
+    rw same (fixed_taken order n bytes front rest number h (e ∙ same_number order front (length_taken n bytes front rest h)))
+
+pub two_bytes : (big : Bool) (bytes : List ℕ) → length bytes ≡ 2 → from_bytes big w16 bytes ≡ number_of big bytes
 two_bytes true (a ∷ b ∷ []) h = omega arith
 two_bytes false (a ∷ b ∷ []) h = omega arith
-two_bytes big (a ∷ b ∷ t ∷ bytes) h = absurd (omega arith)
+two_bytes big bytes h = absurd (omega arith)
 
-pub fixed_two : (big order : Bool) (bytes front rest : List ℕ) (number : ℕ) → split_at 2 bytes ≡ Ok (front, rest) → big ≡ order
-    → number ≡ from_bytes order w16 front → fixed_at big 2 bytes ≡ Ok (number, rest)
-fixed_two big order bytes front rest number h same e =
-    rw same (fixed_taken order 2 bytes front rest number h (e ∙ two_bytes order front (length_taken 2 bytes front rest h)))
-
-four_bytes : (big : Bool) (bytes : List ℕ) → length bytes ≡ 4 → from_bytes big w32 bytes ≡ number_of big bytes
-four_bytes big [] h = absurd (omega arith)
-four_bytes big (a ∷ []) h = absurd (omega arith)
-four_bytes big (a ∷ b ∷ []) h = absurd (omega arith)
-four_bytes big (a ∷ b ∷ c ∷ []) h = absurd (omega arith)
+pub four_bytes : (big : Bool) (bytes : List ℕ) → length bytes ≡ 4 → from_bytes big w32 bytes ≡ number_of big bytes
 four_bytes true (a ∷ b ∷ c ∷ d ∷ []) h = omega arith
 four_bytes false (a ∷ b ∷ c ∷ d ∷ []) h = omega arith
-four_bytes big (a ∷ b ∷ c ∷ d ∷ t ∷ bytes) h = absurd (omega arith)
+four_bytes big bytes h = absurd (omega arith)
 
-pub fixed_four : (big order : Bool) (bytes front rest : List ℕ) (number : ℕ) → split_at 4 bytes ≡ Ok (front, rest) → big ≡ order
-    → number ≡ from_bytes order w32 front → fixed_at big 4 bytes ≡ Ok (number, rest)
-fixed_four big order bytes front rest number h same e =
-    rw same (fixed_taken order 4 bytes front rest number h (e ∙ four_bytes order front (length_taken 4 bytes front rest h)))
-
-eight_bytes : (big : Bool) (bytes : List ℕ) → length bytes ≡ 8 → from_bytes big w64 bytes ≡ number_of big bytes
-eight_bytes big [] h = absurd (omega arith)
-eight_bytes big (a ∷ []) h = absurd (omega arith)
-eight_bytes big (a ∷ b ∷ []) h = absurd (omega arith)
-eight_bytes big (a ∷ b ∷ c ∷ []) h = absurd (omega arith)
-eight_bytes big (a ∷ b ∷ c ∷ d ∷ []) h = absurd (omega arith)
-eight_bytes big (a ∷ b ∷ c ∷ d ∷ p ∷ []) h = absurd (omega arith)
-eight_bytes big (a ∷ b ∷ c ∷ d ∷ p ∷ q ∷ []) h = absurd (omega arith)
-eight_bytes big (a ∷ b ∷ c ∷ d ∷ p ∷ q ∷ r ∷ []) h = absurd (omega arith)
+pub eight_bytes : (big : Bool) (bytes : List ℕ) → length bytes ≡ 8 → from_bytes big w64 bytes ≡ number_of big bytes
 eight_bytes true (a ∷ b ∷ c ∷ d ∷ p ∷ q ∷ r ∷ s ∷ []) h = omega arith
 eight_bytes false (a ∷ b ∷ c ∷ d ∷ p ∷ q ∷ r ∷ s ∷ []) h = omega arith
-eight_bytes big (a ∷ b ∷ c ∷ d ∷ p ∷ q ∷ r ∷ s ∷ t ∷ bytes) h = absurd (omega arith)
-
-pub fixed_eight : (big order : Bool) (bytes front rest : List ℕ) (number : ℕ) → split_at 8 bytes ≡ Ok (front, rest) → big ≡ order
-    → number ≡ from_bytes order w64 front → fixed_at big 8 bytes ≡ Ok (number, rest)
-fixed_eight big order bytes front rest number h same e =
-    rw same (fixed_taken order 8 bytes front rest number h (e ∙ eight_bytes order front (length_taken 8 bytes front rest h)))
+eight_bytes big bytes h = absurd (omega arith)

@@ -1,5 +1,5 @@
 -- Reads by their fronts: how they follow one another, and which reads keep to them.
-use Rattle.std.proofs.Common.{◌≡◌, ℕ, ◌*◌, ◌≤◌, ◌<◌, Bool, true, false, cond, List, [], ◌∷◌, ◌++◌, length, length-append, append_assoc, take, Result, Ok, Err, ◌⊎◌, inl, inr, arith, refl, ap, sym, ◌∙◌, subst}
+use Rattle.std.proofs.Common.{◌≡◌, ℕ, ◌*◌, ◌≤◌, ◌<◌, Bool, true, false, cond, List, [], ◌∷◌, ◌++◌, length, length-append, append_assoc, take, drop, Result, Ok, Err, inl, inr, arith, refl, ap, sym, ◌∙◌, subst}
 use Rattle.std.proofs.lemmas.Bool.{cases_lt}
 use Rattle.std.proofs.lemmas.List.{length-take-le, take-append-drop}
 use Rattle.std.proofs.Math.Seq.{take-append_seam, drop-append_seam}
@@ -17,27 +17,31 @@ through (Ok a) next b h = (a, refl, h)
 through (Err fault) next b h = absurd cc
 
 -- where a list that is cut short ends, of two that are joined
-record InFirst (shorter first : List ℕ) : Type 0 where
-  byte : ℕ
-  lost : List ℕ
-  whole : shorter ++ (byte ∷ lost) ≡ first
+data Cut (shorter first second : List ℕ) (byte : ℕ) (lost : List ℕ) : Type 0 where
+  in_first : (next : ℕ) (more : List ℕ) → shorter ++ (next ∷ more) ≡ first → Cut shorter first second byte lost
+  in_second : (beyond : List ℕ) → shorter ≡ first ++ beyond → beyond ++ (byte ∷ lost) ≡ second → Cut shorter first second byte lost
 
-record InSecond (shorter first second : List ℕ) (byte : ℕ) (lost : List ℕ) : Type 0 where
-  beyond : List ℕ
-  front : shorter ≡ first ++ beyond
-  whole : beyond ++ (byte ∷ lost) ≡ second
-
-where_cut : (shorter first second : List ℕ) (byte : ℕ) (lost : List ℕ) → shorter ++ (byte ∷ lost) ≡ first ++ second
-    → InFirst shorter first ⊎ InSecond shorter first second byte lost
-where_cut shorter [] second byte lost h = inr (record { beyond = shorter; front = refl; whole = h })
-where_cut [] (x ∷ first) second byte lost h = inl (record { byte = x; lost = first; whole = refl })
+where_cut : (shorter first second : List ℕ) (byte : ℕ) (lost : List ℕ) → shorter ++ (byte ∷ lost) ≡ first ++ second → Cut shorter first second byte lost
+where_cut shorter [] second byte lost h = in_second shorter refl h
+where_cut [] (x ∷ first) second byte lost h = in_first x first refl
 where_cut (y ∷ shorter) (x ∷ first) second byte lost h =
     let head : y ≡ x = cc in
     let tail : shorter ++ (byte ∷ lost) ≡ first ++ second = cc in
     elim (where_cut shorter first second byte lost tail) [
-      | inl p ↦ inl (record { byte = p.byte; lost = p.lost; whole = rw (head, p.whole) refl })
-      | inr p ↦ inr (record { beyond = p.beyond; front = rw (head, p.front) refl; whole = p.whole })
+      | in_first next more whole ↦ in_first next more (rw (head, whole) refl)
+      | in_second beyond front whole ↦ in_second beyond (rw (head, front) refl) whole
     ]
+
+-- one front and then another, by what the first spells
+pub takes_then : {A B : Type 0} (read : List ℕ → Result (A × List ℕ) Fault) (next : A → List ℕ → Result (B × List ℕ) Fault) (first second : List ℕ) (a : A) (b : B)
+    → TakesFront read first a → TakesFront (next a) second b → TakesFront (λ bytes. read bytes >>= λ x. next x.0 x.1) (first ++ second) b
+takes_then read next first second a b one two = record {
+  whatever_follows = λ more. rw (append_assoc first second more, one.whatever_follows (second ++ more)) (two.whatever_follows more);
+  cut_off = λ shorter byte lost e. elim (where_cut shorter first second byte lost e) [
+    | in_first next_byte others whole ↦ rw (one.cut_off shorter next_byte others whole) refl
+    | in_second beyond front whole ↦ rw (front, one.whatever_follows beyond) (two.cut_off beyond byte lost whole)
+  ];
+}
 
 -- one read, and then another by what the first gave
 pub fronts_then : {A B : Type 0} (read : List ℕ → Result (A × List ℕ) Fault) (next : A → List ℕ → Result (B × List ℕ) Fault)
@@ -50,13 +54,7 @@ fronts_then {A} {B} read next reads nexts = record {
       record {
         front = one.front ++ two.front;
         whole = append_assoc one.front two.front rest ∙ (ap (λ xs. one.front ++ xs) two.whole ∙ one.whole);
-        spells = record {
-          whatever_follows = λ more. rw (append_assoc one.front two.front more, one.spells.whatever_follows (two.front ++ more)) (two.spells.whatever_follows more);
-          cut_off = λ shorter byte lost e. elim (where_cut shorter one.front two.front byte lost e) [
-            | inl q ↦ rw (one.spells.cut_off shorter q.byte q.lost q.whole) refl
-            | inr q ↦ rw (q.front, one.spells.whatever_follows q.beyond) (two.spells.cut_off q.beyond byte lost q.whole)
-          ];
-        };
+        spells = takes_then read next one.front two.front p.0.0 value one.spells two.spells;
       };
 }
 
@@ -65,25 +63,54 @@ not_empty [] byte lost e = cc
 not_empty (x ∷ shorter) byte lost e = cc
 
 -- what reads nothing
+pub takes_none : {A : Type 0} (value : A) → TakesFront (λ bytes. Ok (value, bytes)) [] value
+takes_none value = record { whatever_follows = λ more. refl; cut_off = λ shorter byte lost e. absurd (not_empty shorter byte lost e) }
+
 pub fronts_done : {A : Type 0} (value : A) → ReadsFronts (λ bytes. Ok (value, bytes))
 fronts_done value = record {
   taken = λ bytes given rest h.
       let pair = ok_pair value given bytes rest h in
-      record {
-        front = [];
-        whole = sym pair.1;
-        spells = record {
-          whatever_follows = λ more. ap (λ x. Ok (x, more)) pair.0;
-          cut_off = λ shorter byte lost e. absurd (not_empty shorter byte lost e);
-        };
-      };
+      record { front = []; whole = sym pair.1; spells = subst (TakesFront (λ bytes. Ok (value, bytes)) []) pair.0 (takes_none value) };
 }
 
 pub fronts_checked : {A : Type 0} (checked : Result A Fault) → ReadsFronts (λ bytes. checked >>= λ value. Ok (value, bytes))
 fronts_checked (Ok value) = fronts_done value
 fronts_checked (Err fault) = record { taken = λ bytes value rest h. absurd (cc h) }
 
+-- a value that is checked
+pub takes_checked : {A B : Type 0} (read : List ℕ → Result (A × List ℕ) Fault) (check : A → Result B Fault) (front : List ℕ) (a : A) (b : B) → check a ≡ Ok b
+    → TakesFront read front a → TakesFront (λ bytes. read bytes >>= λ x. check x.0 >>= λ c. Ok (c, x.1)) front b
+takes_checked read check front a b e one = record {
+  whatever_follows = λ more. rw (one.whatever_follows more, e) refl;
+  cut_off = λ shorter byte lost whole. rw (one.cut_off shorter byte lost whole) refl;
+}
+
 -- ---- reads that are exactly a spelling
+
+-- how bytes begin: with a spelling, or malformed
+pub data Decision {A : Type 0} (Spells : List ℕ → A → Type 0) (Malformed : List ℕ → Fault → Type 0) (bytes : List ℕ) : Type 0 where
+  spelled : (front : List ℕ) (value : A) (rest : List ℕ) → Spells front value → front ++ rest ≡ bytes → Decision Spells Malformed bytes
+  malformed : (fault : Fault) → Malformed bytes fault → Decision Spells Malformed bytes
+
+module _ {A : Type 0} (Spells : List ℕ → A → Type 0) (Malformed : List ℕ → Fault → Type 0) (read : List ℕ → Result (A × List ℕ) Fault)
+    (gives : (front : List ℕ) (value : A) (rest : List ℕ) → Spells front value → read (front ++ rest) ≡ Ok (value, rest))
+    (refuses : (bytes : List ℕ) (fault : Fault) → Malformed bytes fault → read bytes ≡ Err fault) where
+  begins_by : (bytes : List ℕ) → Decision Spells Malformed bytes → (value : A) (rest : List ℕ) → read bytes ≡ Ok (value, rest) → Begins Spells bytes value rest
+  begins_by bytes (spelled front found left spells whole) value rest h =
+      let pair = ok_pair found value left rest (sym (gives front found left spells) ∙ (ap read whole ∙ h)) in
+      record { front = front; whole = ap (λ xs. front ++ xs) (sym pair.1) ∙ whole; spells = subst (Spells front) pair.0 spells }
+  begins_by bytes (malformed fault bad) value rest h = absurd (cc (refuses bytes fault bad, h))
+
+  malformed_by : (bytes : List ℕ) → Decision Spells Malformed bytes → (fault : Fault) → read bytes ≡ Err fault → Malformed bytes fault
+  malformed_by bytes (spelled front found left spells whole) fault h = absurd (cc (gives front found left spells, ap read whole, h))
+  malformed_by bytes (malformed other bad) fault h = let same : other ≡ fault = cc (refuses bytes other bad, h) in subst (Malformed bytes) same bad
+
+  -- a read that gives what is spelled and refuses what is malformed, if all bytes begin in one of the ways
+  pub exactly_by : ((bytes : List ℕ) → Decision Spells Malformed bytes) → ReadsExactly Spells Malformed read
+  exactly_by decide = record {
+    ok = λ bytes value rest. (begins_by bytes (decide bytes) value rest, λ b. ap read (sym b.whole) ∙ gives b.front value rest b.spells);
+    err = λ bytes fault. (malformed_by bytes (decide bytes) fault, refuses bytes fault);
+  }
 
 pub fronts_exactly : {A : Type 0} (Spells : List ℕ → A → Type 0) (Refused : List ℕ → Fault → Type 0) (read : List ℕ → Result (A × List ℕ) Fault)
     → ReadsExactly Spells Refused read
@@ -109,28 +136,14 @@ split_joined n front rest length_is =
     split_long n (front ++ rest) long ∙ rw (← length_is, take-append_seam front rest, drop-append_seam front rest) refl
 
 pub split_exactly : (n : ℕ) → ReadsExactly (SpellsBlock n) (MalformedBlock n) (split_at n)
-split_exactly n = record {
-  ok = λ bytes block rest. (
-    λ h. elim (cases_lt (length bytes) n) [
-      | inl short ↦ absurd (cc (split_short n bytes short, h))
-      | inr long ↦
-          let pair = ok_pair _ _ _ _ (sym (split_long n bytes long) ∙ h) in
-          record {
-            front = take n bytes;
-            whole = ap (λ xs. take n bytes ++ xs) (sym pair.1) ∙ take-append-drop n bytes;
-            spells = record { length_is = length-take-le n bytes long; block_is = sym pair.0 };
-          }
-    ],
-    λ b. rw (← b.whole, b.spells.block_is) (split_joined n b.front rest b.spells.length_is),
-  );
-  err = λ bytes fault. (
-    λ h. elim (cases_lt (length bytes) n) [
-      | inl short ↦ record { shorter = short; fault_is = cc (split_short n bytes short, h) }
-      | inr long ↦ absurd (cc (split_long n bytes long, h))
-    ],
-    λ r. rw r.fault_is (split_short n bytes r.shorter),
-  );
-}
+split_exactly n =
+    exactly_by (SpellsBlock n) (MalformedBlock n) (split_at n)
+    (λ front block rest s. rw s.block_is (split_joined n front rest s.length_is))
+    (λ bytes fault m. rw m.fault_is (split_short n bytes m.shorter))
+    (λ bytes. elim (cases_lt (length bytes) n) [
+      | inl short ↦ malformed past_the_end (record { shorter = short; fault_is = refl })
+      | inr long ↦ spelled (take n bytes) (take n bytes) (drop n bytes) (record { length_is = length-take-le n bytes long; block_is = refl }) (take-append-drop n bytes)
+    ])
 
 shorter_front : (shorter : List ℕ) (byte : ℕ) (lost : List ℕ) (n : ℕ) → length (shorter ++ (byte ∷ lost)) ≡ n → length shorter < n
 shorter_front shorter byte lost n h = omega (arith, length-append shorter (byte ∷ lost), h)
@@ -142,30 +155,16 @@ split_fronts n =
 
 -- ---- numbers of fixed size
 
-refused_before : {A B : Type 0} (r : Result A Fault) (value_of : A → B) (fault : Fault) → r >>= (λ a. Ok (value_of a)) ≡ Err fault → r ≡ Err fault
-refused_before (Ok a) value_of fault h = absurd cc
-refused_before (Err other) value_of fault h = cc
-
 pub fixed_exactly : (big : Bool) (n : ℕ) → ReadsExactly (SpellsFixed big n) (MalformedBlock n) (fixed_at big n)
 unfolding fixed_at
-fixed_exactly big n = record {
-  ok = λ bytes value rest. (
-    λ h.
-        let p = through (split_at n bytes) (λ front. Ok (number_of big front.0, front.1)) (value, rest) h in
-        let pair = ok_pair _ _ _ _ p.2 in
-        let block = ((split_exactly n).ok bytes p.0.0 p.0.1).0 p.1 in
-        record {
-          front = block.front;
-          whole = ap (λ xs. block.front ++ xs) (sym pair.1) ∙ block.whole;
-          spells = record { length_is = block.spells.length_is; value_is = sym pair.0 ∙ ap (number_of big) block.spells.block_is };
-        },
-    λ b. rw (← b.whole, split_joined n b.front rest b.spells.length_is, b.spells.value_is) refl,
-  );
-  err = λ bytes fault. (
-    λ h. ((split_exactly n).err bytes fault).0 (refused_before (split_at n bytes) (λ front. (number_of big front.0, front.1)) fault h),
-    λ r. rw (r.fault_is, split_short n bytes r.shorter) refl,
-  );
-}
+fixed_exactly big n =
+    exactly_by (SpellsFixed big n) (MalformedBlock n) (fixed_at big n)
+    (λ front value rest s. rw (split_joined n front rest s.length_is, s.value_is) refl)
+    (λ bytes fault m. rw (m.fault_is, split_short n bytes m.shorter) refl)
+    (λ bytes. elim (cases_lt (length bytes) n) [
+      | inl short ↦ malformed past_the_end (record { shorter = short; fault_is = refl })
+      | inr long ↦ spelled (take n bytes) (number_of big (take n bytes)) (drop n bytes) (record { length_is = length-take-le n bytes long; value_is = refl }) (take-append-drop n bytes)
+    ])
 
 pub fixed_fronts : (big : Bool) (n : ℕ) → ReadsFronts (fixed_at big n)
 fixed_fronts big n =
@@ -195,20 +194,14 @@ u8_cut : (shorter : List ℕ) (next : ℕ) (lost : List ℕ) (byte : ℕ) → sh
 u8_cut [] next lost byte e = refl
 u8_cut (x ∷ shorter) next lost byte e = absurd (not_empty shorter next lost cc)
 
+pub u8_takes : (byte : ℕ) → TakesFront u8_at (byte ∷ []) byte
+u8_takes byte = record { whatever_follows = λ more. refl; cut_off = λ shorter next lost e. u8_cut shorter next lost byte e }
+
 u8_taken : (bytes : List ℕ) (value : ℕ) (rest : List ℕ) → u8_at bytes ≡ Ok (value, rest) → Begins (TakesFront u8_at) bytes value rest
 u8_taken [] value rest h = absurd cc
 u8_taken (byte ∷ bytes) value rest h =
     let pair = ok_pair byte value bytes rest h in
-    record {
-      front = byte ∷ [];
-      whole = ap (λ xs. byte ∷ xs) (sym pair.1);
-      spells = record {
-        whatever_follows = λ more. ap (λ x. Ok (x, more)) pair.0;
-        cut_off = λ shorter next lost e. u8_cut shorter next lost byte e;
-      };
-    }
+    record { front = byte ∷ []; whole = ap (λ xs. byte ∷ xs) (sym pair.1); spells = subst (TakesFront u8_at (byte ∷ [])) pair.0 (u8_takes byte) }
 
 pub u8_fronts : ReadsFronts u8_at
-u8_fronts = record {
-  taken = λ bytes value rest h. u8_taken bytes value rest h;
-}
+u8_fronts = record { taken = u8_taken }

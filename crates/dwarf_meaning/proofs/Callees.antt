@@ -9,7 +9,7 @@ use Rattle.dwarf_meaning.specs.Operations.{Operation}
 use Rattle.dwarf_meaning.specs.Requests.{Request, OnAnswer, LocationAnswer, Input}
 use Rattle.dwarf_meaning.specs.Kinds.{kind_of_request, kind_of_answer, is_same_kind}
 use Rattle.dwarf_meaning.specs.Acts.{Act, Use, PushesAnswer, Calls, FaultUse, use_of}
-use Rattle.dwarf_meaning.specs.Stores.{Setup, address_bits, Store, Last, Nothing, Plain, Pieced, Pushed, Called, Located, push_value, push_caller, Next, Goes, RequestNext, FaultNext}
+use Rattle.dwarf_meaning.specs.Stores.{Setup, address_bits, Store, Last, Pushed, Called, Located, push_value, push_caller, Next, Goes, RequestNext, FaultNext}
 use Rattle.dwarf_meaning.specs.Run.{Position, End, CompleteEnd, RequestEnd, FaultEnd, Course, Continues, return_to_caller, after_push, enter_callee, run_callee, after_answer, with_input, await_answer, after_operation, read, can_count, count_one, do_operation, turn_counted, counted_act, located_act, turn_by, turn, out_of_turns, run_for, enough_turns, run}
 use Rattle.dwarf_meaning.specs.Meaning.{completion_of, has_pieces, finish_value, finish_by, First, fresh_store, with_initial, outcome_of_end, course_of, meaning}
 use Rattle.dwarf_meaning.specs.RunLaws.{IsCallee, Open, alone, calling, OutcomeOpen}
@@ -97,11 +97,7 @@ module _ (all : List Input) where
 
     opens_by : (setup : Setup) (text : Text) (place depth : ℕ) (s : Store) (inputs : List Input) (last : Last) → Known all inputs → Ends text (turn_by go setup text place depth s inputs last).end
     opens_by setup text place depth s inputs (Located location) k = opens_does setup text depth s inputs (located_act location s) (read setup text place) k
-    opens_by setup text place depth s inputs Nothing k = opens_counts setup text place depth s inputs k
-    opens_by setup text place depth s inputs Plain k = opens_counts setup text place depth s inputs k
-    opens_by setup text place depth s inputs Pieced k = opens_counts setup text place depth s inputs k
-    opens_by setup text place depth s inputs Pushed k = opens_counts setup text place depth s inputs k
-    opens_by setup text place depth s inputs Called k = opens_counts setup text place depth s inputs k
+    opens_by setup text place depth s inputs last k = opens_counts setup text place depth s inputs k
 
     opens_turn : (setup : Setup) → Opens (turn go setup)
     opens_turn setup text place depth s inputs k =
@@ -118,9 +114,8 @@ module _ (all : List Input) where
   EndOpen text _ = Unit {0}
 
   end_open : (text : Text) (end : End) → Ends text end → EndOpen text end
-  end_open text (CompleteEnd s left) h = tt
   end_open text (RequestEnd request positions left) h = h
-  end_open text (FaultEnd fault) h = tt
+  end_open text end h = tt
 
 -- ---- the whole
 
@@ -135,11 +130,7 @@ module _ (inputs : List Input) (text : Text) where
 
   finish_open : (setup : Setup) (s : Store) (last : Last) → OutcomeOpen inputs text (finish_by setup s last)
   finish_open setup s (Located location) = cond_both (has_pieces s.pieces) _ _ (OutcomeOpen inputs text) (λ e. tt) (λ e. completed_open None _)
-  finish_open setup s Plain = cond_both (has_pieces s.pieces) _ _ (OutcomeOpen inputs text) (λ e. tt) (λ e. value_open setup s)
-  finish_open setup s Pushed = cond_both (has_pieces s.pieces) _ _ (OutcomeOpen inputs text) (λ e. tt) (λ e. value_open setup s)
-  finish_open setup s Nothing = cond_both (has_pieces s.pieces) _ _ (OutcomeOpen inputs text) (λ e. tt) (λ e. value_open setup s)
-  finish_open setup s Pieced = cond_both (has_pieces s.pieces) _ _ (OutcomeOpen inputs text) (λ e. tt) (λ e. value_open setup s)
-  finish_open setup s Called = cond_both (has_pieces s.pieces) _ _ (OutcomeOpen inputs text) (λ e. tt) (λ e. value_open setup s)
+  finish_open setup s last = cond_both (has_pieces s.pieces) _ _ (OutcomeOpen inputs text) (λ e. tt) (λ e. value_open setup s)
 
   ended_open : (setup : Setup) (end : End) → Ends inputs text end → OutcomeOpen inputs text (outcome_of_end setup end)
   ended_open setup (CompleteEnd s left) h = finish_open setup s s.last

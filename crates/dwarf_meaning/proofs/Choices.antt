@@ -1,5 +1,5 @@
 -- The words of the definitions, case by case.
-use Rattle.std.proofs.Common.{suc, length, ◌≡◌, refl, ap, List, [], ◌∷◌, Option, Some, None, Result, Ok, Err}
+use Rattle.std.proofs.Common.{suc, length, ◌≡◌, refl, ap, List, [], ◌∷◌, Option, Some, None, Result, Ok, Err, Bool, true, false, cond}
 use Rattle.std.specs.Option.{option_map_or}
 use Rattle.dwarf_base.specs.declared.errors.Error.{Error}
 use Rattle.dwarf_base.specs.declared.errors.Error.TheVariants.{UnexpectedEof}
@@ -22,6 +22,10 @@ pub answer_both : {X A : Type 0} (P : A → Type 0) (r : Result X Error) (refuse
 unfolding on_result
 answer_both P (Ok x) refused go p q = q x
 answer_both P (Err error) refused go p q = p (fault_of error)
+
+pub cond_pair : {A : Type 0} (P : A → A → Type 0) (b : Bool) (x y u v : A) → (b ≡ true → P x u) → (b ≡ false → P y v) → P (cond b x y) (cond b u v)
+cond_pair P true x y u v h i = h refl
+cond_pair P false x y u v h i = i refl
 
 -- ---- which of both it is
 

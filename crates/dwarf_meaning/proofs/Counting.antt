@@ -11,19 +11,14 @@ use Rattle.dwarf_meaning.specs.Operations.{Operation}
 use Rattle.dwarf_meaning.specs.Requests.{Request, OnAnswer, Input}
 use Rattle.dwarf_meaning.specs.Kinds.{kind_of_request, kind_of_answer, is_same_kind}
 use Rattle.dwarf_meaning.specs.Acts.{Act, Use, PushesAnswer, Calls, FaultUse, use_of}
-use Rattle.dwarf_meaning.specs.Stores.{Setup, address_bits, Store, Last, Nothing, Plain, Pieced, Pushed, Called, Located, Next, Goes, RequestNext, FaultNext}
+use Rattle.dwarf_meaning.specs.Stores.{Setup, address_bits, Store, Last, Pushed, Called, Located, Next, Goes, RequestNext, FaultNext}
 use Rattle.dwarf_meaning.specs.Run.{Position, End, CompleteEnd, RequestEnd, FaultEnd, Course, only_end, prepend, Continues, return_to_caller, after_push, enter_callee, run_callee, after_answer, with_input, await_answer, after_operation, read, most_operations, can_count, count_one, do_operation, turn_counted, counted_act, located_act, turn_by, turn, out_of_turns, run_for, enough_turns, run}
 use Rattle.dwarf_meaning.specs.RunLaws.{MaximaWithin, AtEnd, CountsWithin}
 use Rattle.dwarf_meaning.proofs.Counts.{OnStore, OnNext, Tally, tally_of, HasTally, tally-push_value, tally-push_caller, tally-done}
 
 -- P holds of each maximum that they set
 abbrev AllMaxima : (ℕ → Type 0) → List Input → Type 0
-AllMaxima P [] = Unit {0}
-AllMaxima P (input ∷ inputs) = P input.settings.maximum × AllMaxima P inputs
-
-all_maxima : (P : ℕ → Type 0) (inputs : List Input) → All (λ (input : Input). P input.settings.maximum) inputs → AllMaxima P inputs
-all_maxima P [] h = tt
-all_maxima P (input ∷ inputs) h = let Q : Input → Type 0 = λ input. P input.settings.maximum in (All-head Q input inputs h, all_maxima P inputs (All-tail Q input inputs h))
+AllMaxima P inputs = All (λ (input : Input). P input.settings.maximum) inputs
 
 -- what is known of each maximum, and the bound on counts that it gives
 pub record Bounded (bound : ℕ) (Fits : ℕ → Type 0) : Type 0 where
@@ -79,8 +74,7 @@ module _ (bound : ℕ) (Fits : ℕ → Type 0) where
         counted_joined n course (go position.text position.place depth s left)
         (subst (λ (k : ℕ). Counted bound Fits k (go position.text position.place depth s left)) i.count
         (counting position.text position.place depth s left (record { count = omega (arith, h, i.count); maximum = i.maximum; others = i.others })))
-    counted_back n position depth course (RequestEnd request positions left) h i = record { few = h; at_end = tt }
-    counted_back n position depth course (FaultEnd fault) h i = record { few = h; at_end = tt }
+    counted_back n position depth course end h i = record { few = h; at_end = tt }
 
     counted_resumed : (n : Tally) (position : Position) (depth : ℕ) (inputs : List Input) (r : Result Store Fault) → OnStore (HasTally n) r → Allowed bound Fits n inputs → Counted bound Fits n.count (after_push go position depth inputs r)
     counted_resumed n position depth inputs (Ok s) h a = counted_from n position.text position.place depth s inputs h a
@@ -108,7 +102,7 @@ module _ (bound : ℕ) (Fits : ℕ → Type 0) where
     counted_asked setup position depth request on_answer s (input ∷ inputs) a =
         cond_both (is_same_kind (kind_of_request request) (kind_of_answer input.answer)) _ _ (Counted bound Fits s.count)
         (λ fits. counted_used setup position depth (use_of (address_bits setup) on_answer input.answer s.values) (with_input input s) inputs
-        (record { count = a.count; maximum = a.others.0; others = a.others.1 }))
+        (record { count = a.count; maximum = All-head (λ (next : Input). Fits next.settings.maximum) input inputs a.others; others = All-tail (λ (next : Input). Fits next.settings.maximum) input inputs a.others }))
         (λ other. record { few = omega (arith, a.count); at_end = tt })
 
     counted_led : (setup : Setup) (text : Text) (depth place : ℕ) (inputs : List Input) (n : Tally) (next : Next) → OnNext (HasTally n) next → Allowed bound Fits n inputs → Counted bound Fits n.count (after_operation go setup text depth place inputs next)
@@ -134,11 +128,7 @@ module _ (bound : ℕ) (Fits : ℕ → Type 0) where
 
     counted_by : (setup : Setup) (text : Text) (place depth : ℕ) (s : Store) (inputs : List Input) (last : Last) → Allowed bound Fits (tally_of s) inputs → Counted bound Fits s.count (turn_by go setup text place depth s inputs last)
     counted_by setup text place depth s inputs (Located location) a = counted_does setup text depth s inputs (located_act location s) (read setup text place) a
-    counted_by setup text place depth s inputs Nothing a = counted_counts setup text place depth s inputs a
-    counted_by setup text place depth s inputs Plain a = counted_counts setup text place depth s inputs a
-    counted_by setup text place depth s inputs Pieced a = counted_counts setup text place depth s inputs a
-    counted_by setup text place depth s inputs Pushed a = counted_counts setup text place depth s inputs a
-    counted_by setup text place depth s inputs Called a = counted_counts setup text place depth s inputs a
+    counted_by setup text place depth s inputs last a = counted_counts setup text place depth s inputs a
 
     counted_turn : (setup : Setup) → Counting (turn go setup)
     counted_turn setup text place depth s inputs a =
@@ -159,43 +149,36 @@ within_bounded bound = record { below = λ m h n i j. omega (arith, h, i) }
 most_bounded : Bounded most_operations (λ m. Unit {0})
 most_bounded = record { below = λ m h n i j. j }
 
-all_any : (inputs : List Input) → AllMaxima (λ m. Unit {0}) inputs
-all_any [] = tt
-all_any (input ∷ inputs) = (tt, all_any inputs)
-
 count_at : (bound total : ℕ) (Fits : ℕ → Type 0) (end : End) → total ≤ bound → EndStands Fits total end → AtEnd (λ s. s.count ≤ bound) end
 count_at bound total Fits (CompleteEnd s left) h i = omega (arith, h, i.count)
-count_at bound total Fits (RequestEnd request positions left) h i = tt
-count_at bound total Fits (FaultEnd fault) h i = tt
+count_at bound total Fits end h i = tt
 
 total_at : (total : ℕ) (Fits : ℕ → Type 0) (end : End) → EndStands Fits total end → AtEnd (λ s. s.count ≡ total) end
 total_at total Fits (CompleteEnd s left) i = i.count
-total_at total Fits (RequestEnd request positions left) i = tt
-total_at total Fits (FaultEnd fault) i = tt
+total_at total Fits end i = tt
 
 maximum_at : (bound total : ℕ) (end : End) → EndStands (λ m. m ≤ bound) total end → AtEnd (λ s. s.settings.maximum ≤ bound) end
 maximum_at bound total (CompleteEnd s left) i = i.maximum
-maximum_at bound total (RequestEnd request positions left) i = tt
-maximum_at bound total (FaultEnd fault) i = tt
+maximum_at bound total end i = tt
 
 counts_within : (bound start : ℕ) (Fits : ℕ → Type 0) (course : Course) → Counted bound Fits start course → CountsWithin bound start course
 counts_within bound start Fits course h = record { few = omega (arith, h.few); count = count_at bound _ Fits course.end h.few h.at_end }
 
 pub count_within : (bound : ℕ) (setup : Setup) (text : Text) (place depth : ℕ) (s : Store) (inputs : List Input) → s.count ≤ bound → s.settings.maximum ≤ bound → MaximaWithin bound inputs → CountsWithin bound s.count (run setup text place depth s inputs)
 count_within bound setup text place depth s inputs h i j =
-    counts_within bound s.count _ _ (counted_run_for bound (λ m. m ≤ bound) (within_bounded bound) enough_turns setup text place depth s inputs (record { count = h; maximum = i; others = all_maxima (λ m. m ≤ bound) inputs j }))
+    counts_within bound s.count _ _ (counted_run_for bound (λ m. m ≤ bound) (within_bounded bound) enough_turns setup text place depth s inputs (record { count = h; maximum = i; others = j }))
 
 pub maximum_within : (bound : ℕ) (setup : Setup) (text : Text) (place depth : ℕ) (s : Store) (inputs : List Input) → s.count ≤ bound → s.settings.maximum ≤ bound → MaximaWithin bound inputs → AtEnd (λ s. s.settings.maximum ≤ bound) (run setup text place depth s inputs).end
 maximum_within bound setup text place depth s inputs h i j =
-    maximum_at bound _ _ (counted_run_for bound (λ m. m ≤ bound) (within_bounded bound) enough_turns setup text place depth s inputs (record { count = h; maximum = i; others = all_maxima (λ m. m ≤ bound) inputs j })).at_end
+    maximum_at bound _ _ (counted_run_for bound (λ m. m ≤ bound) (within_bounded bound) enough_turns setup text place depth s inputs (record { count = h; maximum = i; others = j })).at_end
 
 more_bounded : (start : ℕ) → Bounded (start + most_operations) (λ m. Unit {0})
 more_bounded start = record { below = λ m h n i j. omega (arith, j) }
 
 pub counts_path : (setup : Setup) (text : Text) (place depth : ℕ) (s : Store) (inputs : List Input) → let course = run setup text place depth s inputs in AtEnd (λ end. end.count ≡ s.count + length course.path) course.end
 counts_path setup text place depth s inputs =
-    total_at _ (λ m. Unit {0}) _ (counted_run_for (s.count + most_operations) (λ m. Unit {0}) (more_bounded s.count) enough_turns setup text place depth s inputs (record { count = omega arith; maximum = tt; others = all_any inputs })).at_end
+    total_at _ (λ m. Unit {0}) _ (counted_run_for (s.count + most_operations) (λ m. Unit {0}) (more_bounded s.count) enough_turns setup text place depth s inputs (record { count = omega arith; maximum = tt; others = λ k d l. tt })).at_end
 
 pub count_at_most : (setup : Setup) (text : Text) (place depth : ℕ) (s : Store) (inputs : List Input) → s.count ≤ most_operations → CountsWithin most_operations s.count (run setup text place depth s inputs)
 count_at_most setup text place depth s inputs h =
-    counts_within most_operations s.count _ _ (counted_run_for most_operations (λ m. Unit {0}) most_bounded enough_turns setup text place depth s inputs (record { count = h; maximum = tt; others = all_any inputs }))
+    counts_within most_operations s.count _ _ (counted_run_for most_operations (λ m. Unit {0}) most_bounded enough_turns setup text place depth s inputs (record { count = h; maximum = tt; others = λ k d l. tt }))

@@ -1,5 +1,5 @@
 -- What users of decoding need of it: an operation has bytes, all of the text, and bytes after them don't matter.
-use Rattle.std.proofs.Common.{ℕ, ◌≡◌, ◌<◌, ◌⊎◌, inl, inr, Bool, List, [], ◌∷◌, ◌++◌, length, Ok, Err, arith, length-append, append_assoc, refl, sym, ap, subst, ◌∙◌, true, false, cond, nat_lt, ◌*◌, ◌^◌}
+use Rattle.std.proofs.Common.{ℕ, ◌≡◌, ◌<◌, ◌⊎◌, inl, inr, Bool, List, ◌++◌, length, Ok, Err, arith, length-append, append_assoc, refl, sym, ap, subst, ◌∙◌, true, false, cond, nat_lt, ◌*◌, ◌^◌}
 use Rattle.dwarf_base.specs.declared.common.Encoding.{Encoding}
 use Rattle.dwarf_base.specs.Faults.{Fault}
 use Rattle.dwarf_base.specs.Fronts.{Begins, ReadsExactly, TakesFront}
@@ -10,8 +10,10 @@ use Rattle.dwarf_meaning.specs.Decoding.{operation_at, operation_in}
 use Rattle.dwarf_meaning.specs.Spelling.{Spells, Malformed, MalformedNumber, MalformedUnsigned, MalformedInteger, MalformedOperands}
 use Rattle.dwarf_meaning.specs.Spelling as spelling
 use Rattle.dwarf_meaning.specs.DecodeLaws.{IsDecided, IsDecodingFault}
-use Rattle.dwarf_meaning.proofs.ReadsExactly.{Reading, pair_same}
-use Rattle.dwarf_meaning.proofs.OperationReads.{reads_operation}
+use Rattle.dwarf_meaning.proofs.ReadsExactly.{Reading}
+use Rattle.std.proofs.lemmas.List.{append_cancel_right}
+use Rattle.dwarf_base.proofs.Suffixes.{ok_pair}
+use Rattle.dwarf_meaning.proofs.OperationReads.{operation_takes, reads_operation}
 use Rattle.dwarf_base.specs.declared.errors.Error.TheVariants.{UnsupportedOffset, UnsupportedRegister, InvalidPieceSize, BadUnsignedLeb128}
 use Rattle.dwarf_base.specs.Leb.{LebForm, MalformedLeb, unsigned_leb, signed_leb}
 use Rattle.dwarf_meaning.specs.Opcodes.{Row}
@@ -21,9 +23,7 @@ some_bytes encoding bits big bytes op (spelling.spelled opcode operands op' s) =
 
 -- an operation that is read has a byte at least, and all its bytes are the text's
 pub operation_begins : (encoding : Encoding) (bits : ℕ) (text : Text) (op : Operation) (rest : List ℕ) → operation_at encoding bits text ≡ Ok (op, rest) → Begins (Spells (context_of encoding bits text.is_big)) text.bytes op rest
-operation_begins encoding bits text op rest h =
-    let f = (reads_operation encoding bits text.is_big).found text.bytes op rest h in
-    record { front = f.front; spells = f.spells; whole = f.whole }
+operation_begins encoding bits text op rest h = (reads_operation encoding bits text.is_big).found text.bytes op rest h
 
 -- what is left is shorter
 pub operation_shortens : (encoding : Encoding) (bits : ℕ) (text : Text) (op : Operation) (rest : List ℕ) → operation_at encoding bits text ≡ Ok (op, rest) → length rest < length text.bytes
@@ -58,16 +58,6 @@ reads_the_spelled context =
       err = λ bytes fault. (reads.refused bytes fault, reads.refuses bytes fault);
     }
 
--- of two joined lists that are equal, and whose ends are, the fronts are
-same_front : (a b rest : List ℕ) → a ++ rest ≡ b ++ rest → a ≡ b
-same_front [] [] rest e = refl
-same_front [] (x ∷ b) rest e = absurd (omega (arith, ap length e, length-append b rest))
-same_front (x ∷ a) [] rest e = absurd (omega (arith, ap length e, length-append a rest))
-same_front (x ∷ a) (y ∷ b) rest e =
-    let first : x ≡ y = cc in
-    let others : a ++ rest ≡ b ++ rest = cc in
-    ap (λ (n : ℕ). n ∷ a) first ∙ ap (λ (xs : List ℕ). y ∷ xs) (same_front a b rest others)
-
 module _ (encoding : Encoding) (bits : ℕ) (big : Bool) (bytes : List ℕ) where
   abbrev here : Text
   here = record { bytes = bytes; is_big = big }
@@ -78,12 +68,12 @@ module _ (encoding : Encoding) (bits : ℕ) (big : Bool) (bytes : List ℕ) wher
 
   same_operation : (first second : Operation) (rest others : List ℕ) → Begins (Spells (context_of encoding bits big)) bytes first rest → Begins (Spells (context_of encoding bits big)) bytes second others → (first ≡ second) × (rest ≡ others)
   same_operation first second rest others a b =
-      pair_same first second rest others (sym (begins_operation encoding bits here first rest a) ∙ begins_operation encoding bits here second others b)
+      ok_pair first second rest others (sym (begins_operation encoding bits here first rest a) ∙ begins_operation encoding bits here second others b)
 
   same_bytes : (first second : Operation) (rest others : List ℕ) (a : Begins (Spells (context_of encoding bits big)) bytes first rest) (b : Begins (Spells (context_of encoding bits big)) bytes second others) → a.front ≡ b.front
   same_bytes first second rest others a b =
       let same = same_operation first second rest others a b in
-      same_front a.front b.front rest (a.whole ∙ (sym b.whole ∙ ap (λ (xs : List ℕ). b.front ++ xs) (sym same.1)))
+      append_cancel_right a.front b.front rest (a.whole ∙ (sym b.whole ∙ ap (λ (xs : List ℕ). b.front ++ xs) (sym same.1)))
 
   same_fault : (first second : Fault) → Malformed (context_of encoding bits big) bytes first → Malformed (context_of encoding bits big) bytes second → first ≡ second
   same_fault first second a b =
@@ -107,12 +97,7 @@ module _ (encoding : Encoding) (bits : ℕ) (big : Bool) (bytes : List ℕ) wher
   }
 
 pub takes_operation : (context : Context) (bytes : List ℕ) (op : Operation) → Spells context bytes op → TakesFront (operation_in context) bytes op
-takes_operation context bytes op s =
-    let reads = reads_operation context.encoding context.offset_bits context.is_big in
-    record {
-      whatever_follows = λ rest. reads.gives bytes op rest s;
-      cut_off = λ before byte after e. reads.cut_off before byte after op (subst (λ (xs : List ℕ). Spells context xs op) (sym e) s);
-    }
+takes_operation context = operation_takes context.encoding context.offset_bits context.is_big
 
 -- ---- the faults that decoding meets
 

@@ -68,13 +68,10 @@ pub act_is : (bits : ℕ) (object : Option ℕ) (op : Operation) (values : List 
 unfolding act
 act_is bits object operation.Drop values = top_is values _ (λ x rest e. pushes (omega (arith, e)) (omega (arith, e)))
 act_is bits object (operation.Pick index) values = some_both (IsActOf (operation.Pick index) (length values)) _ underflow (push values) refuses (λ x. push_is values x)
-act_is bits object operation.Swap [] = refuses
-act_is bits object operation.Swap (y ∷ []) = refuses
 act_is bits object operation.Swap (y ∷ x ∷ rest) = pushes (omega arith) (omega arith)
-act_is bits object operation.Rot [] = refuses
-act_is bits object operation.Rot (z ∷ []) = refuses
-act_is bits object operation.Rot (z ∷ y ∷ []) = refuses
+act_is bits object operation.Swap values = refuses
 act_is bits object operation.Rot (z ∷ y ∷ x ∷ rest) = pushes (omega arith) (omega arith)
+act_is bits object operation.Rot values = refuses
 act_is bits object (operation.Unary op) values = unary_is _ values
 act_is bits object (operation.Binary op) values = binary_is _ values
 act_is bits object (operation.PlusConstant value) values = unary_is _ values
@@ -94,28 +91,15 @@ act_is bits object (operation.Deref base_type size false) values =
 act_is bits object (operation.Deref base_type size true) values =
     cond_both (nat_lt bits (8 * size)) _ _ (IsActOf (operation.Deref base_type size true) (length values)) (λ e. refuses)
     (λ e. top_is values _ (λ x below f. top_is below _ (λ y rest g. asks (omega (arith, f, g)) tt)))
-act_is bits object (operation.RegisterOffset register offset base_type) values = asks (omega arith) tt
-act_is bits object (operation.FrameOffset offset) values = asks (omega arith) tt
 act_is bits object operation.TLS values = top_is values _ (λ x rest e. asks (omega (arith, e)) tt)
-act_is bits object operation.CallFrameCFA values = asks (omega arith) tt
-act_is bits object (operation.Call offset) values = asks (omega arith) tt
 act_is bits object (operation.EntryValue expression) values = asks (omega arith) refl
-act_is bits object (operation.ParameterRef offset) values = asks (omega arith) tt
-act_is bits object (operation.Address address) values = asks (omega arith) tt
-act_is bits object (operation.AddressIndex index) values = asks (omega arith) tt
-act_is bits object (operation.ConstantIndex index) values = asks (omega arith) tt
-act_is bits object (operation.TypedLiteral base_type value) values = asks (omega arith) tt
-act_is bits object (operation.Convert base_type) values = asks (omega arith) tt
-act_is bits object (operation.Reinterpret base_type) values = asks (omega arith) tt
-act_is bits object (operation.WasmLocal index) values = asks (omega arith) tt
-act_is bits object (operation.WasmGlobal index) values = asks (omega arith) tt
-act_is bits object (operation.WasmStack index) values = asks (omega arith) tt
 act_is bits object (operation.Register register) values = locates (omega arith) tt
 act_is bits object (operation.ImplicitValue bytes) values = locates (omega arith) refl
 act_is bits object operation.StackValue values = top_is values _ (λ x rest e. locates (omega (arith, e)) tt)
 act_is bits object (operation.ImplicitPointer value byte_offset) values = locates (omega arith) tt
 act_is bits object (operation.Piece size_in_bits bit_offset) values =
     top_both (IsActOf (operation.Piece size_in_bits bit_offset) (length values)) values _ _ (ends (omega arith) tt) (λ x rest e. ends (omega (arith, e)) tt)
+act_is bits object op values = asks (omega arith) tt
 
 -- ---- answers
 

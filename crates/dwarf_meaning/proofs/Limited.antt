@@ -153,11 +153,7 @@ module _ (setup : Setup) where
 
     limited_by : (text : Text) (place depth : ℕ) (s : Store) (inputs : List Input) (last : Last) → IsWithin setup.limits.callers depth → Kept s → EndWithin setup.limits text depth (turn_by go setup text place depth s inputs last).end
     limited_by text place depth s inputs (Located location) d h = limited_does text depth s inputs (located_act location s) (read setup text place) d (kept_located location s h)
-    limited_by text place depth s inputs Nothing d h = limited_counts text place depth s inputs d h
-    limited_by text place depth s inputs Plain d h = limited_counts text place depth s inputs d h
-    limited_by text place depth s inputs Pieced d h = limited_counts text place depth s inputs d h
-    limited_by text place depth s inputs Pushed d h = limited_counts text place depth s inputs d h
-    limited_by text place depth s inputs Called d h = limited_counts text place depth s inputs d h
+    limited_by text place depth s inputs last d h = limited_counts text place depth s inputs d h
 
     limited_turn : Limited (turn go setup)
     limited_turn text place depth s inputs d h =
@@ -194,9 +190,7 @@ module _ (setup : Setup) where
   finish_within text s (Located location) h = located_within text location s h
   finish_within text s Plain h = judged_within text s h
   finish_within text s Pushed h = judged_within text s h
-  finish_within text s Nothing h = free_within text s h
-  finish_within text s Pieced h = free_within text s h
-  finish_within text s Called h = free_within text s h
+  finish_within text s last h = free_within text s h
 
   -- a text's callers are within the limits if it is
   returned_within : (text : Text) (callers : List Position) (course : Course) → IsWithin setup.limits.callers (length callers) → EndWithin setup.limits text (length callers) course.end → EndWithin setup.limits (outermost text callers) 0 (return_to_callers setup callers course).end

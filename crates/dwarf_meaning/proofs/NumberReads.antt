@@ -1,202 +1,112 @@
 -- Operands that are numbers are read exactly if they are spelled.
-use Rattle.std.proofs.Common.{ℕ, ◌≡◌, List, [], ◌∷◌, ◌++◌, Ok, Err, refl, append-nil, sym, ◌∙◌, ◌*◌, ◌<◌, ℤ, Bool, true, false, cond, length, Result, ap, subst}
+use Rattle.std.proofs.Common.{ℕ, ◌≡◌, List, ◌++◌, Ok, Err, refl, sym, ◌*◌, ℤ, Bool, true, false, cond, length, Result, subst}
 use Rattle.dwarf_base.specs.Faults.{Fault, past_the_end}
-use Rattle.dwarf_base.specs.Fronts as fronts
+use Rattle.dwarf_base.specs.Fronts.{TakesFront, SpellsBlock, SpellsFixed, MalformedBlock}
 use Rattle.dwarf_base.specs.Leb.{uleb_at, sleb_at, SpellsLeb, MalformedLeb, unsigned_leb, signed_leb}
+use Rattle.dwarf_base.proofs.Fronts.{Decision, spelled, malformed, takes_checked, split_exactly, split_fronts, fixed_exactly, fixed_fronts}
 use Rattle.dwarf_base.proofs.LebLaws.{uleb_exactly, sleb_exactly, uleb_fronts, sleb_fronts}
-use Rattle.dwarf_meaning.proofs.ReadsExactly.{Reading, ReadsExactly, reads_as, reads_checked, Passes, passes, Fails, unread, unfit, SpellsBlock, block, RefusesBlock, few, reads_block}
+use Rattle.dwarf_meaning.proofs.ReadsExactly.{Covers, covers_exactly}
 use Rattle.dwarf_base.specs.declared.errors.Error.TheVariants.{UnsupportedAddressSize}
 use Rattle.dwarf_base.specs.Numbers.{number_of, signed_of}
-use Rattle.dwarf_base.specs.Reads.{split_at, fixed_at, signed_at, address_at, is_fixed_size}
+use Rattle.dwarf_base.specs.Reads.{split_at, fixed_at, is_fixed_size}
 use Rattle.dwarf_meaning.specs.Operands.{Context, Layout, Range, Bytes, Leb128, operand_value}
 use Rattle.dwarf_meaning.specs.Decoding.{number_at, unsigned_at, integer_at}
 use Rattle.dwarf_meaning.specs.Spelling.{SpellsNumber, MalformedNumber, SpellsInteger, MalformedInteger, SpellsUnsigned, MalformedUnsigned}
 use Rattle.dwarf_meaning.specs.Spelling as spelling
 
-module _ {A : Type 0} (read : List ℕ → Reading A) (S : List ℕ → A → Type 0) (Q : List ℕ → Fault → Type 0) (exactly : fronts.ReadsExactly S Q read) (takes : fronts.ReadsFronts read) where
-  gives : (front : List ℕ) (value : A) (rest : List ℕ) → S front value → read (front ++ rest) ≡ Ok (value, rest)
-  gives front value rest s = (exactly.ok (front ++ rest) value rest).1 (record { front = front; whole = refl; spells = s })
+uleb_covers : Covers uleb_at (SpellsLeb unsigned_leb) (MalformedLeb unsigned_leb)
+uleb_covers = covers_exactly uleb_at (SpellsLeb unsigned_leb) (MalformedLeb unsigned_leb) uleb_exactly uleb_fronts
 
-  cut_off : (before : List ℕ) (byte : ℕ) (after : List ℕ) (value : A) → S (before ++ (byte ∷ after)) value → read before ≡ Err past_the_end
-  cut_off before byte after value s =
-      let bytes = before ++ (byte ∷ after) in
-      let taken = takes.taken (bytes ++ []) value [] (gives bytes value [] s) in
-      let same : bytes ≡ taken.front = sym (append-nil bytes) ∙ (sym taken.whole ∙ append-nil taken.front) in
-      taken.spells.cut_off before byte after same
+sleb_covers : Covers sleb_at (SpellsLeb signed_leb) (MalformedLeb signed_leb)
+sleb_covers = covers_exactly sleb_at (SpellsLeb signed_leb) (MalformedLeb signed_leb) sleb_exactly sleb_fronts
 
-  reads_as_spelled : ReadsExactly read S Q
-  reads_as_spelled = record {
-    gives = gives;
-    found = λ bytes value rest e. let b = (exactly.ok bytes value rest).0 e in record { front = b.front; spells = b.spells; whole = b.whole };
-    refuses = λ bytes fault r. (exactly.err bytes fault).1 r;
-    refused = λ bytes fault e. (exactly.err bytes fault).0 e;
-    cut_off = cut_off;
-  }
+pub block_covers : (size : ℕ) → Covers (split_at size) (SpellsBlock size) (MalformedBlock size)
+block_covers size = covers_exactly (split_at size) (SpellsBlock size) (MalformedBlock size) (split_exactly size) (split_fronts size)
 
-pub reads_uleb : ReadsExactly uleb_at (SpellsLeb unsigned_leb) (MalformedLeb unsigned_leb)
-reads_uleb = reads_as_spelled uleb_at (SpellsLeb unsigned_leb) (MalformedLeb unsigned_leb) uleb_exactly uleb_fronts
+module _ (big : Bool) where
+  fixed_covers : (size : ℕ) → Covers (fixed_at big size) (SpellsFixed big size) (MalformedBlock size)
+  fixed_covers size = covers_exactly (fixed_at big size) (SpellsFixed big size) (MalformedBlock size) (fixed_exactly big size) (fixed_fronts big size)
 
-pub reads_sleb : ReadsExactly sleb_at (SpellsLeb signed_leb) (MalformedLeb signed_leb)
-reads_sleb = reads_as_spelled sleb_at (SpellsLeb signed_leb) (MalformedLeb signed_leb) sleb_exactly sleb_fronts
+  -- all bytes spell a number
+  fixed_takes : (bytes : List ℕ) → TakesFront (fixed_at big (length bytes)) bytes (number_of big bytes)
+  fixed_takes bytes = (fixed_covers (length bytes)).takes bytes (number_of big bytes) (record { length_is = refl; value_is = refl })
 
--- ---- numbers of a fixed size
+  -- ---- unsigned numbers, by their layout
 
-abbrev number_in : Bool → List ℕ → Result ℕ Fault
-number_in big bytes = Ok (number_of big bytes)
+  number_takes : (layout : Layout) (front : List ℕ) (number : ℕ) → SpellsNumber big layout front number → TakesFront (number_at big layout) front number
+  number_takes layout front number (spelling.in_bytes bytes good) =
+      subst (λ (b : Bool). TakesFront (λ xs. cond b (fixed_at big (length bytes) xs) (Err (UnsupportedAddressSize (length bytes)))) bytes (number_of big bytes)) (sym good) (fixed_takes bytes)
+  number_takes layout front number (spelling.in_leb128 bytes number' s) = uleb_covers.takes bytes number' s
 
-FixedSpelling : (big : Bool) (size : ℕ) → List ℕ → ℕ → Type 0
-FixedSpelling big size = Passes (SpellsBlock size) (number_in big)
+  number_refuses : (layout : Layout) (bytes : List ℕ) (fault : Fault) → MalformedNumber layout bytes fault → number_at big layout bytes ≡ Err fault
+  number_refuses layout bytes fault (spelling.few_bytes size bytes' good less) = rw good ((fixed_covers size).refuses bytes' past_the_end (record { shorter = less; fault_is = refl }))
+  number_refuses layout bytes fault (spelling.address_size size bytes' bad) = rw bad refl
+  number_refuses layout bytes fault (spelling.no_leb128 bytes' fault' r) = uleb_covers.refuses bytes' fault' r
 
-FixedRefusal : (big : Bool) (size : ℕ) → List ℕ → Fault → Type 0
-FixedRefusal big size = Fails (SpellsBlock size) (RefusesBlock size) (number_in big)
+  address_decides : (size : ℕ) (bytes : List ℕ) (good : Bool) → is_fixed_size size ≡ good → Decision (SpellsNumber big (Bytes size)) (MalformedNumber (Bytes size)) bytes
+  address_decides size bytes false bad = malformed (UnsupportedAddressSize size) (spelling.address_size size bytes bad)
+  address_decides size bytes true good = elim ((fixed_covers size).decides bytes) [
+    | spelled front number rest s whole ↦ spelled front number rest (rw (← s.length_is, s.value_is) (spelling.in_bytes front (rw s.length_is good))) whole
+    | malformed fault few ↦ malformed past_the_end (spelling.few_bytes size bytes good few.shorter)
+  ]
 
-reads_fixed : (big : Bool) (size : ℕ) → ReadsExactly (fixed_at big size) (FixedSpelling big size) (FixedRefusal big size)
-unfolding fixed_at FixedSpelling FixedRefusal
-reads_fixed big size = reads_checked (split_at size) (SpellsBlock size) (RefusesBlock size) (number_in big) (reads_block size)
+  number_decides : (layout : Layout) (bytes : List ℕ) → Decision (SpellsNumber big layout) (MalformedNumber layout) bytes
+  number_decides (Bytes size) bytes = address_decides size bytes (is_fixed_size size) refl
+  number_decides Leb128 bytes = elim (uleb_covers.decides bytes) [
+    | spelled front number rest s whole ↦ spelled front number rest (spelling.in_leb128 front number s) whole
+    | malformed fault r ↦ malformed fault (spelling.no_leb128 bytes fault r)
+  ]
 
--- a fixed number is this many bytes
-record FixedBytes (big : Bool) (size : ℕ) (bytes : List ℕ) (number : ℕ) : Type 0 where
-  sized : size ≡ length bytes
-  valued : number ≡ number_of big bytes
+  -- ---- signed operands
 
-fixed_bytes : (big : Bool) (size : ℕ) (bytes : List ℕ) (number : ℕ) → FixedSpelling big size bytes number → FixedBytes big size bytes number
-unfolding FixedSpelling
-fixed_bytes big size bytes number (passes bytes' a b (block c) e) = record { sized = refl; valued = sym cc }
+  integer_takes : (layout : Layout) (front : List ℕ) (value : ℤ) → SpellsInteger big layout front value → TakesFront (integer_at big layout) front value
+  integer_takes layout front value (spelling.in_signed_bytes bytes) =
+      takes_checked (fixed_at big (length bytes)) (λ number. Ok (signed_of (8 * length bytes) number)) bytes (number_of big bytes) _ refl (fixed_takes bytes)
+  integer_takes layout front value (spelling.in_signed_leb128 bytes value' s) = sleb_covers.takes bytes value' s
 
-fixed_spelling : (big : Bool) (bytes : List ℕ) → FixedSpelling big (length bytes) bytes (number_of big bytes)
-unfolding FixedSpelling
-fixed_spelling big bytes = passes bytes bytes (number_of big bytes) (block bytes) refl
+  integer_refuses : (layout : Layout) (bytes : List ℕ) (fault : Fault) → MalformedInteger layout bytes fault → integer_at big layout bytes ≡ Err fault
+  integer_refuses layout bytes fault (spelling.few_signed_bytes size bytes' less) = rw ((fixed_covers size).refuses bytes' past_the_end (record { shorter = less; fault_is = refl })) refl
+  integer_refuses layout bytes fault (spelling.no_signed_leb128 bytes' fault' r) = sleb_covers.refuses bytes' fault' r
 
-fixed_few : (big : Bool) (size : ℕ) (bytes : List ℕ) (fault : Fault) → FixedRefusal big size bytes fault → (length bytes < size) × (fault ≡ past_the_end)
-unfolding FixedRefusal
-fixed_few big size bytes fault (unread bytes' fault' (few size' bytes'' h)) = (h, refl)
-fixed_few big size bytes fault (unfit front rest a fault' s e) = absurd cc
+  integer_decides : (layout : Layout) (bytes : List ℕ) → Decision (SpellsInteger big layout) (MalformedInteger layout) bytes
+  integer_decides (Bytes size) bytes = elim ((fixed_covers size).decides bytes) [
+    | spelled front number rest s whole ↦ spelled front (signed_of (8 * size) number) rest (rw (← s.length_is, s.value_is) (spelling.in_signed_bytes front)) whole
+    | malformed fault few ↦ malformed past_the_end (spelling.few_signed_bytes size bytes few.shorter)
+  ]
+  integer_decides Leb128 bytes = elim (sleb_covers.decides bytes) [
+    | spelled front value rest s whole ↦ spelled front value rest (spelling.in_signed_leb128 front value s) whole
+    | malformed fault r ↦ malformed fault (spelling.no_signed_leb128 bytes fault r)
+  ]
 
-fixed_refusal : (big : Bool) (size : ℕ) (bytes : List ℕ) → length bytes < size → FixedRefusal big size bytes past_the_end
-unfolding FixedRefusal
-fixed_refusal big size bytes h = unread bytes past_the_end (few size bytes h)
-
--- ---- unsigned numbers, by their layout
-
-bytes_spelled : (big : Bool) (size : ℕ) → is_fixed_size size ≡ true → (bytes : List ℕ) (number : ℕ) → FixedSpelling big size bytes number → SpellsNumber big (Bytes size) bytes number
-bytes_spelled big size good bytes number s =
-    let f = fixed_bytes big size bytes number s in
-    let sized : is_fixed_size (length bytes) ≡ true = subst (λ (n : ℕ). is_fixed_size n ≡ true) f.sized good in
-    subst (λ (n : ℕ). SpellsNumber big (Bytes n) bytes number) (sym f.sized) (subst (SpellsNumber big (Bytes (length bytes)) bytes) (sym f.valued) (spelling.in_bytes bytes sized))
-
-bytes_spelling : (big : Bool) (size : ℕ) (bytes : List ℕ) (number : ℕ) → SpellsNumber big (Bytes size) bytes number → FixedSpelling big size bytes number
-bytes_spelling big size bytes number (spelling.in_bytes bytes' good) = fixed_spelling big bytes'
-
-bytes_refused : (big : Bool) (size : ℕ) → is_fixed_size size ≡ true → (bytes : List ℕ) (fault : Fault) → FixedRefusal big size bytes fault → MalformedNumber (Bytes size) bytes fault
-bytes_refused big size good bytes fault r =
-    let f = fixed_few big size bytes fault r in
-    subst (MalformedNumber (Bytes size) bytes) (sym f.1) (spelling.few_bytes size bytes good f.0)
-
-bytes_refusal : (big : Bool) (size : ℕ) → is_fixed_size size ≡ true → (bytes : List ℕ) (fault : Fault) → MalformedNumber (Bytes size) bytes fault → FixedRefusal big size bytes fault
-bytes_refusal big size good bytes fault (spelling.few_bytes size' bytes' good' h) = fixed_refusal big size bytes h
-bytes_refusal big size good bytes fault (spelling.address_size size' bytes' bad) = absurd cc
-
-no_address : (big : Bool) (size number : ℕ) (bytes : List ℕ) → is_fixed_size size ≡ false → SpellsNumber big (Bytes size) bytes number → ⊥
-no_address big size number bytes bad (spelling.in_bytes bytes' good) = cc
-
-only_size : (big : Bool) (size : ℕ) (bytes : List ℕ) (fault : Fault) → is_fixed_size size ≡ false → MalformedNumber (Bytes size) bytes fault → ◌≡◌ {A = Reading ℕ} (Err (UnsupportedAddressSize size)) (Err fault)
-only_size big size bytes fault bad (spelling.few_bytes size' bytes' good h) = absurd cc
-only_size big size bytes fault bad (spelling.address_size size' bytes' bad') = refl
-
--- an address of a size that none has
-bad_address : (big : Bool) (size : ℕ) → is_fixed_size size ≡ false → ReadsExactly (λ bytes. Err (UnsupportedAddressSize size)) (SpellsNumber big (Bytes size)) (MalformedNumber (Bytes size))
-bad_address big size bad = record {
-  gives = λ front number rest s. absurd (no_address big size number front bad s);
-  found = λ bytes number rest e. absurd cc;
-  refuses = λ bytes fault r. only_size big size bytes fault bad r;
-  refused = λ bytes fault e. let same : UnsupportedAddressSize size ≡ fault = cc in subst (MalformedNumber (Bytes size) bytes) same (spelling.address_size size bytes bad);
-  cut_off = λ before byte after number s. absurd (no_address big size number (before ++ (byte ∷ after)) bad s);
-}
-
-reads_address : (big : Bool) (size : ℕ) (good : Bool) → is_fixed_size size ≡ good → ReadsExactly (address_at big size) (SpellsNumber big (Bytes size)) (MalformedNumber (Bytes size))
-reads_address big size true e =
-    let h = reads_as (fixed_at big size) (FixedSpelling big size) (SpellsNumber big (Bytes size)) (FixedRefusal big size) (MalformedNumber (Bytes size)) (reads_fixed big size) (bytes_spelled big size e) (bytes_spelling big size) (bytes_refused big size e) (bytes_refusal big size e) in
-    subst (λ (good : Bool). ReadsExactly (λ bytes. cond good (fixed_at big size bytes) (Err (UnsupportedAddressSize size))) (SpellsNumber big (Bytes size)) (MalformedNumber (Bytes size))) (sym e) h
-reads_address big size false e =
-    subst (λ (good : Bool). ReadsExactly (λ bytes. cond good (fixed_at big size bytes) (Err (UnsupportedAddressSize size))) (SpellsNumber big (Bytes size)) (MalformedNumber (Bytes size))) (sym e) (bad_address big size e)
-
-leb_spelling : (big : Bool) (bytes : List ℕ) (number : ℕ) → SpellsNumber big Leb128 bytes number → SpellsLeb unsigned_leb bytes number
-leb_spelling big bytes number (spelling.in_leb128 bytes' number' s) = s
-
-leb_refusal : (big : Bool) (bytes : List ℕ) (fault : Fault) → MalformedNumber Leb128 bytes fault → MalformedLeb unsigned_leb bytes fault
-leb_refusal big bytes fault (spelling.no_leb128 bytes' fault' r) = r
-
-pub reads_number : (big : Bool) (layout : Layout) → ReadsExactly (number_at big layout) (SpellsNumber big layout) (MalformedNumber layout)
-reads_number big (Bytes size) = reads_address big size (is_fixed_size size) refl
-reads_number big Leb128 =
-    reads_as (number_at big Leb128) (SpellsLeb unsigned_leb) (SpellsNumber big Leb128) (MalformedLeb unsigned_leb) (MalformedNumber Leb128) reads_uleb (λ bytes number s. spelling.in_leb128 bytes number s) (leb_spelling big) (λ bytes fault r. spelling.no_leb128 bytes fault r) (leb_refusal big)
+  pub integer_covers : (layout : Layout) → Covers (integer_at big layout) (SpellsInteger big layout) (MalformedInteger layout)
+  integer_covers layout = record { takes = integer_takes layout; refuses = integer_refuses layout; decides = integer_decides layout }
 
 -- ---- unsigned operands
 
 module _ (context : Context) (form : Layout × Range) where
-  abbrev Spelled : List ℕ → ℕ → Type 0
-  Spelled = SpellsNumber context.is_big form.0
-
-  abbrev Refusing : List ℕ → Fault → Type 0
-  Refusing = MalformedNumber form.0
-
   abbrev check : ℕ → Result ℕ Fault
   check = operand_value context.offset_bits form.1
 
-  unsigned_spelled : (bytes : List ℕ) (value : ℕ) → Passes Spelled check bytes value → SpellsUnsigned context form bytes value
-  unsigned_spelled bytes value (passes bytes' number value' s e) = spelling.in_range bytes number value s e
+  unsigned_takes : (front : List ℕ) (value : ℕ) → SpellsUnsigned context form front value → TakesFront (unsigned_at context.offset_bits context.is_big form) front value
+  unsigned_takes front value (spelling.in_range bytes number value' s e) =
+      takes_checked (number_at context.is_big form.0) check bytes number value' e (number_takes context.is_big form.0 bytes number s)
 
-  unsigned_spelling : (bytes : List ℕ) (value : ℕ) → SpellsUnsigned context form bytes value → Passes Spelled check bytes value
-  unsigned_spelling bytes value (spelling.in_range bytes' number value' s e) = passes bytes number value s e
+  unsigned_refuses : (bytes : List ℕ) (fault : Fault) → MalformedUnsigned context form bytes fault → unsigned_at context.offset_bits context.is_big form bytes ≡ Err fault
+  unsigned_refuses bytes fault (spelling.no_number bytes' fault' r) = rw (number_refuses context.is_big form.0 bytes' fault' r) refl
+  unsigned_refuses bytes fault (spelling.out_of_range front rest number fault' s e) =
+      rw ((number_takes context.is_big form.0 front number s).whatever_follows rest, e) refl
 
-  unsigned_refused : (bytes : List ℕ) (fault : Fault) → Fails Spelled Refusing check bytes fault → MalformedUnsigned context form bytes fault
-  unsigned_refused bytes fault (unread bytes' fault' r) = spelling.no_number bytes fault r
-  unsigned_refused bytes fault (unfit front rest number fault' s e) = spelling.out_of_range front rest number fault s e
+  unsigned_checked : (bytes front rest : List ℕ) (number : ℕ) (r : Result ℕ Fault) → check number ≡ r → SpellsNumber context.is_big form.0 front number → front ++ rest ≡ bytes
+      → Decision (SpellsUnsigned context form) (MalformedUnsigned context form) bytes
+  unsigned_checked bytes front rest number (Ok value) e s whole = spelled front value rest (spelling.in_range front number value s e) whole
+  unsigned_checked bytes front rest number (Err fault) e s whole =
+      malformed fault (subst (λ (xs : List ℕ). MalformedUnsigned context form xs fault) whole (spelling.out_of_range front rest number fault s e))
 
-  unsigned_refusal : (bytes : List ℕ) (fault : Fault) → MalformedUnsigned context form bytes fault → Fails Spelled Refusing check bytes fault
-  unsigned_refusal bytes fault (spelling.no_number bytes' fault' r) = unread bytes fault r
-  unsigned_refusal bytes fault (spelling.out_of_range front rest number fault' s e) = unfit front rest number fault s e
+  unsigned_decides : (bytes : List ℕ) → Decision (SpellsUnsigned context form) (MalformedUnsigned context form) bytes
+  unsigned_decides bytes = elim (number_decides context.is_big form.0 bytes) [
+    | spelled front number rest s whole ↦ unsigned_checked bytes front rest number (check number) refl s whole
+    | malformed fault r ↦ malformed fault (spelling.no_number bytes fault r)
+  ]
 
-  pub reads_unsigned : ReadsExactly (unsigned_at context.offset_bits context.is_big form) (SpellsUnsigned context form) (MalformedUnsigned context form)
-  reads_unsigned =
-      reads_as (unsigned_at context.offset_bits context.is_big form) (Passes Spelled check) (SpellsUnsigned context form) (Fails Spelled Refusing check) (MalformedUnsigned context form)
-      (reads_checked (number_at context.is_big form.0) Spelled Refusing check (reads_number context.is_big form.0))
-      unsigned_spelled unsigned_spelling unsigned_refused unsigned_refusal
-
--- ---- signed operands
-
-abbrev integer_in : (size : ℕ) → ℕ → Result ℤ Fault
-integer_in size number = Ok (signed_of (8 * size) number)
-
-signed_spelled : (big : Bool) (size : ℕ) (bytes : List ℕ) (value : ℤ) → Passes (FixedSpelling big size) (integer_in size) bytes value → SpellsInteger big (Bytes size) bytes value
-signed_spelled big size bytes value (passes bytes' number value' s e) =
-    let f = fixed_bytes big size bytes number s in
-    let here : signed_of (8 * length bytes) (number_of big bytes) ≡ signed_of (8 * size) number = ap (λ (n : ℕ). signed_of (8 * n) (number_of big bytes)) (sym f.sized) ∙ ap (signed_of (8 * size)) (sym f.valued) in
-    let valued : signed_of (8 * size) number ≡ value = cc in
-    subst (λ (n : ℕ). SpellsInteger big (Bytes n) bytes value) (sym f.sized) (subst (SpellsInteger big (Bytes (length bytes)) bytes) (here ∙ valued) (spelling.in_signed_bytes bytes))
-
-signed_spelling : (big : Bool) (size : ℕ) (bytes : List ℕ) (value : ℤ) → SpellsInteger big (Bytes size) bytes value → Passes (FixedSpelling big size) (integer_in size) bytes value
-signed_spelling big size bytes value (spelling.in_signed_bytes bytes') = passes bytes (number_of big bytes) value (fixed_spelling big bytes) refl
-
-signed_refused : (big : Bool) (size : ℕ) (bytes : List ℕ) (fault : Fault) → Fails (FixedSpelling big size) (FixedRefusal big size) (integer_in size) bytes fault → MalformedInteger (Bytes size) bytes fault
-signed_refused big size bytes fault (unread bytes' fault' r) =
-    let f = fixed_few big size bytes fault r in
-    subst (MalformedInteger (Bytes size) bytes) (sym f.1) (spelling.few_signed_bytes size bytes f.0)
-signed_refused big size bytes fault (unfit front rest number fault' s e) = absurd cc
-
-signed_refusal : (big : Bool) (size : ℕ) (bytes : List ℕ) (fault : Fault) → MalformedInteger (Bytes size) bytes fault → Fails (FixedSpelling big size) (FixedRefusal big size) (integer_in size) bytes fault
-signed_refusal big size bytes fault (spelling.few_signed_bytes size' bytes' h) = unread bytes fault (fixed_refusal big size bytes h)
-
-sleb_spelling : (big : Bool) (bytes : List ℕ) (value : ℤ) → SpellsInteger big Leb128 bytes value → SpellsLeb signed_leb bytes value
-sleb_spelling big bytes value (spelling.in_signed_leb128 bytes' value' s) = s
-
-sleb_refusal : (big : Bool) (bytes : List ℕ) (fault : Fault) → MalformedInteger Leb128 bytes fault → MalformedLeb signed_leb bytes fault
-sleb_refusal big bytes fault (spelling.no_signed_leb128 bytes' fault' r) = r
-
-pub reads_integer : (big : Bool) (layout : Layout) → ReadsExactly (integer_at big layout) (SpellsInteger big layout) (MalformedInteger layout)
-reads_integer big (Bytes size) =
-    reads_as (signed_at big size) (Passes (FixedSpelling big size) (integer_in size)) (SpellsInteger big (Bytes size)) (Fails (FixedSpelling big size) (FixedRefusal big size) (integer_in size)) (MalformedInteger (Bytes size))
-    (reads_checked (fixed_at big size) (FixedSpelling big size) (FixedRefusal big size) (integer_in size) (reads_fixed big size))
-    (signed_spelled big size) (signed_spelling big size) (signed_refused big size) (signed_refusal big size)
-reads_integer big Leb128 =
-    reads_as sleb_at (SpellsLeb signed_leb) (SpellsInteger big Leb128) (MalformedLeb signed_leb) (MalformedInteger Leb128) reads_sleb (λ bytes value s. spelling.in_signed_leb128 bytes value s) (sleb_spelling big) (λ bytes fault r. spelling.no_signed_leb128 bytes fault r) (sleb_refusal big)
+  pub unsigned_covers : Covers (unsigned_at context.offset_bits context.is_big form) (SpellsUnsigned context form) (MalformedUnsigned context form)
+  unsigned_covers = record { takes = unsigned_takes; refuses = unsigned_refuses; decides = unsigned_decides }

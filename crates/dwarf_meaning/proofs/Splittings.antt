@@ -123,18 +123,15 @@ no_longer (other ∷ others) (op ∷ ops) fault items e =
 
 same_items : (ops others : List Operation) (fault other : Option Fault) → items_of ops fault ≡ items_of others other → (ops ≡ others) × (fault ≡ other)
 same_items [] [] None None e = (refl, refl)
-same_items [] [] None (Some b) e = absurd cc
-same_items [] [] (Some a) None e = absurd cc
 same_items [] [] (Some a) (Some b) e = let same : a ≡ b = cc in (refl, ap (λ (f : Fault). Some f) same)
 same_items [] (y ∷ others) None other e = absurd cc
-same_items [] (y ∷ others) (Some a) other e = absurd cc
 same_items (x ∷ ops) [] fault None e = absurd cc
-same_items (x ∷ ops) [] fault (Some b) e = absurd cc
 same_items (x ∷ ops) (y ∷ others) fault other e =
     let first : x ≡ y = cc in
     let more : items_of ops fault ≡ items_of others other = cc in
     let same = same_items ops others fault other more in
     (ap (λ (op : Operation). op ∷ ops) first ∙ ap (λ (xs : List Operation). y ∷ xs) same.0, same.1)
+same_items ops others fault other e = absurd cc
 
 module _ (encoding : Encoding) (bits : ℕ) (big : Bool) (bytes : List ℕ) where
   same_splitting : (ops others : List Operation) (fault other : Option Fault) → Splitting (context_of encoding bits big) bytes ops fault → Splitting (context_of encoding bits big) bytes others other → (ops ≡ others) × (fault ≡ other)

@@ -1,7 +1,8 @@
 -- Operations are equal exactly if they are seen as the same.
 use Rattle.std.proofs.Common.{ℕ, suc, ◌≡◌, ◌≤◌, ◌↔◌, Bool, true, false, List, [], ◌∷◌, inl, inr, arith, Option, Some, None, IsTrue, refl, sym, ◌∙◌, ap, ◌&&◌, nat_eq}
 use Rattle.std.specs.Bool.{Decides}
-use Rattle.std.specs.Cmp.{signed_Decides, unsigned_Decides}
+use Rattle.std.proofs.lemmas.Bool.Decides.{Decides-and}
+use Rattle.std.specs.Cmp.{booleans_Decides, signed_Decides, unsigned_Decides}
 use Rattle.std.specs.declared.clone.Clone as clone
 use Rattle.std.specs.declared.cmp.Eq as eq
 use Rattle.std.specs.declared.cmp.PartialEq as partial_eq
@@ -24,7 +25,6 @@ use denote.Enum.Declared.{Choice}
 use denote.RattleType.{RattleType}
 use denote.Struct.Field.{Field}
 use denote.Struct.Values.{Values}
-use mathlib.Core.Bool.{beq}
 use mir.Syntax.{Dict}
 use Rattle.dwarf_value.specs.Values.{Abs, Neg, Not, Plus, Minus, Mul, Div, Mod, And, Or, Xor, Shl, Shr, Shra, Eq, Ne, Lt, Le, Gt, Ge}
 
@@ -38,18 +38,10 @@ same : {A : Type 0} {x : A} → IsTrue true ↔ (x ≡ x)
 same = (λ _. refl, λ _. refl)
 
 pub both_of : {P Q : Type 0} (b c : Bool) → Decides b P → Decides c Q → Decides (b && c) (P × Q)
-both_of true true p q = (λ _. (p.0 refl, q.0 refl), λ _. refl)
-both_of true false p q = (λ passes. absurd (let no : false ≡ true = passes in cc), λ h. q.1 h.1)
-both_of false c p q = (λ passes. absurd (let no : false ≡ true = passes in cc), λ h. p.1 h.0)
+both_of = Decides-and
 
 both : {P Q : Type 0} {b c : Bool} → Decides b P → Decides c Q → Decides (b && c) (P × Q)
 both {P} {Q} {b} {c} = both_of b c
-
-bools : (x y : Bool) → Decides (beq x y) (x ≡ y)
-bools true true = (λ _. refl, λ _. refl)
-bools true false = (λ h. cc, λ h. cc)
-bools false true = (λ h. cc, λ h. cc)
-bools false false = (λ _. refl, λ _. refl)
 
 pub options : (x y : Option ℕ) → Decides (option_eq nat_eq x y) (x ≡ y)
 options None None = (λ _. refl, λ _. refl)
@@ -121,52 +113,57 @@ place (meaning.VariableValue offset) = 54
 never : {A : Type 0} → (A → ⊥) → IsTrue false ↔ A
 never refused = (λ passes. absurd (let wrong : false ≡ true = passes in cc), λ a. absurd (refused a))
 
--- a variant: a test of two values of it, where what is seen of one stands, and that the test says which are seen as the same
-record Line (Fs : List Field) (view : Values Fs → meaning.Operation) (n : ℕ) : Type 0 where
+-- a variant: a test of two values of it, and that the test says which are seen as the same
+record Line (Fs : List Field) (view : Values Fs → meaning.Operation) : Type 0 where
   test : Values Fs → Values Fs → Bool
-  there : (x : Values Fs) → place (view x) ≡ n
   decides : (x y : Values Fs) → IsTrue (test x y) ↔ (view x ≡ view y)
 
-abbrev line : {Fs : List Field} {view : Values Fs → meaning.Operation} {n : ℕ} {test : Values Fs → Values Fs → Bool}
-    → ((x : Values Fs) → place (view x) ≡ n) → ((x y : Values Fs) → IsTrue (test x y) ↔ (view x ≡ view y)) → Line Fs view n
-line {Fs} {view} {n} {test} there decides = record { test = test; there = there; decides = decides }
-
-abbrev none : {view : Values [] → meaning.Operation} {n : ℕ} → ((x : Values []) → place (view x) ≡ n) → Line [] view n
-none there = record { test = λ x y. true; there = there; decides = λ x y. same }
+abbrev line : {Fs : List Field} {view : Values Fs → meaning.Operation} {test : Values Fs → Values Fs → Bool}
+    → ((x y : Values Fs) → IsTrue (test x y) ↔ (view x ≡ view y)) → Line Fs view
+line {Fs} {view} {test} decides = record { test = test; decides = decides }
 
 abbrev ◌⊳◌ : {A B : Type 0} → A → B → A × B
 a ⊳ b = (a, b)
 
--- the variants from a place on
-abbrev Lines : (Fss : List (List Field)) → (Choice Fss → meaning.Operation) → ℕ → Type 0
-Lines [] view n = Unit {0}
-Lines (Fs ∷ Fss) view n = Line Fs (λ x. view (inl x)) n × Lines Fss (λ c. view (inr c)) (suc n)
+-- the variants that have fields
+abbrev Lines : (Fss : List (List Field)) → (Choice Fss → meaning.Operation) → Type 0
+Lines [] view = Unit {0}
+Lines ([] ∷ Fss) view = Lines Fss (λ c. view (inr c))
+Lines ((F ∷ Fs) ∷ Fss) view = Line (F ∷ Fs) (λ x. view (inl x)) × Lines Fss (λ c. view (inr c))
 
-abbrev tests : (Fss : List (List Field)) (view : Choice Fss → meaning.Operation) (n : ℕ) → Lines Fss view n → Each Bool Fss
-tests [] view n lines = tt
-tests (Fs ∷ Fss) view n lines = (lines.0.test, tests Fss (λ c. view (inr c)) (suc n) lines.1)
+abbrev tests : (Fss : List (List Field)) (view : Choice Fss → meaning.Operation) → Lines Fss view → Each Bool Fss
+tests [] view lines = tt
+tests ([] ∷ Fss) view lines = ((λ x y. true), tests Fss (λ c. view (inr c)) lines)
+tests ((F ∷ Fs) ∷ Fss) view lines = (lines.0.test, tests Fss (λ c. view (inr c)) lines.1)
 
-further : (Fss : List (List Field)) (view : Choice Fss → meaning.Operation) (n : ℕ) → Lines Fss view n → (c : Choice Fss) → n ≤ place (view c)
-further [] view n lines c = absurd c
-further (Fs ∷ Fss) view n lines (inl x) = let here = lines.0.there x in omega (arith, here)
-further (Fs ∷ Fss) view n lines (inr c) =
-    let above = further Fss (λ d. view (inr d)) (suc n) lines.1 c in omega (arith, above)
+-- what is seen of each variant stands at its place, from n on
+abbrev Placed : (Fss : List (List Field)) → (Choice Fss → meaning.Operation) → ℕ → Type 0
+Placed [] view n = Unit {0}
+Placed (Fs ∷ Fss) view n = ((x : Values Fs) → place (view (inl x)) ≡ n) × Placed Fss (λ c. view (inr c)) (suc n)
+
+further : (Fss : List (List Field)) (view : Choice Fss → meaning.Operation) (n : ℕ) → Placed Fss view n → (c : Choice Fss) → n ≤ place (view c)
+further [] view n placed c = absurd c
+further (Fs ∷ Fss) view n placed (inl x) = let here = placed.0 x in omega (arith, here)
+further (Fs ∷ Fss) view n placed (inr c) =
+    let above = further Fss (λ d. view (inr d)) (suc n) placed.1 c in omega (arith, above)
 
 -- a variant is seen as another than all that are further on
 distinct : (Fs : List Field) (Fss : List (List Field)) (view : Choice (Fs ∷ Fss) → meaning.Operation) (n : ℕ)
-    → Lines (Fs ∷ Fss) view n → (x : Values Fs) (c : Choice Fss) → place (view (inl x)) ≡ place (view (inr c)) → ⊥
-distinct Fs Fss view n lines x c equal =
-    let here = lines.0.there x in
-    let above = further Fss (λ d. view (inr d)) (suc n) lines.1 c in omega (arith, here, above, equal)
+    → Placed (Fs ∷ Fss) view n → (x : Values Fs) (c : Choice Fss) → place (view (inl x)) ≡ place (view (inr c)) → ⊥
+distinct Fs Fss view n placed x c equal =
+    let here = placed.0 x in
+    let above = further Fss (λ d. view (inr d)) (suc n) placed.1 c in omega (arith, here, above, equal)
 
 -- so two values are equal exactly if they are seen as the same
-equal_choices : (Fss : List (List Field)) (view : Choice Fss → meaning.Operation) (n : ℕ) (lines : Lines Fss view n) (c d : Choice Fss)
-    → IsTrue (by false false Fss (tests Fss view n lines) c d) ↔ (view c ≡ view d)
-equal_choices [] view n lines c d = absurd c
-equal_choices (Fs ∷ Fss) view n lines (inl x) (inl y) = lines.0.decides x y
-equal_choices (Fs ∷ Fss) view n lines (inl x) (inr d) = never (λ e. distinct Fs Fss view n lines x d (ap place e))
-equal_choices (Fs ∷ Fss) view n lines (inr c) (inl y) = never (λ e. distinct Fs Fss view n lines y c (ap place (sym e)))
-equal_choices (Fs ∷ Fss) view n lines (inr c) (inr d) = equal_choices Fss (λ e. view (inr e)) (suc n) lines.1 c d
+equal_choices : (Fss : List (List Field)) (view : Choice Fss → meaning.Operation) (n : ℕ) (lines : Lines Fss view) → Placed Fss view n → (c d : Choice Fss)
+    → IsTrue (by false false Fss (tests Fss view lines) c d) ↔ (view c ≡ view d)
+equal_choices [] view n lines placed c d = absurd c
+equal_choices ([] ∷ Fss) view n lines placed (inl x) (inl y) = same
+equal_choices ([] ∷ Fss) view n lines placed (inr c) (inr d) = equal_choices Fss (λ e. view (inr e)) (suc n) lines placed.1 c d
+equal_choices ((F ∷ Fs) ∷ Fss) view n lines placed (inl x) (inl y) = lines.0.decides x y
+equal_choices ((F ∷ Fs) ∷ Fss) view n lines placed (inr c) (inr d) = equal_choices Fss (λ e. view (inr e)) (suc n) lines.1 placed.1 c d
+equal_choices (Fs ∷ Fss) view n lines placed (inl x) (inr d) = never (λ e. distinct Fs Fss view n placed x d (ap place e))
+equal_choices (Fs ∷ Fss) view n lines placed (inr c) (inl y) = never (λ e. distinct Fs Fss view n placed y c (ap place (sym e)))
 
 module _ (O : RattleType) (o : partial_eq.Ghosts O.Denot) (p : Dict)
     (number : O.Denot → ℕ) (numbers : IsEqualityOf number o.eq) where
@@ -198,64 +195,38 @@ module _ (R O P : RattleType)
     view c = operation_of text number (code.the_make R O P c)
 
     -- in the order of `Operation`
-    unfoldable lines : Lines (code.the_parts R O P) view 0
+    unfoldable lines : Lines (code.the_parts R O P) view
     lines =
-        line (λ x. refl) (λ x y. decided (both (unsigned_Decides x.0 y.0) (both (numbers x.1.0.0 y.1.0.0) (bools x.1.1.0 y.1.1.0))) (λ (h, (t, u)). cc) (λ h. (cc, (cc, cc))))
-        ⊳ none (λ x. refl)
-        ⊳ line (λ x. refl) (λ x y. decided (unsigned_Decides x.0 y.0) (λ h. cc) (λ h. cc))
-        ⊳ none (λ x. refl)
-        ⊳ none (λ x. refl)
-        ⊳ none (λ x. refl)
-        ⊳ none (λ x. refl)
-        ⊳ none (λ x. refl)
-        ⊳ none (λ x. refl)
-        ⊳ none (λ x. refl)
-        ⊳ none (λ x. refl)
-        ⊳ none (λ x. refl)
-        ⊳ none (λ x. refl)
-        ⊳ none (λ x. refl)
-        ⊳ none (λ x. refl)
-        ⊳ line (λ x. refl) (λ x y. decided (unsigned_Decides x.0 y.0) (λ h. cc) (λ h. cc))
-        ⊳ none (λ x. refl)
-        ⊳ none (λ x. refl)
-        ⊳ none (λ x. refl)
-        ⊳ none (λ x. refl)
-        ⊳ line (λ x. refl) (λ x y. decided (signed_Decides x.0 y.0) (λ h. cc) (λ h. cc))
-        ⊳ none (λ x. refl)
-        ⊳ none (λ x. refl)
-        ⊳ none (λ x. refl)
-        ⊳ none (λ x. refl)
-        ⊳ none (λ x. refl)
-        ⊳ none (λ x. refl)
-        ⊳ line (λ x. refl) (λ x y. decided (signed_Decides x.0 y.0) (λ h. cc) (λ h. cc))
-        ⊳ line (λ x. refl) (λ x y. decided (unsigned_Decides x.0 y.0) (λ h. cc) (λ h. cc))
-        ⊳ line (λ x. refl) (λ x y. decided (signed_Decides x.0 y.0) (λ h. cc) (λ h. cc))
-        ⊳ line (λ x. refl) (λ x y. decided (unsigned_Decides x.0.0 y.0.0) (λ h. cc) (λ h. cc))
-        ⊳ line (λ x. refl) (λ x y. decided (both (unsigned_Decides x.0.0 y.0.0) (both (signed_Decides x.1.0 y.1.0) (numbers x.1.1.0.0 y.1.1.0.0))) (λ (h, (t, u)). cc) (λ h. (cc, (cc, cc))))
-        ⊳ line (λ x. refl) (λ x y. decided (signed_Decides x.0 y.0) (λ h. cc) (λ h. cc))
-        ⊳ none (λ x. refl)
-        ⊳ none (λ x. refl)
-        ⊳ line (λ x. refl) (λ x y. decided (equal_references O are_offsets_equal q number numbers x.0 y.0) (λ h. cc) (λ h. cc))
-        ⊳ none (λ x. refl)
-        ⊳ none (λ x. refl)
-        ⊳ line (λ x. refl) (λ x y. decided (both (unsigned_Decides x.0 y.0) (options x.1.0 y.1.0)) (λ (h, t). cc) (λ h. (cc, cc)))
-        ⊳ line (λ x. refl) (λ x y. decided (texts x.0 y.0) (λ h. cc) (λ h. cc))
-        ⊳ none (λ x. refl)
-        ⊳ line (λ x. refl) (λ x y. decided (both (numbers x.0.0 y.0.0) (signed_Decides x.1.0 y.1.0)) (λ (h, t). cc) (λ h. (cc, cc)))
-        ⊳ line (λ x. refl) (λ x y. decided (texts x.0 y.0) (λ h. cc) (λ h. cc))
-        ⊳ line (λ x. refl) (λ x y. decided (numbers x.0.0 y.0.0) (λ h. cc) (λ h. cc))
-        ⊳ line (λ x. refl) (λ x y. decided (unsigned_Decides x.0 y.0) (λ h. cc) (λ h. cc))
-        ⊳ line (λ x. refl) (λ x y. decided (numbers x.0.0 y.0.0) (λ h. cc) (λ h. cc))
-        ⊳ line (λ x. refl) (λ x y. decided (numbers x.0.0 y.0.0) (λ h. cc) (λ h. cc))
-        ⊳ line (λ x. refl) (λ x y. decided (both (numbers x.0.0 y.0.0) (texts x.1.0 y.1.0)) (λ (h, t). cc) (λ h. (cc, cc)))
-        ⊳ line (λ x. refl) (λ x y. decided (numbers x.0.0 y.0.0) (λ h. cc) (λ h. cc))
-        ⊳ line (λ x. refl) (λ x y. decided (numbers x.0.0 y.0.0) (λ h. cc) (λ h. cc))
-        ⊳ none (λ x. refl)
-        ⊳ line (λ x. refl) (λ x y. decided (unsigned_Decides x.0 y.0) (λ h. cc) (λ h. cc))
-        ⊳ line (λ x. refl) (λ x y. decided (unsigned_Decides x.0 y.0) (λ h. cc) (λ h. cc))
-        ⊳ line (λ x. refl) (λ x y. decided (unsigned_Decides x.0 y.0) (λ h. cc) (λ h. cc))
-        ⊳ line (λ x. refl) (λ x y. decided (numbers x.0.0 y.0.0) (λ h. cc) (λ h. cc))
+        line (λ x y. decided (both (unsigned_Decides x.0 y.0) (both (numbers x.1.0.0 y.1.0.0) (booleans_Decides x.1.1.0 y.1.1.0))) (λ (h, (t, u)). cc) (λ h. (cc, (cc, cc))))
+        ⊳ line (λ x y. decided (unsigned_Decides x.0 y.0) (λ h. cc) (λ h. cc))
+        ⊳ line (λ x y. decided (unsigned_Decides x.0 y.0) (λ h. cc) (λ h. cc))
+        ⊳ line (λ x y. decided (signed_Decides x.0 y.0) (λ h. cc) (λ h. cc))
+        ⊳ line (λ x y. decided (signed_Decides x.0 y.0) (λ h. cc) (λ h. cc))
+        ⊳ line (λ x y. decided (unsigned_Decides x.0 y.0) (λ h. cc) (λ h. cc))
+        ⊳ line (λ x y. decided (signed_Decides x.0 y.0) (λ h. cc) (λ h. cc))
+        ⊳ line (λ x y. decided (unsigned_Decides x.0.0 y.0.0) (λ h. cc) (λ h. cc))
+        ⊳ line (λ x y. decided (both (unsigned_Decides x.0.0 y.0.0) (both (signed_Decides x.1.0 y.1.0) (numbers x.1.1.0.0 y.1.1.0.0))) (λ (h, (t, u)). cc) (λ h. (cc, (cc, cc))))
+        ⊳ line (λ x y. decided (signed_Decides x.0 y.0) (λ h. cc) (λ h. cc))
+        ⊳ line (λ x y. decided (equal_references O are_offsets_equal q number numbers x.0 y.0) (λ h. cc) (λ h. cc))
+        ⊳ line (λ x y. decided (both (unsigned_Decides x.0 y.0) (options x.1.0 y.1.0)) (λ (h, t). cc) (λ h. (cc, cc)))
+        ⊳ line (λ x y. decided (texts x.0 y.0) (λ h. cc) (λ h. cc))
+        ⊳ line (λ x y. decided (both (numbers x.0.0 y.0.0) (signed_Decides x.1.0 y.1.0)) (λ (h, t). cc) (λ h. (cc, cc)))
+        ⊳ line (λ x y. decided (texts x.0 y.0) (λ h. cc) (λ h. cc))
+        ⊳ line (λ x y. decided (numbers x.0.0 y.0.0) (λ h. cc) (λ h. cc))
+        ⊳ line (λ x y. decided (unsigned_Decides x.0 y.0) (λ h. cc) (λ h. cc))
+        ⊳ line (λ x y. decided (numbers x.0.0 y.0.0) (λ h. cc) (λ h. cc))
+        ⊳ line (λ x y. decided (numbers x.0.0 y.0.0) (λ h. cc) (λ h. cc))
+        ⊳ line (λ x y. decided (both (numbers x.0.0 y.0.0) (texts x.1.0 y.1.0)) (λ (h, t). cc) (λ h. (cc, cc)))
+        ⊳ line (λ x y. decided (numbers x.0.0 y.0.0) (λ h. cc) (λ h. cc))
+        ⊳ line (λ x y. decided (numbers x.0.0 y.0.0) (λ h. cc) (λ h. cc))
+        ⊳ line (λ x y. decided (unsigned_Decides x.0 y.0) (λ h. cc) (λ h. cc))
+        ⊳ line (λ x y. decided (unsigned_Decides x.0 y.0) (λ h. cc) (λ h. cc))
+        ⊳ line (λ x y. decided (unsigned_Decides x.0 y.0) (λ h. cc) (λ h. cc))
+        ⊳ line (λ x y. decided (numbers x.0.0 y.0.0) (λ h. cc) (λ h. cc))
         ⊳ tt
+
+    placed : Placed (code.the_parts R O P) view 0
+    placed = assumption
 
     seen : (x : Operation R.Denot O.Denot P.Denot) → view (code.as_values R O P x) ≡ operation_of text number x
     seen x = ap (operation_of text number) (code.the_eta R O P x)
@@ -265,5 +236,5 @@ module _ (R O P : RattleType)
     unfolding lines
     equal_operations x y =
         let equal : IsTrue (are_operations_equal x y) ↔ (view (code.as_values R O P x) ≡ view (code.as_values R O P y)) =
-        equal_choices (code.the_parts R O P) view 0 lines (code.as_values R O P x) (code.as_values R O P y) in
+        equal_choices (code.the_parts R O P) view 0 lines placed (code.as_values R O P x) (code.as_values R O P y) in
         (λ passes. sym (seen x) ∙ (equal.0 passes ∙ seen y), λ e. equal.1 (seen x ∙ (e ∙ sym (seen y))))

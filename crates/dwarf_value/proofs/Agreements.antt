@@ -1,14 +1,12 @@
 -- Agreeing values have the same answers.
-use Rattle.std.proofs.Common.{◌≡◌, ℕ, ◌%◌, ◌^◌, ◌≤◌, ℤ, pos, ◌+ℤ◌, true, refl, sym, ap, ◌∙◌, subst, arith, pow_mono, Ok}
+use Rattle.std.proofs.Common.{◌≡◌, ℕ, ◌%◌, ◌^◌, ◌≤◌, ℤ, pos, ◌+ℤ◌, true, refl, sym, ap, ◌∙◌, subst, Ok}
 use Rattle.std.specs.Prelude.{unsigned_abs}
-use Rattle.std.proofs.lemmas.Nat.{pow_pos, mod_below}
-use native.Mathlib.Nat.{mod-eq_of_lt}
 use Rattle.dwarf_base.specs.Numbers.{residue}
 use Rattle.dwarf_value.specs.declared.types.Value.{Value}
-use Rattle.dwarf_value.specs.declared.types.Value.TheVariants.{Generic, I8, U8, I16, U16, I32, U32, I64, U64}
+use Rattle.dwarf_value.specs.declared.types.Value.TheVariants.{Generic}
 use Rattle.dwarf_value.specs.declared.types.ValueType.{ValueType}
 use Rattle.dwarf_value.specs.declared.types.ValueType.TheVariants as kind
-use Rattle.dwarf_value.specs.Values.{type_of, word_integer, integer_of, unsigned_integer, signed_integer, Agree, to_u64_of, from_u64_of, convert_of, UnaryOperator, BinaryOperator, unary_of, binary_of, Abs, Neg, Not, Plus, Minus, Mul, Div, Mod, And, Or, Xor, Shl, Shr, Shra, Eq, Ne, Lt, Le, Gt, Ge}
+use Rattle.dwarf_value.specs.Values.{type_of, word_integer, integer_of, unsigned_integer, signed_integer, Agree, to_u64_of, from_u64_of, convert_of, UnaryOperator, BinaryOperator, unary_of, binary_of, Abs, Plus}
 use Rattle.dwarf_value.specs.Laws.{SameForOne, SameForTwo}
 use Rattle.dwarf_value.proofs.Congruences.{Congruent, Congruent-sym, Congruent-trans, Congruent-add, Congruent-residue, residue-Congruent, residue-lower}
 
@@ -17,9 +15,6 @@ use Rattle.dwarf_value.proofs.Congruences.{Congruent, Congruent-sym, Congruent-t
 pub Agree-refl : (w : ℕ) (x : Value) → Agree w x x
 Agree-refl w x = record { types = refl; integers = refl }
 
-pub Agree-sym : (w : ℕ) (x y : Value) → Agree w x y → Agree w y x
-Agree-sym w x y a = record { types = sym a.types; integers = sym a.integers }
-
 pub Agree-trans : (w : ℕ) (x y z : Value) → Agree w x y → Agree w y z → Agree w x z
 Agree-trans w x y z a b = record { types = a.types ∙ b.types; integers = a.integers ∙ b.integers }
 
@@ -27,10 +22,6 @@ Agree-trans w x y z a b = record { types = a.types ∙ b.types; integers = a.int
 pub Agree-Generic : (w m n : ℕ) → m % 2 ^ w ≡ n % 2 ^ w → Agree w (Generic m) (Generic n)
 unfolding type_of integer_of word_integer
 Agree-Generic w m n e = record { types = refl; integers = ap pos e }
-
-pub Generic-Agree : (w m n : ℕ) → Agree w (Generic m) (Generic n) → m % 2 ^ w ≡ n % 2 ^ w
-unfolding integer_of word_integer
-Generic-Agree w m n a = let e = a.integers in cc
 
 -- integers that are congruent modulo 2 ^ w, as generic values
 pub Agree-residues : (w : ℕ) (a b : ℤ) → w ≤ 64 → Congruent (2 ^ w) a b → Agree w (Generic (residue 64 a)) (Generic (residue 64 b))
@@ -44,14 +35,6 @@ Agree-sums w m n z h e =
     let c = Congruent-trans (2 ^ w) (pos m) (pos (m % 2 ^ w)) (pos n) (Congruent-sym (2 ^ w) _ _ (Congruent-residue w (pos m))) same in
     Agree-residues w _ _ h (Congruent-add (2 ^ w) (pos m) (pos n) z z c (record { left = 0; right = 0; same = refl }))
 
--- a generic value as a number
-pub to_u64_of-Generic : (w n : ℕ) → w ≤ 64 → to_u64_of w (Generic n) ≡ n % 2 ^ w
-unfolding integer_of word_integer
-to_u64_of-Generic w n h =
-    let below = mod_below n (2 ^ w) (pow_pos w) in
-    let most : 2 ^ w ≤ 2 ^ 64 = pow_mono {i = w} {j = 64} h in
-    mod-eq_of_lt (omega arith)
-
 -- ---- integers with a sign
 
 with_sign : (w : ℕ) → ValueType → ℤ → ℤ
@@ -61,14 +44,7 @@ with_sign w _ z = z
 signed_from_unsigned : (w : ℕ) (x : Value) → signed_integer w x ≡ with_sign w (type_of x) (unsigned_integer w x)
 unfolding integer_of word_integer type_of with_sign
 signed_from_unsigned w (Generic n) = refl
-signed_from_unsigned w (I8 x) = refl
-signed_from_unsigned w (U8 n) = refl
-signed_from_unsigned w (I16 x) = refl
-signed_from_unsigned w (U16 n) = refl
-signed_from_unsigned w (I32 x) = refl
-signed_from_unsigned w (U32 n) = refl
-signed_from_unsigned w (I64 x) = refl
-signed_from_unsigned w (U64 n) = refl
+signed_from_unsigned w x = refl
 
 pub signed_integer-Agree : (w : ℕ) (x y : Value) → Agree w x y → signed_integer w x ≡ signed_integer w y
 signed_integer-Agree w x y a =
@@ -92,24 +68,8 @@ alike w x x' a go = go a.types a.integers (signed_integer-Agree w x x' a)
 
 pub unary_of-Agree : (op : UnaryOperator) → SameForOne (unary_of op)
 unary_of-Agree Abs w x x' a = alike w x x' a (λ p q s. cc)
-unary_of-Agree Neg w x x' a = alike w x x' a (λ p q s. cc)
-unary_of-Agree Not w x x' a = alike w x x' a (λ p q s. cc)
+unary_of-Agree op w x x' a = alike w x x' a (λ p q s. cc)
 
 pub binary_of-Agree : (op : BinaryOperator) → SameForTwo (binary_of op)
 binary_of-Agree Plus w x x' y y' a b = alike w x x' a (λ p i s. alike w y y' b (λ q j t. cc))
-binary_of-Agree Minus w x x' y y' a b = alike w x x' a (λ p i s. alike w y y' b (λ q j t. cc))
-binary_of-Agree Mul w x x' y y' a b = alike w x x' a (λ p i s. alike w y y' b (λ q j t. cc))
-binary_of-Agree Div w x x' y y' a b = alike w x x' a (λ p i s. alike w y y' b (λ q j t. cc))
-binary_of-Agree Mod w x x' y y' a b = alike w x x' a (λ p i s. alike w y y' b (λ q j t. cc))
-binary_of-Agree And w x x' y y' a b = alike w x x' a (λ p i s. alike w y y' b (λ q j t. cc))
-binary_of-Agree Or w x x' y y' a b = alike w x x' a (λ p i s. alike w y y' b (λ q j t. cc))
-binary_of-Agree Xor w x x' y y' a b = alike w x x' a (λ p i s. alike w y y' b (λ q j t. cc))
-binary_of-Agree Shl w x x' y y' a b = alike w x x' a (λ p i s. alike w y y' b (λ q j t. cc))
-binary_of-Agree Shr w x x' y y' a b = alike w x x' a (λ p i s. alike w y y' b (λ q j t. cc))
-binary_of-Agree Shra w x x' y y' a b = alike w x x' a (λ p i s. alike w y y' b (λ q j t. cc))
-binary_of-Agree Eq w x x' y y' a b = alike w x x' a (λ p i s. alike w y y' b (λ q j t. cc))
-binary_of-Agree Ne w x x' y y' a b = alike w x x' a (λ p i s. alike w y y' b (λ q j t. cc))
-binary_of-Agree Lt w x x' y y' a b = alike w x x' a (λ p i s. alike w y y' b (λ q j t. cc))
-binary_of-Agree Le w x x' y y' a b = alike w x x' a (λ p i s. alike w y y' b (λ q j t. cc))
-binary_of-Agree Gt w x x' y y' a b = alike w x x' a (λ p i s. alike w y y' b (λ q j t. cc))
-binary_of-Agree Ge w x x' y y' a b = alike w x x' a (λ p i s. alike w y y' b (λ q j t. cc))
+binary_of-Agree op w x x' y y' a b = alike w x x' a (λ p i s. alike w y y' b (λ q j t. cc))

@@ -1,14 +1,14 @@
 -- Integers that differ by a multiple of a number, and their residues.
-use Rattle.std.proofs.Common.{◌≡◌, ℕ, zero, suc, ◌+◌, ◌-◌, ◌*◌, ◌/◌, ◌%◌, ◌^◌, ◌<◌, ◌≤◌, ℤ, pos, negsuc, ◌+ℤ◌, ◌*ℤ◌, neg_ℤ, refl, sym, ap, ◌∙◌, subst, arith, Bool, true, false, if◌then◌else◌}
+use Rattle.std.proofs.Common.{◌≡◌, ℕ, ◌+◌, ◌-◌, ◌*◌, ◌/◌, ◌%◌, ◌^◌, ◌<◌, ◌≤◌, ℤ, pos, negsuc, ◌+ℤ◌, ◌*ℤ◌, neg_ℤ, refl, sym, ap, ◌∙◌, subst, arith, Bool, true, false, if◌then◌else◌}
 use Rattle.std.proofs.lemmas.Int.{ints}
-use Rattle.std.proofs.lemmas.Nat.{pow_pos, mod_below, pow-add}
+use Rattle.std.proofs.lemmas.Nat.{pow_pos, mod_below, pow-add, mod-mul-add}
 use borrow.Author.Differences.{up, down, product_is}
 use lib.IntN.{*ℤ_comm}
-use Rattle.dwarf_base.specs.Numbers.{residue, signed_of}
-use Rattle.dwarf_value.specs.declared.types.Value.TheVariants.{Generic, I8, U8, I16, U16, I32, U32, I64, U64}
+use Rattle.dwarf_base.specs.Numbers.{residue}
+use Rattle.dwarf_value.specs.declared.types.Value.TheVariants.{Generic}
 use Rattle.dwarf_value.specs.declared.types.ValueType.{ValueType}
 use Rattle.dwarf_value.specs.declared.types.ValueType.TheVariants as kind
-use Rattle.dwarf_value.specs.Values.{value_of}
+use Rattle.dwarf_value.specs.Values.{value_of, bit_size_of}
 
 -- they are equal once multiples of m are added to both
 pub record Congruent (m : ℕ) (a b : ℤ) : Type 0 where
@@ -51,58 +51,7 @@ Congruent-lower j k a b h c =
 
 -- ---- residues
 
--- r + a m and s + b m with remainders r and s
-same_remainder : (m r s a b : ℕ) → r < m → s < m → r + a * m ≡ s + b * m → r ≡ s
-same_remainder m r s zero zero p q e = omega arith
-same_remainder m r s zero (suc b) p q e = absurd (omega arith)
-same_remainder m r s (suc a) zero p q e = absurd (omega arith)
-same_remainder m r s (suc a) (suc b) p q e = same_remainder m r s a b p q (omega arith)
-
--- a multiple of m above 0 and below 2 m
-one_multiple : (d m t : ℕ) → 0 < t → t < 2 * m → t ≡ d * m → t ≡ m
-one_multiple zero m t p q e = absurd (omega arith)
-one_multiple (suc zero) m t p q e = omega arith
-one_multiple (suc (suc d)) m t p q e = absurd (omega arith)
-
--- remainders r, and s of a negative number, that reach a multiple
-other_remainder : (m r s a b : ℕ) → r < m → s < m → r + s + 1 + a * m ≡ b * m → r ≡ m - 1 - s
-other_remainder m r s zero b p q e = let f : r + s + 1 ≡ m = one_multiple b m (r + s + 1) (omega arith) (omega arith) (omega arith) in omega arith
-other_remainder m r s (suc a) zero p q e = absurd (omega arith)
-other_remainder m r s (suc a) (suc b) p q e = other_remainder m r s a b p q (omega arith)
-
-remainder : ℕ → ℤ → ℕ
-remainder m (pos n) = n % m
-remainder m (negsuc n) = m - 1 - n % m
-
-remainder-Congruent : (m : ℕ) (a b : ℤ) → 0 < m → Congruent m a b → remainder m a ≡ remainder m b
-unfolding remainder
-remainder-Congruent m (pos x) (pos y) h c =
-    let k = c.left in let l = c.right in
-    let e : x + k * m ≡ y + l * m = omega (arith, ints, c.same) in
-    same_remainder m (x % m) (y % m) (x / m + k) (y / m + l) (mod_below x m h) (mod_below y m h) (omega arith)
-remainder-Congruent m (negsuc x) (negsuc y) h c =
-    let k = c.left in let l = c.right in
-    let e : y + k * m ≡ x + l * m = omega (arith, ints, c.same) in
-    let f : y % m ≡ x % m = same_remainder m (y % m) (x % m) (y / m + k) (x / m + l) (mod_below y m h) (mod_below x m h) (omega arith) in
-    ap (λ r. m - 1 - r) (sym f)
-remainder-Congruent m (pos x) (negsuc y) h c =
-    let k = c.left in let l = c.right in
-    let e : x + y + 1 + k * m ≡ l * m = omega (arith, ints, c.same) in
-    other_remainder m (x % m) (y % m) (x / m + y / m + k) l (mod_below x m h) (mod_below y m h) (omega arith)
-remainder-Congruent m (negsuc x) (pos y) h c =
-    let k = c.left in let l = c.right in
-    let e : y + x + 1 + l * m ≡ k * m = omega (arith, ints, c.same) in
-    sym (other_remainder m (y % m) (x % m) (y / m + x / m + l) k (mod_below y m h) (mod_below x m h) (omega arith))
-
-remainder_of : (k : ℕ) (z : ℤ) → remainder (2 ^ k) z ≡ residue k z
-unfolding remainder
-remainder_of k (pos n) = refl
-remainder_of k (negsuc n) = refl
-
-pub residue-Congruent : (k : ℕ) (a b : ℤ) → Congruent (2 ^ k) a b → residue k a ≡ residue k b
-residue-Congruent k a b c = sym (remainder_of k a) ∙ (remainder-Congruent (2 ^ k) a b (pow_pos k) c ∙ remainder_of k b)
-
-pub residue_below : (k : ℕ) (z : ℤ) → residue k z < 2 ^ k
+residue_below : (k : ℕ) (z : ℤ) → residue k z < 2 ^ k
 residue_below k (pos n) = mod_below n (2 ^ k) (pow_pos k)
 residue_below k (negsuc n) = let p = pow_pos k in omega arith
 
@@ -110,30 +59,32 @@ pub Congruent-residue : (k : ℕ) (z : ℤ) → Congruent (2 ^ k) (pos (residue 
 Congruent-residue k (pos n) = record { left = n / 2 ^ k; right = 0; same = omega (arith, ints) }
 Congruent-residue k (negsuc n) = record { left = 0; right = n / 2 ^ k + 1; same = let p = mod_below n (2 ^ k) (pow_pos k) in omega (arith, ints) }
 
+pub residue-Congruent : (k : ℕ) (a b : ℤ) → Congruent (2 ^ k) a b → residue k a ≡ residue k b
+residue-Congruent k a b c =
+    let m = 2 ^ k in let r = residue k a in let s = residue k b in
+    let both = Congruent-trans m _ _ _ (Congruent-residue k a) (Congruent-trans m _ _ _ c (Congruent-sym m _ _ (Congruent-residue k b))) in
+    let e : both.left * m + r ≡ both.right * m + s = omega (arith, ints, both.same) in
+    sym (mod-mul-add both.left m r (residue_below k a)) ∙ (ap (λ n. n % m) e ∙ mod-mul-add both.right m s (residue_below k b))
+
 -- the lower bits of a residue
 pub residue-lower : (j k : ℕ) (z : ℤ) → j ≤ k → residue k z % 2 ^ j ≡ residue j z
 residue-lower j k z h = residue-Congruent j (pos (residue k z)) z (Congruent-lower j k _ _ h (Congruent-residue k z))
 
--- ---- the values that integers wrap to
+-- the values that integers wrap to
 
-same_lower : (j : ℕ) (a b : ℤ) → j ≤ 64 → residue 64 a ≡ residue 64 b → residue j a ≡ residue j b
-same_lower j a b h e = sym (residue-lower j 64 a h) ∙ (ap (λ r. r % 2 ^ j) e ∙ residue-lower j 64 b h)
+pub same_value : (g : ℕ) (t : ValueType) (a b : ℤ) → Congruent (2 ^ bit_size_of g t) a b → value_of g t a ≡ value_of g t b
+unfolding value_of bit_size_of
+same_value g kind.Generic a b c = ap Generic (residue-Congruent g a b c)
+same_value g t a b c = rw (residue-Congruent (bit_size_of g t) a b c)
+
+pub bit_size_of-le : (w : ℕ) (t : ValueType) → w ≤ 64 → bit_size_of w t ≤ 64
+unfolding bit_size_of
+bit_size_of-le w kind.Generic h = h
+bit_size_of-le w t h = omega arith
 
 -- the lowest 64 bits of the integer are enough
-pub value_of-residue : (g : ℕ) (t : ValueType) (a b : ℤ) → g ≤ 64 → residue 64 a ≡ residue 64 b → value_of g t a ≡ value_of g t b
-unfolding value_of
-value_of-residue g kind.Generic a b h e = ap Generic (same_lower g a b h e)
-value_of-residue g kind.I8 a b h e = ap (λ r. I8 (signed_of 8 r)) (same_lower 8 a b (omega arith) e)
-value_of-residue g kind.U8 a b h e = ap U8 (same_lower 8 a b (omega arith) e)
-value_of-residue g kind.I16 a b h e = ap (λ r. I16 (signed_of 16 r)) (same_lower 16 a b (omega arith) e)
-value_of-residue g kind.U16 a b h e = ap U16 (same_lower 16 a b (omega arith) e)
-value_of-residue g kind.I32 a b h e = ap (λ r. I32 (signed_of 32 r)) (same_lower 32 a b (omega arith) e)
-value_of-residue g kind.U32 a b h e = ap U32 (same_lower 32 a b (omega arith) e)
-value_of-residue g kind.I64 a b h e = ap (λ r. I64 (signed_of 64 r)) (same_lower 64 a b (omega arith) e)
-value_of-residue g kind.U64 a b h e = ap U64 (same_lower 64 a b (omega arith) e)
-
 pub value_of-low : (g : ℕ) (t : ValueType) (z : ℤ) → g ≤ 64 → value_of g t (pos (residue 64 z)) ≡ value_of g t z
-value_of-low g t z h = value_of-residue g t (pos (residue 64 z)) z h (residue-Congruent 64 _ _ (Congruent-residue 64 z))
+value_of-low g t z h = same_value g t _ _ (Congruent-lower _ 64 _ _ (bit_size_of-le g t h) (Congruent-residue 64 z))
 
 -- the product of residues
 pub residue-mul : (x y : ℤ) → residue 64 x * residue 64 y % 2 ^ 64 ≡ residue 64 (x *ℤ y)

@@ -1,13 +1,14 @@
 -- The integers of values, read with a sign and without.
-use Rattle.std.proofs.Common.{◌≡◌, ◌≢◌, ℕ, ◌-◌, ◌%◌, ◌^◌, ◌<◌, ◌≤◌, ℤ, pos, negsuc, neg_ℤ, ◌-ℤ◌, ◌≤ℤ◌, ◌<ℤ◌, Bool, true, false, if◌then◌else◌, refl, ap, subst, arith, nat_lt, pow_mono}
+use Rattle.std.proofs.Common.{◌≡◌, ◌≢◌, ℕ, ◌-◌, ◌%◌, ◌^◌, ◌<◌, ◌≤◌, ℤ, pos, negsuc, neg_ℤ, ◌-ℤ◌, ◌≤ℤ◌, ◌<ℤ◌, Bool, true, false, if◌then◌else◌, ap, subst, arith, nat_lt, pow_mono}
 use Rattle.std.specs.Ordering.{int_eq}
 use Rattle.std.proofs.lemmas.Int.{ints}
 use Rattle.std.proofs.lemmas.Nat.{pow_pos, mod_below}
 use Rattle.std.proofs.lemmas.Bool.Decides.{nat_tests, Decides-int_eq}
+use Rattle.std.proofs.lemmas.Bool.{false_from_ne_true}
 use native.Mathlib.Nat.{div-eq_of_lt}
 use Rattle.dwarf_value.specs.inner.OperandPairs.{IsIn64}
 use Rattle.dwarf_value.specs.declared.types.Value.{Value}
-use Rattle.dwarf_value.specs.declared.types.Value.TheVariants.{Generic, I8, U8, I16, U16, I32, U32, I64, U64}
+use Rattle.dwarf_value.specs.declared.types.Value.TheVariants.{Generic}
 use Rattle.dwarf_value.specs.declared.types.ValueType.{ValueType}
 use Rattle.dwarf_value.specs.contracts.types.ValueType.{the_type}
 use Rattle.dwarf_value.specs.Values.{word_integer, integer_of, unsigned_integer, floor_quotient, is_same}
@@ -29,43 +30,20 @@ unfolding word_integer
 zero_word true k n e = let p = pow_pos (k - 1) in grind (arith, nat_tests)
 zero_word false k n e = ap pos e
 
--- a value is zero with a sign if it is without
-pub unsigned_zero : (signed : Bool) (w : ℕ) (x : Value) → integer_of signed w x ≡ pos 0 → unsigned_integer w x ≡ pos 0
+-- a value is zero with a sign if it is without, and without if it is with one
+zero_as : (signed other : Bool) (w : ℕ) (x : Value) → integer_of signed w x ≡ pos 0 → integer_of other w x ≡ pos 0
 unfolding integer_of
-unsigned_zero signed w (Generic n) e = zero_word false w (n % 2 ^ w) (word_zero signed w (n % 2 ^ w) (mod_below n (2 ^ w) (pow_pos w)) e)
-unsigned_zero signed w (I8 x) e = e
-unsigned_zero signed w (U8 n) e = e
-unsigned_zero signed w (I16 x) e = e
-unsigned_zero signed w (U16 n) e = e
-unsigned_zero signed w (I32 x) e = e
-unsigned_zero signed w (U32 n) e = e
-unsigned_zero signed w (I64 x) e = e
-unsigned_zero signed w (U64 n) e = e
-
-zero_unsigned : (signed : Bool) (w : ℕ) (x : Value) → unsigned_integer w x ≡ pos 0 → integer_of signed w x ≡ pos 0
-unfolding integer_of
-zero_unsigned signed w (Generic n) e = zero_word signed w (n % 2 ^ w) (word_zero false w (n % 2 ^ w) (mod_below n (2 ^ w) (pow_pos w)) e)
-zero_unsigned signed w (I8 x) e = e
-zero_unsigned signed w (U8 n) e = e
-zero_unsigned signed w (I16 x) e = e
-zero_unsigned signed w (U16 n) e = e
-zero_unsigned signed w (I32 x) e = e
-zero_unsigned signed w (U32 n) e = e
-zero_unsigned signed w (I64 x) e = e
-zero_unsigned signed w (U64 n) e = e
+zero_as signed other w (Generic n) e = zero_word other w (n % 2 ^ w) (word_zero signed w (n % 2 ^ w) (mod_below n (2 ^ w) (pow_pos w)) e)
+zero_as signed other w x e = e
 
 pub zero_divisor : (signed : Bool) (w : ℕ) (x : Value) → integer_of signed w x ≡ pos 0 → int_eq (unsigned_integer w x) (pos 0) ≡ true
-zero_divisor signed w x e = (Decides-int_eq (unsigned_integer w x) (pos 0)).1 (unsigned_zero signed w x e)
+zero_divisor signed w x e = (Decides-int_eq (unsigned_integer w x) (pos 0)).1 (zero_as signed false w x e)
 
 pub int_eq-false : (a b : ℤ) → a ≢ b → int_eq a b ≡ false
-int_eq-false a b h = by_test (int_eq a b) refl
-  where
-    by_test : (t : Bool) → int_eq a b ≡ t → int_eq a b ≡ false
-    by_test true e = absurd (h ((Decides-int_eq a b).0 e))
-    by_test false e = e
+int_eq-false a b h = false_from_ne_true (int_eq a b) (λ e. h ((Decides-int_eq a b).0 e))
 
 pub nonzero_divisor : (signed : Bool) (w : ℕ) (x : Value) → integer_of signed w x ≢ pos 0 → int_eq (unsigned_integer w x) (pos 0) ≡ false
-nonzero_divisor signed w x h = int_eq-false _ _ (λ e. h (zero_unsigned signed w x e))
+nonzero_divisor signed w x h = int_eq-false _ _ (λ e. h (zero_as false signed w x e))
 
 -- ---- quotients by large powers
 

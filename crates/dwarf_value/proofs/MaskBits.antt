@@ -7,14 +7,6 @@ use Rattle.std.proofs.Math.Nat.{eq-zero-or-pos}
 use Rattle.std.proofs.lemmas.Nat.Bits.{ones_shr}
 use Rattle.dwarf_value.specs.Values.{width_of, IsAddressMask}
 
-no_bit : count_ones 0 ≡ 0
-unfolding count_ones
-no_bit = refl
-
-one_bit : count_ones 1 ≡ 1
-unfolding count_ones
-one_bit = refl
-
 -- one more low bit
 low_ones-suc : (w : ℕ) → 2 ^ suc w - 1 ≡ (2 ^ w - 1) * 2 ^ 1 + 1
 low_ones-suc w =
@@ -23,8 +15,9 @@ low_ones-suc w =
     omega (arith, e)
 
 count_ones-low : (w : ℕ) → count_ones (2 ^ w - 1) ≡ w
-count_ones-low zero = no_bit
+count_ones-low zero = unfold count_ones in refl
 count_ones-low (suc w) =
+    let one_bit : count_ones 1 ≡ 1 = unfold count_ones in refl in
     ap count_ones (low_ones-suc w) ∙ (ones_cat 1 (2 ^ w - 1) 1 (omega arith) ∙ omega (arith, count_ones-low w, one_bit))
 
 -- the mask of w bits has the width w

@@ -1,24 +1,10 @@
 -- Sums, differences and products of two values of one type, of all bits of generic ones.
-use Rattle.std.proofs.Common.{◌≡◌, ℕ, ◌^◌, ◌≤◌, ℤ, ◌+ℤ◌, ◌-ℤ◌, ◌*ℤ◌, ap, subst}
+use Rattle.std.proofs.Common.{◌≡◌, ℕ, ◌^◌, ◌≤◌, ◌+ℤ◌, ◌-ℤ◌, ◌*ℤ◌, subst}
 use Rattle.dwarf_value.specs.declared.types.Value.{Value}
-use Rattle.dwarf_value.specs.declared.types.Value.TheVariants.{Generic}
 use Rattle.dwarf_value.specs.declared.types.ValueType.{ValueType}
-use Rattle.dwarf_value.specs.declared.types.ValueType.TheVariants as kind
 use Rattle.dwarf_value.specs.Values.{type_of, bit_size_of, unsigned_integer, value_of}
-use Rattle.dwarf_value.proofs.Congruences.{Congruent, Congruent-trans, Congruent-add, Congruent-neg, Congruent-mul, Congruent-mul_left, residue-Congruent}
-use Rattle.dwarf_value.proofs.ValueLaws.{Congruent-all_bits, value_of-Congruent}
-
-same_value : (w : ℕ) (t : ValueType) (a b : ℤ) → Congruent (2 ^ bit_size_of w t) a b → value_of w t a ≡ value_of w t b
-unfolding value_of bit_size_of
-same_value w kind.Generic a b c = ap Generic (residue-Congruent w a b c)
-same_value w kind.I8 a b c = value_of-Congruent w w w kind.I8 a b (λ e. cc) c
-same_value w kind.U8 a b c = value_of-Congruent w w w kind.U8 a b (λ e. cc) c
-same_value w kind.I16 a b c = value_of-Congruent w w w kind.I16 a b (λ e. cc) c
-same_value w kind.U16 a b c = value_of-Congruent w w w kind.U16 a b (λ e. cc) c
-same_value w kind.I32 a b c = value_of-Congruent w w w kind.I32 a b (λ e. cc) c
-same_value w kind.U32 a b c = value_of-Congruent w w w kind.U32 a b (λ e. cc) c
-same_value w kind.I64 a b c = value_of-Congruent w w w kind.I64 a b (λ e. cc) c
-same_value w kind.U64 a b c = value_of-Congruent w w w kind.U64 a b (λ e. cc) c
+use Rattle.dwarf_value.proofs.Congruences.{Congruent, Congruent-trans, Congruent-add, Congruent-neg, Congruent-mul, Congruent-mul_left, same_value}
+use Rattle.dwarf_value.proofs.ValueLaws.{Congruent-all_bits}
 
 -- the integer of a value of this type
 all_bits : (w : ℕ) (t : ValueType) (x : Value) → w ≤ 64 → type_of x ≡ t → Congruent (2 ^ bit_size_of w t) (unsigned_integer 64 x) (unsigned_integer w x)

@@ -1,21 +1,21 @@
 -- The laws of values.
-use Rattle.std.proofs.Common.{◌≡◌, ◌≢◌, ℕ, ◌+◌, ◌-◌, ◌*◌, ◌%◌, ◌^◌, ◌<◌, ◌≤◌, ℤ, pos, negsuc, neg_ℤ, ◌-ℤ◌, ◌≤ℤ◌, ◌<ℤ◌, Bool, true, false, if◌then◌else◌, refl, sym, ap, ◌∙◌, subst, arith, nat_lt, ◌+ℤ◌, ◌*ℤ◌, Ok, inl, inr}
+use Rattle.std.proofs.Common.{eq-eqb, ◌≡◌, ◌≢◌, ℕ, ◌+◌, ◌-◌, ◌*◌, ◌%◌, ◌^◌, ◌<◌, ◌≤◌, ℤ, pos, negsuc, neg_ℤ, ◌-ℤ◌, ◌≤ℤ◌, ◌<ℤ◌, Bool, true, false, if◌then◌else◌, refl, sym, ap, ◌∙◌, subst, arith, nat_lt, nat_le, ◌+ℤ◌, ◌*ℤ◌, Ok, inl, inr}
 use Rattle.std.proofs.lemmas.Int.{ints, quot-rem}
 use Rattle.std.proofs.lemmas.Bool.Decides.{nat_tests}
 use native.Mathlib.Nat.{mod-eq_of_lt}
 use Rattle.dwarf_base.specs.Numbers.{residue, signed_of}
 use Rattle.dwarf_value.specs.declared.types.Value.{Value}
-use Rattle.dwarf_value.specs.declared.types.Value.TheVariants.{Generic, I8, U8, I16, U16, I32, U32, I64, U64}
+use Rattle.dwarf_value.specs.declared.types.Value.TheVariants.{Generic, I8, I16, I32, I64}
 use Rattle.dwarf_value.specs.declared.types.ValueType.{ValueType}
 use Rattle.dwarf_value.specs.declared.types.ValueType.TheVariants as kind
-use Rattle.dwarf_value.specs.Values.{type_of, bit_size_of, word_integer, integer_of, unsigned_integer, value_of, Agree, is_same, is_signed, signed_integer, to_u64_of, from_u64_of, reinterpret_of}
+use Rattle.dwarf_value.specs.Values.{shape_of, type_of, bit_size_of, word_integer, integer_of, unsigned_integer, value_of, Agree, is_same, is_signed, signed_integer, to_u64_of, from_u64_of, reinterpret_of}
 use Rattle.dwarf_value.specs.Laws.{InRange, IsWidth, Trichotomy, Opposites, QuotientAndRemainder, NegateTwice, NegateTwiceGeneric, ReinterpretTwice, AgreeingResults, values, errors, AgreementIsKept}
-use Rattle.dwarf_value.proofs.Congruences.{Congruent, Congruent-sym, Congruent-residue, residue-Congruent, residue-lower, Congruent-trans, Congruent-add, Congruent-neg, Congruent-mul, Congruent-lower}
-use Rattle.dwarf_value.proofs.Agreements.{Agree-trans, Agree-Generic, Agree-residues, to_u64_of-Agree, convert_of-Agree, add_of_constant-Agree, unary_of-Agree, binary_of-Agree}
+use Rattle.dwarf_value.proofs.Congruences.{Congruent, Congruent-sym, Congruent-residue, residue-lower, Congruent-trans, Congruent-add, Congruent-neg, Congruent-mul, Congruent-lower, bit_size_of-le, same_value}
+use Rattle.dwarf_value.proofs.Agreements.{Agree-refl, Agree-trans, Agree-Generic, Agree-residues, to_u64_of-Agree, convert_of-Agree, add_of_constant-Agree, unary_of-Agree, binary_of-Agree}
 use Rattle.std.specs.Prelude.{int_lt, int_le, ◌==◌}
 use Rattle.std.specs.Ordering.{int_eq}
 use Rattle.std.specs.Int.RustNames.{int_div, int_rem}
-use Rattle.std.proofs.lemmas.Bool.{cases_lt}
+use Rattle.std.proofs.lemmas.Bool.{cases_lt, eqb-true}
 use lib.IntN.{neg_ℤ-neg_ℤ}
 use denote.Enum.Bare.{true_same}
 use Rattle.dwarf_value.specs.contracts.types.ValueType.{the_type}
@@ -26,14 +26,7 @@ use Rattle.dwarf_value.proofs.Integers.{int_eq-false}
 pub type_of-value_of : (g : ℕ) (t : ValueType) (z : ℤ) → type_of (value_of g t z) ≡ t
 unfolding type_of value_of
 type_of-value_of g kind.Generic z = refl
-type_of-value_of g kind.I8 z = refl
-type_of-value_of g kind.U8 z = refl
-type_of-value_of g kind.I16 z = refl
-type_of-value_of g kind.U16 z = refl
-type_of-value_of g kind.I32 z = refl
-type_of-value_of g kind.U32 z = refl
-type_of-value_of g kind.I64 z = refl
-type_of-value_of g kind.U64 z = refl
+type_of-value_of g t z = refl
 
 Congruent-signed : (k : ℕ) (z : ℤ) → Congruent (2 ^ k) (signed_of k (residue k z)) z
 Congruent-signed k z = by_test (nat_lt (residue k z) (2 ^ (k - 1)))
@@ -50,17 +43,10 @@ Congruent-word true k z = Congruent-signed k z
 Congruent-word false k z = Congruent-residue k z
 
 pub integer_of-value_of : (signed : Bool) (g w : ℕ) (t : ValueType) (z : ℤ) → w ≤ g → Congruent (2 ^ bit_size_of w t) (integer_of signed w (value_of g t z)) z
-unfolding integer_of value_of bit_size_of
+unfolding word_integer integer_of value_of bit_size_of
 integer_of-value_of signed g w kind.Generic z h =
     subst (λ n. Congruent (2 ^ w) (word_integer signed w n) z) (sym (residue-lower w g z h)) (Congruent-word signed w z)
-integer_of-value_of signed g w kind.I8 z h = Congruent-signed 8 z
-integer_of-value_of signed g w kind.U8 z h = Congruent-residue 8 z
-integer_of-value_of signed g w kind.I16 z h = Congruent-signed 16 z
-integer_of-value_of signed g w kind.U16 z h = Congruent-residue 16 z
-integer_of-value_of signed g w kind.I32 z h = Congruent-signed 32 z
-integer_of-value_of signed g w kind.U32 z h = Congruent-residue 32 z
-integer_of-value_of signed g w kind.I64 z h = Congruent-signed 64 z
-integer_of-value_of signed g w kind.U64 z h = Congruent-residue 64 z
+integer_of-value_of signed g w t z h = Congruent-word (shape_of signed w t).0 (shape_of signed w t).1 z
 
 -- a generic value's integer, and its content
 pub Congruent-Generic : (signed : Bool) (w n : ℕ) → Congruent (2 ^ w) (integer_of signed w (Generic n)) (pos n)
@@ -72,34 +58,17 @@ Congruent-Generic signed w n = Congruent-word signed w (pos n)
 pub value_of-Congruent : (g g' w : ℕ) (t : ValueType) (a b : ℤ) → t ≢ kind.Generic → Congruent (2 ^ bit_size_of w t) a b → value_of g t a ≡ value_of g' t b
 unfolding value_of bit_size_of
 value_of-Congruent g g' w kind.Generic a b h c = absurd (h refl)
-value_of-Congruent g g' w kind.I8 a b h c = ap (λ r. I8 (signed_of 8 r)) (residue-Congruent 8 a b c)
-value_of-Congruent g g' w kind.U8 a b h c = ap U8 (residue-Congruent 8 a b c)
-value_of-Congruent g g' w kind.I16 a b h c = ap (λ r. I16 (signed_of 16 r)) (residue-Congruent 16 a b c)
-value_of-Congruent g g' w kind.U16 a b h c = ap U16 (residue-Congruent 16 a b c)
-value_of-Congruent g g' w kind.I32 a b h c = ap (λ r. I32 (signed_of 32 r)) (residue-Congruent 32 a b c)
-value_of-Congruent g g' w kind.U32 a b h c = ap U32 (residue-Congruent 32 a b c)
-value_of-Congruent g g' w kind.I64 a b h c = ap (λ r. I64 (signed_of 64 r)) (residue-Congruent 64 a b c)
-value_of-Congruent g g' w kind.U64 a b h c = ap U64 (residue-Congruent 64 a b c)
+value_of-Congruent g g' w t a b h c = same_value w t a b c
 
 pub Agree-content : (w n : ℕ) (z : ℤ) → w ≤ 64 → Congruent (2 ^ w) (pos n) z → Agree w (Generic n) (value_of 64 kind.Generic z)
 unfolding value_of
 Agree-content w n z h c = Agree-trans w _ _ _ (Agree-Generic w n _ (sym (residue-lower w 64 (pos n) h))) (Agree-residues w (pos n) z h c)
 
-agree_of_equal : (w : ℕ) (x y : Value) → x ≡ y → Agree w x y
-agree_of_equal w x y e = record { types = ap type_of e; integers = ap (unsigned_integer w) e }
-
 -- integers that are congruent modulo two to the type's size
 pub Agree-value_of : (w : ℕ) (t : ValueType) (a b : ℤ) → w ≤ 64 → Congruent (2 ^ bit_size_of w t) a b → Agree w (value_of 64 t a) (value_of 64 t b)
 unfolding bit_size_of value_of
 Agree-value_of w kind.Generic a b h c = Agree-residues w a b h c
-Agree-value_of w kind.I8 a b h c = agree_of_equal w _ _ (value_of-Congruent 64 64 w kind.I8 a b (λ e. cc) c)
-Agree-value_of w kind.U8 a b h c = agree_of_equal w _ _ (value_of-Congruent 64 64 w kind.U8 a b (λ e. cc) c)
-Agree-value_of w kind.I16 a b h c = agree_of_equal w _ _ (value_of-Congruent 64 64 w kind.I16 a b (λ e. cc) c)
-Agree-value_of w kind.U16 a b h c = agree_of_equal w _ _ (value_of-Congruent 64 64 w kind.U16 a b (λ e. cc) c)
-Agree-value_of w kind.I32 a b h c = agree_of_equal w _ _ (value_of-Congruent 64 64 w kind.I32 a b (λ e. cc) c)
-Agree-value_of w kind.U32 a b h c = agree_of_equal w _ _ (value_of-Congruent 64 64 w kind.U32 a b (λ e. cc) c)
-Agree-value_of w kind.I64 a b h c = agree_of_equal w _ _ (value_of-Congruent 64 64 w kind.I64 a b (λ e. cc) c)
-Agree-value_of w kind.U64 a b h c = agree_of_equal w _ _ (value_of-Congruent 64 64 w kind.U64 a b (λ e. cc) c)
+Agree-value_of w t a b h c = subst (Agree w (value_of 64 t a)) (same_value w t a b c) (Agree-refl w (value_of 64 t a))
 
 -- ---- a value's integer, and its value
 
@@ -124,26 +93,16 @@ pub value_of-unsigned_integer : (x : Value) → InRange x → value_of 64 (type_
 unfolding type_of integer_of word_integer value_of InRange
 value_of-unsigned_integer (Generic n) r = ap Generic (ap (λ k. k % 2 ^ 64) (mod-eq_of_lt r) ∙ mod-eq_of_lt r)
 value_of-unsigned_integer (I8 x) r = ap I8 (signed_of-residue 8 (2 ^ 7) x refl refl (omega (arith, ints)) (omega (arith, ints)))
-value_of-unsigned_integer (U8 n) r = ap U8 (mod-eq_of_lt r)
 value_of-unsigned_integer (I16 x) r = ap I16 (signed_of-residue 16 (2 ^ 15) x refl refl (omega (arith, ints)) (omega (arith, ints)))
-value_of-unsigned_integer (U16 n) r = ap U16 (mod-eq_of_lt r)
 value_of-unsigned_integer (I32 x) r = ap I32 (signed_of-residue 32 (2 ^ 31) x refl refl (omega (arith, ints)) (omega (arith, ints)))
-value_of-unsigned_integer (U32 n) r = ap U32 (mod-eq_of_lt r)
 value_of-unsigned_integer (I64 x) r = ap I64 (signed_of-residue 64 (2 ^ 63) x refl refl (omega (arith, ints)) (omega (arith, ints)))
-value_of-unsigned_integer (U64 n) r = ap U64 (mod-eq_of_lt r)
+value_of-unsigned_integer x r = rw (mod-eq_of_lt r)
 
 -- a typed value has one integer
 pub integer_of-typed : (signed : Bool) (w : ℕ) (x : Value) → type_of x ≢ kind.Generic → integer_of signed w x ≡ unsigned_integer 64 x
 unfolding type_of integer_of
 integer_of-typed signed w (Generic n) h = absurd (h refl)
-integer_of-typed signed w (I8 x) h = refl
-integer_of-typed signed w (U8 n) h = refl
-integer_of-typed signed w (I16 x) h = refl
-integer_of-typed signed w (U16 n) h = refl
-integer_of-typed signed w (I32 x) h = refl
-integer_of-typed signed w (U32 n) h = refl
-integer_of-typed signed w (I64 x) h = refl
-integer_of-typed signed w (U64 n) h = refl
+integer_of-typed signed w x h = refl
 
 pub Congruent-refl : (m : ℕ) (a : ℤ) → Congruent m a a
 Congruent-refl m a = record { left = 0; right = 0; same = refl }
@@ -154,38 +113,12 @@ unfolding type_of integer_of word_integer bit_size_of
 Congruent-all_bits w (Generic n) h =
     subst (λ k. Congruent (2 ^ w) (pos (n % 2 ^ 64)) (pos k)) (residue-lower w 64 (pos n) h)
     (Congruent-sym (2 ^ w) _ _ (Congruent-residue w (pos (n % 2 ^ 64))))
-Congruent-all_bits w (I8 x) h = Congruent-refl _ _
-Congruent-all_bits w (U8 n) h = Congruent-refl _ _
-Congruent-all_bits w (I16 x) h = Congruent-refl _ _
-Congruent-all_bits w (U16 n) h = Congruent-refl _ _
-Congruent-all_bits w (I32 x) h = Congruent-refl _ _
-Congruent-all_bits w (U32 n) h = Congruent-refl _ _
-Congruent-all_bits w (I64 x) h = Congruent-refl _ _
-Congruent-all_bits w (U64 n) h = Congruent-refl _ _
-
-pub bit_size_of-le : (w : ℕ) (t : ValueType) → w ≤ 64 → bit_size_of w t ≤ 64
-unfolding bit_size_of
-bit_size_of-le w kind.Generic h = h
-bit_size_of-le w kind.I8 h = omega arith
-bit_size_of-le w kind.U8 h = omega arith
-bit_size_of-le w kind.I16 h = omega arith
-bit_size_of-le w kind.U16 h = omega arith
-bit_size_of-le w kind.I32 h = omega arith
-bit_size_of-le w kind.U32 h = omega arith
-bit_size_of-le w kind.I64 h = omega arith
-bit_size_of-le w kind.U64 h = omega arith
+Congruent-all_bits w x h = Congruent-refl _ _
 
 pub bit_size_of-below : (w : ℕ) (t : ValueType) → w ≤ 64 → bit_size_of w t ≤ bit_size_of 64 t
 unfolding bit_size_of
 bit_size_of-below w kind.Generic h = h
-bit_size_of-below w kind.I8 h = omega arith
-bit_size_of-below w kind.U8 h = omega arith
-bit_size_of-below w kind.I16 h = omega arith
-bit_size_of-below w kind.U16 h = omega arith
-bit_size_of-below w kind.I32 h = omega arith
-bit_size_of-below w kind.U32 h = omega arith
-bit_size_of-below w kind.I64 h = omega arith
-bit_size_of-below w kind.U64 h = omega arith
+bit_size_of-below w t h = omega arith
 
 -- ---- comparisons
 
@@ -193,14 +126,14 @@ is_same-equal : (s t : ValueType) → s ≡ t → is_same s t ≡ true
 unfolding is_same
 is_same-equal s t e = true_same the_type s t e
 
--- how two integers compare
-data Compared (a b : ℤ) : Type 0 where
-  below : int_lt a b ≡ true → int_lt b a ≡ false → int_le a b ≡ true → int_le b a ≡ false → Compared a b
-  equal : int_lt a b ≡ false → int_lt b a ≡ false → int_le a b ≡ true → int_le b a ≡ true → Compared a b
-  above : int_lt a b ≡ false → int_lt b a ≡ true → int_le a b ≡ false → int_le b a ≡ true → Compared a b
+-- how two numbers compare, by four tests
+data Compared (lt gt le ge : Bool) : Type 0 where
+  below : lt ≡ true → gt ≡ false → le ≡ true → ge ≡ false → Compared lt gt le ge
+  equal : lt ≡ false → gt ≡ false → le ≡ true → ge ≡ true → Compared lt gt le ge
+  above : lt ≡ false → gt ≡ true → le ≡ false → ge ≡ true → Compared lt gt le ge
 
-compare_integers : (a b : ℤ) → Compared a b
-compare_integers (pos a) (pos b) =
+compare_numbers : (a b : ℕ) → Compared (nat_lt a b) (nat_lt b a) (nat_le a b) (nat_le b a)
+compare_numbers a b =
     elim (cases_lt a b) [
       | inl l ↦ below (grind (arith, nat_tests)) (grind (arith, nat_tests)) (grind (arith, nat_tests)) (grind (arith, nat_tests))
       | inr g ↦ elim (cases_lt b a) [
@@ -208,14 +141,10 @@ compare_integers (pos a) (pos b) =
         | inr h ↦ equal (grind (arith, nat_tests)) (grind (arith, nat_tests)) (grind (arith, nat_tests)) (grind (arith, nat_tests))
       ]
     ]
-compare_integers (negsuc a) (negsuc b) =
-    elim (cases_lt b a) [
-      | inl l ↦ below (grind (arith, nat_tests)) (grind (arith, nat_tests)) (grind (arith, nat_tests)) (grind (arith, nat_tests))
-      | inr g ↦ elim (cases_lt a b) [
-        | inl l ↦ above (grind (arith, nat_tests)) (grind (arith, nat_tests)) (grind (arith, nat_tests)) (grind (arith, nat_tests))
-        | inr h ↦ equal (grind (arith, nat_tests)) (grind (arith, nat_tests)) (grind (arith, nat_tests)) (grind (arith, nat_tests))
-      ]
-    ]
+
+compare_integers : (a b : ℤ) → Compared (int_lt a b) (int_lt b a) (int_le a b) (int_le b a)
+compare_integers (pos a) (pos b) = compare_numbers a b
+compare_integers (negsuc a) (negsuc b) = compare_numbers b a
 compare_integers (pos a) (negsuc b) = above refl refl refl refl
 compare_integers (negsuc a) (pos b) = below refl refl refl refl
 
@@ -270,27 +199,16 @@ quotient_and_remainder w x y v r h e z =
       rw (type_of-value_of w t (unsigned_integer w q *ℤ Y), type_of-value_of 64 t (int_rem X Y), is_same-equal t t refl) (ap Ok again),
     )
 
-generic_unsigned : is_signed false kind.Generic ≡ false
-unfolding is_signed
-generic_unsigned = refl
-
 -- the integers of a signed type have a sign however generic ones are read
 signed_at_any : (t : ValueType) → is_signed false t ≡ true → is_signed true t ≡ true
 unfolding is_signed
 signed_at_any kind.Generic e = refl
-signed_at_any kind.I8 e = e
-signed_at_any kind.U8 e = e
-signed_at_any kind.I16 e = e
-signed_at_any kind.U16 e = e
-signed_at_any kind.I32 e = e
-signed_at_any kind.U32 e = e
-signed_at_any kind.I64 e = e
-signed_at_any kind.U64 e = e
+signed_at_any t e = e
 
 pub negate_twice : NegateTwice
 negate_twice w x v r e =
     let t = type_of x in
-    let h : t ≢ kind.Generic = λ g. let u = generic_unsigned in cc in
+    let h : t ≢ kind.Generic = λ g. let u : is_signed false kind.Generic ≡ false = unfold is_signed in refl in cc in
     let s : is_signed true t ≡ true = signed_at_any t e in
     let X = signed_integer w x in
     let y = value_of 64 t (neg_ℤ X) in
@@ -301,38 +219,19 @@ negate_twice w x v r e =
     value_of-Congruent 64 64 w t _ _ h b ∙ (ap (value_of 64 t) (integer_of-typed true w x h) ∙ value_of-unsigned_integer x r) in
     (y, rw s, rw (type_of-value_of 64 t (neg_ℤ X), s) (ap Ok again))
 
-generic_signed : is_signed true kind.Generic ≡ true
-unfolding is_signed
-generic_signed = refl
-
-generic_size : (w : ℕ) → bit_size_of w kind.Generic ≡ w
-unfolding bit_size_of
-generic_size w = refl
-
-generic_type : (n : ℕ) → type_of (Generic n) ≡ kind.Generic
-unfolding type_of
-generic_type n = refl
-
 pub negate_twice_generic : NegateTwiceGeneric
 negate_twice_generic w n v =
     let S = signed_integer w (Generic n) in
     let y = value_of 64 kind.Generic (neg_ℤ S) in
     let Z = neg_ℤ (signed_integer w y) in
-    let g : type_of (Generic n) ≡ kind.Generic = generic_type n in
-    let s : is_signed true kind.Generic ≡ true = generic_signed in
-    let a : Congruent (2 ^ w) (signed_integer w y) (neg_ℤ S) =
-    subst (λ k. Congruent (2 ^ k) (signed_integer w y) (neg_ℤ S)) (generic_size w) (integer_of-value_of true 64 w kind.Generic (neg_ℤ S) v.within_64) in
+    let g : type_of (Generic n) ≡ kind.Generic = unfold type_of in refl in
+    let s : is_signed true kind.Generic ≡ true = unfold is_signed in refl in
+    let a : Congruent (2 ^ w) (signed_integer w y) (neg_ℤ S) = unfold bit_size_of in integer_of-value_of true 64 w kind.Generic (neg_ℤ S) v.within_64 in
     let b : Congruent (2 ^ w) Z S = subst (λ z. Congruent (2 ^ w) Z z) (neg_ℤ-neg_ℤ S) (Congruent-neg _ _ _ a) in
     let c : Congruent (2 ^ w) (pos n) Z = Congruent-sym _ _ _ (Congruent-trans _ _ _ _ b (Congruent-Generic true w n)) in
     (y, value_of 64 kind.Generic Z, rw (g, s), rw (type_of-value_of 64 kind.Generic (neg_ℤ S), s), Agree-content w n Z v.within_64 c)
 
 -- ---- other types
-
-test_sizes : (a b : ℕ) → a ≡ b → (a == b) ≡ true
-test_sizes a b e = grind (arith, nat_tests)
-
-sizes_tested : (a b : ℕ) → (a == b) ≡ true → a ≡ b
-sizes_tested a b e = grind (arith, nat_tests)
 
 -- the integer that comes out of a reinterpretation
 round_bits : (w : ℕ) (t : ValueType) (x : Value) → w ≤ 64 → Congruent (2 ^ bit_size_of w t) (pos (to_u64_of 64 (from_u64_of t (to_u64_of 64 x)))) (unsigned_integer 64 x)
@@ -352,10 +251,10 @@ reinterpret_twice w t x v r e =
     let n = to_u64_of 64 y in
     let same : Congruent (2 ^ bit_size_of w (type_of x)) (pos n) X = subst (λ k. Congruent (2 ^ k) (pos n) X) (sym e) (round_bits w t x v.within_64) in
     let agree : Agree w (value_of 64 (type_of x) X) (value_of 64 (type_of x) (pos n)) = Agree-value_of w (type_of x) X (pos n) v.within_64 (Congruent-sym _ _ _ same) in
-    let back : (bit_size_of w (type_of y) == bit_size_of w (type_of x)) ≡ true = rw (type_of-value_of 64 t (pos (to_u64_of 64 x))) (test_sizes _ _ (sym e)) in (
+    let back : (bit_size_of w (type_of y) == bit_size_of w (type_of x)) ≡ true = rw (type_of-value_of 64 t (pos (to_u64_of 64 x))) (eq-eqb _ _ (sym e)) in (
       y,
       from_u64_of (type_of x) n,
-      answers w t x (test_sizes _ _ e),
+      answers w t x (eq-eqb _ _ e),
       answers w (type_of x) y back,
       subst (λ z. Agree w z (from_u64_of (type_of x) n)) (value_of-unsigned_integer x r) agree,
     )
@@ -371,9 +270,9 @@ reinterpret_of-Agree w t x x' v a = by_test (bit_size_of w (type_of x) == bit_si
         let X = unsigned_integer 64 x in
         let X' = unsigned_integer 64 x' in
         let s = bit_size_of w (type_of x) in
-        let k : s ≡ bit_size_of w t = sizes_tested _ _ e in
+        let k : s ≡ bit_size_of w t = eqb-true _ _ e in
         let k' : bit_size_of w (type_of x') ≡ s = ap (bit_size_of w) (sym a.types) in
-        let e' : (bit_size_of w (type_of x') == bit_size_of w t) ≡ true = test_sizes _ _ (k' ∙ k) in
+        let e' : (bit_size_of w (type_of x') == bit_size_of w t) ≡ true = eq-eqb _ _ (k' ∙ k) in
         let low : (z : ℤ) → Congruent (2 ^ s) (pos (residue 64 z)) z = λ z. Congruent-lower s 64 _ _ (bit_size_of-le w (type_of x) v.within_64) (Congruent-residue 64 z) in
         let first : Congruent (2 ^ s) X (unsigned_integer w x) = Congruent-all_bits w x v.within_64 in
         let second : Congruent (2 ^ s) X' (unsigned_integer w x') = subst (λ n. Congruent (2 ^ n) X' (unsigned_integer w x')) k' (Congruent-all_bits w x' v.within_64) in

@@ -30,27 +30,6 @@ row_within one other from count opcode same low high =
     let whole : from + (opcode - from) ≡ opcode = omega arith in
     subst (λ (n : ℕ). one n ≡ other n) whole (row_at one other from count (opcode - from) same (omega arith))
 
--- ---- the three ranges, computed
-
-pub literal_row : (encoding : Encoding) (opcode : ℕ) → 48 ≤ opcode → opcode < 80
-    → Makes (operation.UnsignedConstant (opcode - 48)) ≡ row_of encoding opcode
-unfolding row_of
-literal_row encoding opcode low high =
-    row_within (λ n. Makes (operation.UnsignedConstant (n - 48))) (row_of encoding) 48 32 opcode refl low high
-
-pub register_row : (encoding : Encoding) (opcode : ℕ) → 80 ≤ opcode → opcode < 112
-    → Makes (operation.Register (opcode - 80)) ≡ row_of encoding opcode
-unfolding row_of
-register_row encoding opcode low high =
-    row_within (λ n. Makes (operation.Register (n - 80))) (row_of encoding) 80 32 opcode refl low high
-
-pub base_register_row : (encoding : Encoding) (opcode : ℕ) → 112 ≤ opcode → opcode < 144
-    → signed Leb128 (λ offset. operation.RegisterOffset (opcode - 112) offset 0) ≡ row_of encoding opcode
-unfolding row_of
-base_register_row encoding opcode low high =
-    let made : ℕ → Row = λ n. signed Leb128 (λ offset. operation.RegisterOffset (n - 112) offset 0) in
-    row_within made (row_of encoding) 112 32 opcode refl low high
-
 -- ---- the opcodes of no operation, by the gaps that they lie in
 
 pub unknown_low : (encoding : Encoding) (opcode : ℕ) → opcode < 8 → opcode ≢ 3 → opcode ≢ 6
@@ -87,13 +66,18 @@ unknown_high encoding opcode above below not_tls not_wasm not_uninit no_typed no
     ]
 
 pub returns-in-48-to-79 : goal.returns-in-48-to-79
-returns-in-48-to-79 c = λ encoding. literal_row encoding c.args.opcode (omega arith) (omega arith)
+unfolding row_of
+returns-in-48-to-79 c = λ encoding. row_within (λ n. Makes (operation.UnsignedConstant (n - 48))) (row_of encoding) 48 32 c.args.opcode refl (omega arith) (omega arith)
 
 pub returns-in-80-to-111 : goal.returns-in-80-to-111
-returns-in-80-to-111 c = λ encoding. register_row encoding c.args.opcode (omega arith) (omega arith)
+unfolding row_of
+returns-in-80-to-111 c = λ encoding. row_within (λ n. Makes (operation.Register (n - 80))) (row_of encoding) 80 32 c.args.opcode refl (omega arith) (omega arith)
 
 pub returns-in-112-to-143 : goal.returns-in-112-to-143
-returns-in-112-to-143 c = λ encoding. base_register_row encoding c.args.opcode (omega arith) (omega arith)
+unfolding row_of
+returns-in-112-to-143 c = λ encoding.
+    let made : ℕ → Row = λ n. signed Leb128 (λ offset. operation.RegisterOffset (n - 112) offset 0) in
+    row_within made (row_of encoding) 112 32 c.args.opcode refl (omega arith) (omega arith)
 
 pub returns-in_default : goal.returns-in_default
 returns-in_default c = λ encoding. unknown_low encoding c.args.opcode (omega arith) (omega arith) (omega arith)

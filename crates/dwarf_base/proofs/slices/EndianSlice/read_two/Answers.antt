@@ -1,6 +1,7 @@
 use Rattle.std.proofs.Common.{true, false}
+use Rattle.std.specs.Int.{w16}
 use Rattle.std.proofs.lemmas.Result.{err_from_is_err_and}
-use Rattle.dwarf_base.proofs.FixedNumbers.{fixed_refused, fixed_two}
+use Rattle.dwarf_base.proofs.FixedNumbers.{fixed_refused, fixed_wide, two_bytes}
 use Rattle.dwarf_base.proofs.slices.EndianSlice.read_two.Goals as goal
 
 pub returns-in_err-bytes-clause-value : goal.returns-in_err-bytes-clause-value
@@ -10,8 +11,8 @@ returns-in_err-bytes-clause-value g c =
 
 pub returns-then-is_big_endian-clause-value : goal.returns-then-is_big_endian-clause-value
 returns-then-is_big_endian-clause-value g c =
-    fixed_two _ true _ _ _ _ c.in_ok-bytes.ensures.value (cc) c.from_be_bytes.ensures
+    fixed_wide w16 2 two_bytes _ true _ _ _ _ c.in_ok-bytes.ensures.value (cc) c.from_be_bytes.ensures
 
 pub returns-else-is_big_endian-clause-value : goal.returns-else-is_big_endian-clause-value
 returns-else-is_big_endian-clause-value g c =
-    fixed_two _ false _ _ _ _ c.in_ok-bytes.ensures.value (cc) c.from_le_bytes.ensures
+    fixed_wide w16 2 two_bytes _ false _ _ _ _ c.in_ok-bytes.ensures.value (cc) c.from_le_bytes.ensures

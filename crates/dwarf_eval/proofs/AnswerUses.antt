@@ -39,17 +39,6 @@ pub record IsOpenTo (kind : WaitingKind) (on_answer : OnAnswer) (status : Status
   pub is : status ≡ RequestStatus request on_answer
   pub fits : kind_of_request request ≡ kind
 
-pub open_to : (kind : WaitingKind) (wanted : OnAnswer) (status : Status) → IsOpenFor kind status → (now : IsOpen status) → now.on_answer ≡ wanted → IsOpenTo kind wanted status
-open_to kind wanted status h now e = record { request = now.request; is = now.is ∙ ap (RequestStatus now.request) e; fits = subst (IsOpenFor kind) now.is h }
-
-asked_waits : (asked : Option Request) (on_answer : OnAnswer) (kind : WaitingKind) → IsOpenFor kind (replied_status asked on_answer) → IsWaiting (replied_status asked on_answer)
-asked_waits None on_answer kind h = h
-asked_waits (Some request) on_answer kind h = tt
-
--- what was replied is a request, if one of this kind is open
-pub replied_waits : (asked : Option Request) (on_answer : OnAnswer) (kind : WaitingKind) (status : Status) → status ≡ replied_status asked on_answer → IsOpenFor kind status → IsWaiting status
-replied_waits asked on_answer kind status e h = subst IsWaiting (sym e) (asked_waits asked on_answer kind (subst (IsOpenFor kind) e h))
-
 -- ---- answers that are pushed as they are
 
 module _ (bits : ℕ) (values : List Value) where

@@ -66,14 +66,6 @@ completes_ok value piece old mid new d e =
       items = omega (arith, values, pieces);
     })
 
--- a last piece that is refused
-pub completes_err : (value : Option Value) (piece : Piece) (old new : State) → Refused 0 (push_piece old.setup piece) old new → Closes 1 (λ s. completion_of value (push_piece old.setup piece s)) old new
-completes_err value piece old new h =
-    subst (ClosesBy 1 (λ s. completion_of value (push_piece old.setup piece s)) old new) (sym h.failed) (record {
-      gets = record { refusal = h.gets.refusal; may = h.gets.may; same = ap (completion_of value) h.gets.same };
-      stays = h.stays;
-    })
-
 -- by whether there are pieces
 pub closes_else : (more : ℕ) (f g : Store → Outcome) (old new : State) → has_pieces old.store.pieces ≡ false → Closes more g old new → Closes more (λ s. cond (has_pieces s.pieces) (f s) (g s)) old new
 closes_else more f g old new e h =

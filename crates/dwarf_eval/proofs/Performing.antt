@@ -32,10 +32,6 @@ ready_on x h =
     let inside = parts.2 in
     record { runs = running_on x.status parts.0; inside = grind (arith, nat_tests, inside); free = parts.1 }
 
--- with something left it isn't the end
-pub some_left : (left bytes : List ℕ) → IsSuffix left bytes → nat_lt (length bytes - length left) (length bytes) ≡ not (length left == 0)
-some_left left bytes h = let fewer = h.no_longer in grind (arith, nat_tests, fewer)
-
 -- ---- the turn
 
 -- the maximum doesn't allow one more
@@ -72,6 +68,3 @@ runs_more start x new on h turn is =
       less = λ _. omega (arith, fewer, before);
       no_more = omega (arith, fewer, before);
     }
-
-pub runs_out : (start x new : State) (on : Bool) → on ≡ false → StillRuns start x on → new ≡ x → Turns start new
-runs_out start x new on out h e = subst (Turns start) (sym e) (record { comes = h.comes; less = h.less out })

@@ -82,10 +82,6 @@ module _ (old : State) (totals : Refusal → List Input → Total) where
 pub comes_here : (x : State) → x.status ≡ Running → ComesToState x (total x) x
 comes_here x runs = subst (ComesToStateBy x (total x) x) (sym runs) (reaches_here x runs)
 
-pub runs_on : (status : Status) → is_running status ≡ true → status ≡ Running
-runs_on Running h = refl
-runs_on _ h = cc
-
 -- ---- the beginning
 
 pub begins_none : (x new : State) → IsAtRestBy x (Start None) → new ≡ with_status Running x → ComesToState x (total x) new

@@ -83,9 +83,6 @@ does_then n m f g old mid new false h stays i =
       stays = stays i.stays;
     }
 
-pub gets_then : (limits : Limits) (f g : Store → Result Store Fault) (s : Store) (fault : Fault) → MayGive limits f s (Err fault) → MayGive limits (λ z. f z >>= g) s (Err fault)
-gets_then limits f g s fault h = record { refusal = h.refusal; may = h.may; same = ap (λ (z : Result Store Fault). z >>= g) h.same }
-
 pub bind_ok : (r : Result Store Fault) → (r >>= λ s. Ok s) ≡ r
 bind_ok (Ok s) = refl
 bind_ok (Err fault) = refl
@@ -97,23 +94,6 @@ bind_two f (Err fault) = refl
 
 pub push_values-two : (setup : Setup) (first second : Value) (s : Store) → push_values setup (first ∷ second ∷ []) s ≡ push_value setup first s >>= push_value setup second
 push_values-two setup first second s = bind_two (push_value setup second) (push_value setup first s)
-
--- more is allowed
-stays_wide : (n : ℕ) (old new : State) → Stays 0 old new → Stays n old new
-stays_wide n old new h =
-    record { kept = h.kept; text = h.text; callers = h.callers; count = h.count; decodings = h.decodings; pieces = h.pieces; items = omega (arith, h.items) }
-
--- the first is refused, and so are all of them
-pub refused_values : (n : ℕ) (first : Value) (others : List Value) (old new : State) → Refused 0 (push_value old.setup first) old new → Refused n (push_values old.setup (first ∷ others)) old new
-refused_values n first others old new h = record {
-  error = h.error;
-  failed = h.failed;
-  gets = record { refusal = h.gets.refusal; may = h.gets.may; same = ap (λ (z : Result Store Fault). z >>= push_values old.setup others) h.gets.same };
-  stays = stays_wide n old new h.stays;
-}
-
-pub refused_first : (first second : Value) (old new : State) → Refused 0 (push_value old.setup first) old new → Refused 1 (push_values old.setup (first ∷ second ∷ [])) old new
-refused_first first second old new h = refused_values 1 first (second ∷ []) old new h
 
 -- the first is pushed, and then the others
 pub values_then : (n : ℕ) (first : Value) (others : List Value) (old mid new : State) (done : Bool)

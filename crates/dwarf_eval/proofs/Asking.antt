@@ -7,13 +7,11 @@ use Rattle.dwarf_meaning.specs.Inputs.{with_status}
 use Rattle.dwarf_meaning.specs.Locations.{Location}
 use Rattle.dwarf_meaning.specs.Refusals.{Refusal}
 use Rattle.dwarf_meaning.specs.Requests.{Input, OnAnswer, Request, RequiresFrameBase}
-use Rattle.dwarf_meaning.specs.Rest.{State, Status, Start, Running, RequestStatus, CompleteStatus, FaultStatus, Total}
-use Rattle.dwarf_meaning.specs.Stores.{Last, Nothing, Plain, Pieced, Pushed, Called, Located}
+use Rattle.dwarf_meaning.specs.Rest.{State, Status, Start, RequestStatus, FaultStatus, Total}
 use Rattle.std.specs.Prelude.{true, false, Result, is_some, option_map}
 use Rattle.std.specs.Option.{option_map_or}
 use Rattle.dwarf_base.specs.declared.errors.Error.{Error}
 use Rattle.dwarf_base.specs.Reads.{Text}
-use Rattle.dwarf_meaning.specs.declared.kinds.WaitingKind.TheVariants as kind
 use Rattle.dwarf_meaning.specs.Kinds.{kind_of_request}
 use Rattle.dwarf_meaning.specs.Steps.{CompleteReply, RequestReply}
 use Rattle.dwarf_eval.specs.Evaluation.{IsReplied, request_in}
@@ -21,7 +19,9 @@ use Rattle.dwarf_eval.specs.Permits.{AdmitsBy}
 use Rattle.dwarf_eval.specs.declared.op.results.EvaluationResult.{EvaluationResult}
 use Rattle.dwarf_eval.specs.declared.op.results.EvaluationResult.TheVariants as result
 use Rattle.dwarf_eval.specs.inner.Answers.{IsEndedBy}
-use Rattle.dwarf_eval.specs.inner.Machine.{replied_status}
+use Rattle.dwarf_eval.specs.inner.Machine.{replied_status, status_of}
+use Rattle.dwarf_eval.specs.declared.run.states.EvaluationState.{EvaluationState}
+use Rattle.dwarf_eval.specs.declared.run.states.EvaluationState.TheVariants as state
 use Rattle.dwarf_eval.specs.inner.Answers.{AsksFor, IsWaiting, asking, asking_status, open_kind}
 use Rattle.dwarf_eval.specs.inner.StateChanges.{ComesToState, ComesToStateBy}
 use Rattle.dwarf_eval.proofs.AnswerUses.{IsOpen}
@@ -91,9 +91,15 @@ pub kind_in : (asked : Option Request) (on_answer : OnAnswer) → option_map kin
 kind_in None on_answer = refl
 kind_in (Some request) on_answer = refl
 
-pub waits_if : (asked : Option Request) (on_answer : OnAnswer) → is_some (option_map kind_of_request asked) ≡ true → IsWaiting (replied_status asked on_answer)
+waits_if : (asked : Option Request) (on_answer : OnAnswer) → is_some (option_map kind_of_request asked) ≡ true → IsWaiting (replied_status asked on_answer)
 waits_if None on_answer h = absurd (not_some h)
 waits_if (Some request) on_answer h = tt
+
+-- a request is open if what was replied has a kind
+pub waits_kept : {R O P : Type 0} (text : R → Text) (number : O → ℕ) (on_answer : OnAnswer) (status : Status) (held : EvaluationState R O P) (replied : EvaluationResult R O P) (kind : Option WaitingKind)
+    → status_of text number held on_answer ≡ status → held ≡ state.Replied replied → kind ≡ option_map kind_of_request (request_in text number replied) → is_some kind ≡ true → IsWaiting status
+waits_kept text number on_answer status held replied kind is e k some =
+    subst IsWaiting (ap (λ (s : EvaluationState _ _ _). status_of text number s on_answer) (sym e) ∙ is) (waits_if (request_in text number replied) on_answer (ap is_some (sym k) ∙ some))
 
 pub replied_as : (asked : Option Request) (status : Status) → IsWaiting status → AsksFor asked status → IsReplied (option_map_or RequestReply asked CompleteReply) status
 replied_as asked (RequestStatus request on_answer) w h = ap (λ (o : Option Request). option_map_or RequestReply o CompleteReply) h

@@ -7,13 +7,11 @@ use Rattle.dwarf_meaning.specs.Inputs.{with_status}
 use Rattle.dwarf_meaning.specs.Locations.{Location}
 use Rattle.dwarf_meaning.specs.Refusals.{Refusal}
 use Rattle.dwarf_meaning.specs.Requests.{Input, OnAnswer, Request, RequiresFrameBase}
-use Rattle.dwarf_meaning.specs.Rest.{State, Status, Start, Running, RequestStatus, CompleteStatus, FaultStatus, Total}
-use Rattle.dwarf_meaning.specs.Stores.{Last, Nothing, Plain, Pieced, Pushed, Called, Located}
+use Rattle.dwarf_meaning.specs.Rest.{State, Status, Start, RequestStatus, FaultStatus, Total}
 use Rattle.std.specs.Prelude.{true, false, Result, is_some, option_map}
 use Rattle.std.specs.Option.{option_map_or}
 use Rattle.dwarf_base.specs.declared.errors.Error.{Error}
 use Rattle.dwarf_base.specs.Reads.{Text}
-use Rattle.dwarf_meaning.specs.declared.kinds.WaitingKind.TheVariants as kind
 use Rattle.dwarf_meaning.specs.Kinds.{kind_of_request}
 use Rattle.dwarf_meaning.specs.Steps.{CompleteReply, RequestReply}
 use Rattle.dwarf_eval.specs.Evaluation.{IsReplied, request_in}
@@ -21,10 +19,13 @@ use Rattle.dwarf_eval.specs.Permits.{AdmitsBy}
 use Rattle.dwarf_eval.specs.declared.op.results.EvaluationResult.{EvaluationResult}
 use Rattle.dwarf_eval.specs.declared.op.results.EvaluationResult.TheVariants as result
 use Rattle.dwarf_eval.specs.inner.Answers.{IsEndedBy}
-use Rattle.dwarf_eval.specs.inner.Machine.{replied_status}
+use Rattle.dwarf_eval.specs.inner.Machine.{replied_status, status_of}
+use Rattle.dwarf_eval.specs.declared.run.states.EvaluationState.{EvaluationState}
+use Rattle.dwarf_eval.specs.declared.run.states.EvaluationState.TheVariants as state
 use Rattle.dwarf_eval.specs.inner.Answers.{AsksFor, IsWaiting, asking, asking_status, open_kind}
 use Rattle.dwarf_eval.specs.inner.StateChanges.{ComesToState, ComesToStateBy}
 use Rattle.dwarf_eval.proofs.AnswerUses.{IsOpen}
+use Rattle.dwarf_eval.proofs.Loads.{request_waits}
 
 not_some : false ≡ true → ⊥
 not_some h = cc
@@ -34,32 +35,10 @@ abbrev pub asked_in : Status → Request
 asked_in (RequestStatus request on_answer) = request
 asked_in _ = RequiresFrameBase
 
-pub asks_it : (status : Status) → AsksFor (Some (asked_in status)) status
-asks_it (RequestStatus request on_answer) = refl
-asks_it (Start initial_value) = tt
-asks_it Running = tt
-asks_it (CompleteStatus value) = tt
-asks_it (FaultStatus error) = tt
-
-abbrev request_status : Option Request → OnAnswer → Status
-request_status None on_answer = Running
-request_status (Some request) on_answer = RequestStatus request on_answer
-
 -- asking what is asked
 pub asking_it : (status : Status) → status ≡ asking_status (asked_in status) status
 asking_it (RequestStatus request on_answer) = refl
-asking_it (Start initial_value) = refl
-asking_it Running = refl
-asking_it (CompleteStatus value) = refl
-asking_it (FaultStatus error) = refl
-
--- asking anew what was asked before
-pub asking_again : (request other : Request) (status : Status) → AsksFor (Some request) status → asking_status request (asking_status other status) ≡ status
-asking_again request other (RequestStatus asked on_answer) h = ap (λ (r : Option Request). request_status r on_answer) h
-asking_again request other (Start initial_value) h = refl
-asking_again request other Running h = refl
-asking_again request other (CompleteStatus value) h = refl
-asking_again request other (FaultStatus error) h = refl
+asking_it _ = refl
 
 module _ (x : State) (on_answer : OnAnswer) (other request : Request) where
   abbrev before : State
@@ -68,24 +47,19 @@ module _ (x : State) (on_answer : OnAnswer) (other request : Request) where
   abbrev after : State
   after = with_status (RequestStatus request on_answer) x
 
-  same_waiting : (last : Last) → waiting last (RequestStatus other on_answer) ≡ waiting last (RequestStatus request on_answer)
-  same_waiting Nothing = refl
-  same_waiting Plain = refl
-  same_waiting Pieced = refl
-  same_waiting Pushed = refl
-  same_waiting Called = refl
-  same_waiting (Located location) = refl
+  same_waiting : waiting x.store.last (RequestStatus other on_answer) ≡ waiting x.store.last (RequestStatus request on_answer)
+  same_waiting = request_waits x.store.last other on_answer ∙ sym (request_waits x.store.last request on_answer)
 
   decodes_alike : DecodesOnce after → DecodesOnce before
   decodes_alike d = record {
     each = d.each;
     no_other = d.no_other;
-    given = subst (λ (l : List Location). IsTrue (list_all is_given l)) (sym (same_waiting x.store.last)) d.given;
+    given = subst (λ (l : List Location). IsTrue (list_all is_given l)) (sym same_waiting) d.given;
   }
 
   spends_alike : (new : State) → Spends 0 before new → Spends 0 after new
   spends_alike new h =
-      let waits = ap length (same_waiting x.store.last) in
+      let waits = ap length same_waiting in
       let items = h.items in
       let decodings = h.decodings in
       record { items = omega (arith, waits, items); callers = h.callers; decodings = omega (arith, waits, decodings); once = λ d. h.once (decodes_alike d) }
@@ -117,9 +91,15 @@ pub kind_in : (asked : Option Request) (on_answer : OnAnswer) → option_map kin
 kind_in None on_answer = refl
 kind_in (Some request) on_answer = refl
 
-pub waits_if : (asked : Option Request) (on_answer : OnAnswer) → is_some (option_map kind_of_request asked) ≡ true → IsWaiting (replied_status asked on_answer)
+waits_if : (asked : Option Request) (on_answer : OnAnswer) → is_some (option_map kind_of_request asked) ≡ true → IsWaiting (replied_status asked on_answer)
 waits_if None on_answer h = absurd (not_some h)
 waits_if (Some request) on_answer h = tt
+
+-- a request is open if what was replied has a kind
+pub waits_kept : {R O P : Type 0} (text : R → Text) (number : O → ℕ) (on_answer : OnAnswer) (status : Status) (held : EvaluationState R O P) (replied : EvaluationResult R O P) (kind : Option WaitingKind)
+    → status_of text number held on_answer ≡ status → held ≡ state.Replied replied → kind ≡ option_map kind_of_request (request_in text number replied) → is_some kind ≡ true → IsWaiting status
+waits_kept text number on_answer status held replied kind is e k some =
+    subst IsWaiting (ap (λ (s : EvaluationState _ _ _). status_of text number s on_answer) (sym e) ∙ is) (waits_if (request_in text number replied) on_answer (ap is_some (sym k) ∙ some))
 
 pub replied_as : (asked : Option Request) (status : Status) → IsWaiting status → AsksFor asked status → IsReplied (option_map_or RequestReply asked CompleteReply) status
 replied_as asked (RequestStatus request on_answer) w h = ap (λ (o : Option Request). option_map_or RequestReply o CompleteReply) h
@@ -132,34 +112,14 @@ ended_waits replied _ w = absurd w
 -- the kind of a request depends on no text and no offset
 pub kinds_alike : {R O P : Type 0} (t u : R → Text) (m n : O → ℕ) (r : EvaluationResult R O P) → option_map kind_of_request (request_in t m r) ≡ option_map kind_of_request (request_in u n r)
 kinds_alike t u m n result.Complete = refl
-kinds_alike t u m n (result.RequiresMemory address size space base_type) = refl
-kinds_alike t u m n (result.RequiresRegister register base_type) = refl
-kinds_alike t u m n (result.RequiresWasmLocal index) = refl
-kinds_alike t u m n (result.RequiresWasmGlobal index) = refl
-kinds_alike t u m n (result.RequiresWasmStack index) = refl
-kinds_alike t u m n result.RequiresFrameBase = refl
-kinds_alike t u m n (result.RequiresTls index) = refl
-kinds_alike t u m n result.RequiresCallFrameCfa = refl
-kinds_alike t u m n (result.RequiresAtLocation offset) = refl
-kinds_alike t u m n (result.RequiresEntryValue expression) = refl
-kinds_alike t u m n (result.RequiresParameterRef offset) = refl
-kinds_alike t u m n (result.RequiresRelocatedAddress address) = refl
-kinds_alike t u m n (result.RequiresIndexedAddress index relocate) = refl
-kinds_alike t u m n (result.RequiresBaseType base_type) = refl
-
-abbrev kind_or : Option WaitingKind → WaitingKind
-kind_or (Some k) = k
-kind_or None = kind.FrameBase
+kinds_alike t u m n _ = refl
 
 pub admits_by : (one other : Option Request) (status : Status) → option_map kind_of_request one ≡ option_map kind_of_request other → AsksFor one status → IsWaiting status → AdmitsBy other status
-admits_by one None (RequestStatus request on_answer) e h w = absurd (not_some (sym (ap is_some e) ∙ ap (λ (o : Option Request). is_some (option_map kind_of_request o)) h))
-admits_by one (Some asked) (RequestStatus request on_answer) e h w = ap kind_or (sym (ap (λ (o : Option Request). option_map kind_of_request o) h) ∙ e)
+admits_by one None (RequestStatus request on_answer) e h w = cc
+admits_by one (Some asked) (RequestStatus request on_answer) e h w = cc
 admits_by one other _ e h w = absurd w
 
 -- a request is open if its kind is kept
 pub waits_kind : (asked : Request) (status : Status) (kept : Option WaitingKind) → kept ≡ open_kind (asking_status asked status) → is_some kept ≡ true → IsWaiting status
 waits_kind asked (RequestStatus request on_answer) kept e h = tt
-waits_kind asked (Start initial_value) kept e h = absurd (not_some (sym (ap is_some e) ∙ h))
-waits_kind asked Running kept e h = absurd (not_some (sym (ap is_some e) ∙ h))
-waits_kind asked (CompleteStatus value) kept e h = absurd (not_some (sym (ap is_some e) ∙ h))
-waits_kind asked (FaultStatus error) kept e h = absurd (not_some (sym (ap is_some e) ∙ h))
+waits_kind asked _ kept e h = absurd (not_some (sym (ap is_some e) ∙ h))

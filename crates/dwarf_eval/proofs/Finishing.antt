@@ -12,7 +12,7 @@ use Rattle.dwarf_value.specs.Values.{to_u64_of}
 use Rattle.dwarf_meaning.specs.Locations.{AtAddress, Piece}
 use Rattle.dwarf_meaning.specs.Requests.{Input}
 use Rattle.dwarf_meaning.specs.RunLaws.{waits_of}
-use Rattle.dwarf_meaning.specs.Stores.{Setup, address_bits, Store, Last, Nothing, Plain, Pieced, Pushed, Called, Located, push_piece}
+use Rattle.dwarf_meaning.specs.Stores.{Setup, address_bits, Store, Last, Located, push_piece}
 use Rattle.dwarf_meaning.specs.Run.{Position, CompleteEnd, only_end, turn_by, run}
 use Rattle.dwarf_meaning.specs.Meaning.{Outcome, FaultOutcome, CompleteOutcome, completion_of, has_pieces, whole_piece, finish_value, finish_by, finish}
 use Rattle.dwarf_meaning.specs.Rest.{State, Status, Running, CompleteStatus, FaultStatus, with_refusal, total_of_course}
@@ -21,12 +21,12 @@ use Rattle.dwarf_meaning.proofs.Choices.{top_none, top_some}
 use Rattle.dwarf_meaning.proofs.Turns.{run_turn}
 use Rattle.dwarf_meaning.specs.Bounds.{endings}
 use Rattle.dwarf_meaning.specs.Inputs.{with_status}
-use Rattle.dwarf_eval.specs.inner.StateChanges.{ChangesStoreBy, Refused, Stays, Pops, total, ComesToStateBy, GoesBack, ClosesBy, Closes, is_free, Turns, with_store, with_values, before_pushes}
+use Rattle.dwarf_eval.specs.inner.StateChanges.{ChangesStoreBy, Stays, Pops, total, ComesToStateBy, GoesBack, ClosesBy, Closes, is_free, Turns, with_store, with_values, before_pushes}
 use Rattle.dwarf_eval.proofs.Reaching.{may_along}
 use Rattle.dwarf_eval.proofs.Loads.{EndsAlike, finish_alike, piece_stored}
 use Rattle.dwarf_eval.proofs.Spending.{nears_by, back_spends, over_spends}
 use Rattle.dwarf_eval.proofs.Staying.{fewer_one, keeps_more, stays_here, stays_low, stays_more, stays_popped, stays_then}
-use Rattle.dwarf_eval.proofs.Totals.{closed, going, total_running, total_complete, course_ended}
+use Rattle.dwarf_eval.proofs.Totals.{closed, total_running, total_complete, course_ended}
 use Rattle.dwarf_eval.proofs.Turning.{effort_running, less_stopped, falls_from, reads_none}
 
 -- if both are alike, one closes as the other
@@ -66,14 +66,6 @@ completes_ok value piece old mid new d e =
       items = omega (arith, values, pieces);
     })
 
--- a last piece that is refused
-pub completes_err : (value : Option Value) (piece : Piece) (old new : State) → Refused 0 (push_piece old.setup piece) old new → Closes 1 (λ s. completion_of value (push_piece old.setup piece s)) old new
-completes_err value piece old new h =
-    subst (ClosesBy 1 (λ s. completion_of value (push_piece old.setup piece s)) old new) (sym h.failed) (record {
-      gets = record { refusal = h.gets.refusal; may = h.gets.may; same = ap (completion_of value) h.gets.same };
-      stays = h.stays;
-    })
-
 -- by whether there are pieces
 pub closes_else : (more : ℕ) (f g : Store → Outcome) (old new : State) → has_pieces old.store.pieces ≡ false → Closes more g old new → Closes more (λ s. cond (has_pieces s.pieces) (f s) (g s)) old new
 closes_else more f g old new e h =
@@ -96,19 +88,12 @@ mixed more g old new e is =
 -- the pieces stand
 pub stands : (g : Store → Outcome) (old new : State) → has_pieces old.store.pieces ≡ true → new ≡ with_status (CompleteStatus None) old → Closes 0 (λ s. cond (has_pieces s.pieces) (CompleteOutcome s.pieces None) (g s)) old new
 stands g old new e is =
-    let values = ap (λ (z : State). length z.store.values) is in
-    let pieces = ap (λ (z : State). length z.store.pieces) is in
-    subst (ClosesBy 0 (λ s. cond (has_pieces s.pieces) (CompleteOutcome s.pieces None) (g s)) old new) (sym (ap (λ (z : State). z.status) is)) (record {
-      steps = record {
-        pushes = 0;
-        same = λ r.
-            cond-true (has_pieces old.store.pieces) (CompleteOutcome old.store.pieces None) (g (with_refusal r old.store)) e
-            ∙ ap (λ (z : State). CompleteOutcome z.store.pieces None) (sym is);
-      };
-      alone = is ∙ ap (λ (z : State). with_store z.store (with_status (CompleteStatus None) old)) (sym is);
-      kept = record { setup = ap (λ (z : State). z.setup) is; settings = ap (λ (z : State). z.store.settings) is };
-      count = ap (λ (z : State). z.store.count) is;
-      items = omega (arith, values, pieces);
+    subst (Closes 0 (λ s. cond (has_pieces s.pieces) (CompleteOutcome s.pieces None) (g s)) old) (sym is) (record {
+      steps = record { pushes = 0; same = λ r. cond-true (has_pieces old.store.pieces) (CompleteOutcome old.store.pieces None) (g (with_refusal r old.store)) e };
+      alone = refl;
+      kept = record { setup = refl; settings = refl };
+      count = refl;
+      items = omega arith;
     })
 
 -- the end, by the last operation
@@ -120,12 +105,8 @@ finish_as last old new e h =
 
 -- with the value on top, without pieces, if no location waits
 pub finish_plain : (last : Last) (old new : State) → old.store.last ≡ last → is_free last ≡ true → has_pieces old.store.pieces ≡ false → Closes 0 (finish_value old.setup) old new → Closes (waits_of old.store.last) (finish old.setup) old new
-finish_plain Nothing old new e free none h = finish_as Nothing old new e (closes_else 0 (λ s. CompleteOutcome s.pieces None) (finish_value old.setup) old new none h)
-finish_plain Plain old new e free none h = finish_as Plain old new e (closes_else 0 (λ s. FaultOutcome InvalidPiece) (finish_value old.setup) old new none h)
-finish_plain Pieced old new e free none h = finish_as Pieced old new e (closes_else 0 (λ s. CompleteOutcome s.pieces None) (finish_value old.setup) old new none h)
-finish_plain Pushed old new e free none h = finish_as Pushed old new e (closes_else 0 (λ s. FaultOutcome InvalidPiece) (finish_value old.setup) old new none h)
-finish_plain Called old new e free none h = finish_as Called old new e (closes_else 0 (λ s. CompleteOutcome s.pieces None) (finish_value old.setup) old new none h)
 finish_plain (Located location) old new e free none h = cc
+finish_plain last old new e free none h = finish_as last old new e (closes_else 0 _ (finish_value old.setup) old new none h)
 
 -- the value on top is the result
 abbrev pub top_done : Setup → Store → Value → List Value → Outcome
@@ -158,26 +139,23 @@ module _ (x : State) (runs : x.status ≡ Running) (end : x.place ≡ length x.t
 
   pub back_turned : (new : State) → GoesBack true x new → Turns x new
   back_turned new h =
-      let still : new.status ≡ Running = ap (λ (z : State). z.status) h.3 ∙ runs in
+      let back : State = record x { text = h.0.text; place = h.0.place; callers = h.1 } in
       let was = effort_running x runs in
-      let is = effort_running new still in
-      let callers : length x.callers ≡ suc (length new.callers) = ap length h.2 ∙ ap (λ (z : State). suc (length z.callers)) (sym h.3) in
-      let store : new.store ≡ x.store = ap (λ (z : State). z.store) h.3 in
-      let count : new.store.count ≡ x.store.count = ap (λ (s : Store). s.count) store in
-      let waits = ap (λ (s : Store). waits_of s.last) store in
-      record {
-        comes = subst (ComesToStateBy x (total x) new) (sym still) (record {
+      let is = effort_running back runs in
+      let callers : length x.callers ≡ suc (length h.1) = ap length h.2 in
+      subst (Turns x) (sym h.3) (record {
+        comes = subst (ComesToStateBy x (total x) back) (sym runs) (record {
           pushes = 0;
           same = λ r inputs.
               end_total r inputs
               ∙ (ap (λ (fs : List Position). total_of_course x.store.count x.setup fs (only_end (CompleteEnd (with_refusal r x.store) inputs))) h.2
-              ∙ sym (total_running r new inputs still ∙ ap (λ (z : State). going z (with_refusal r z.store) inputs) h.3));
-          kept = record { setup = ap (λ (z : State). z.setup) h.3; settings = ap (λ (s : Store). s.settings) store };
-          spends = back_spends x new runs still callers store (ap (λ (z : State). z.decodings) h.3);
-          nears = nears_by x new Running Running runs still (omega (arith, count));
+              ∙ sym (total_running r back inputs runs));
+          kept = record { setup = refl; settings = refl };
+          spends = back_spends x back runs runs callers refl refl;
+          nears = nears_by x back Running Running runs runs (omega arith);
         });
-        less = omega (arith, was, is, callers, count, waits);
-      }
+        less = omega (arith, was, is, callers);
+      })
 
   -- the outcome of the end of the outermost text
   outer_total : (r : Refusal) (inputs : List Input) (outcome : Outcome) → x.callers ≡ [] → finish x.setup (with_refusal r x.store) ≡ outcome → total x r inputs ≡ closed outcome x.store.count

@@ -4,7 +4,6 @@ pub mod RefusedPushes
 pub mod Staying
 pub mod Performances
 pub mod Computes
-pub mod ActCases
 pub mod Totals
 pub mod Reaching
 pub mod Turning

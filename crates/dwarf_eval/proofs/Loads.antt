@@ -1,5 +1,5 @@
 -- What pushes and operations add to what is kept, and how many pieces ended a location.
-use Rattle.std.proofs.Common.{ℕ, ◌≡◌, ◌+◌, ◌≤◌, List, [], ◌∷◌, ◌++◌, length, Result, Ok, Err, arith, refl, subst, nat_lt, Option, Some, None, ap, true, cond, ◌&&◌, is_some, IsTrue}
+use Rattle.std.proofs.Common.{ℕ, ◌≡◌, ◌+◌, ◌≤◌, List, [], ◌∷◌, ◌++◌, length, Result, Ok, Err, arith, refl, subst, nat_lt, Option, Some, None, ap, true, cond, ◌&&◌, is_some, IsTrue, rules}
 use Rattle.std.proofs.lemmas.Bool.{cond_both}
 use Rattle.std.proofs.lemmas.List.{length-append}
 use Rattle.dwarf_base.specs.Faults.{Fault}
@@ -8,7 +8,7 @@ use Rattle.dwarf_meaning.specs.Operations.{Operation}
 use Rattle.dwarf_meaning.specs.Locations.{Piece, Location, Empty, InRegister, AtAddress, HoldsValue, HoldsBytes, PointsInto}
 use Rattle.dwarf_meaning.specs.Acts.{Act, Pushes, Branches, Locates, EndsPiece, RequestAct, FaultAct, on_top}
 use Rattle.dwarf_meaning.specs.RunLaws.{waits_of}
-use Rattle.dwarf_meaning.specs.Stores.{Setup, Store, Last, Plain, Pieced, push_value, push_piece, push_caller, push_values, Next, Goes, RequestNext, FaultNext, next_at, do_act, branch_target, address_bits, Nothing, Pushed, Called, Located}
+use Rattle.dwarf_meaning.specs.Stores.{Setup, Store, Last, Plain, Pieced, push_value, push_piece, push_caller, push_values, Next, Goes, RequestNext, FaultNext, next_at, do_act, branch_target, address_bits, Located}
 use Rattle.dwarf_meaning.specs.Refusals.{Never, push_with_room}
 use Rattle.dwarf_meaning.specs.Rest.{with_refusal, Status, Start, Running, RequestStatus}
 use Rattle.dwarf_eval.specs.inner.StateChanges.{StoreSteps, is_free, before_pushes}
@@ -208,11 +208,7 @@ top_alike setup s = value_alike (endings s.pieces) s.values _ (λ x rest. whole_
 
 finish_alike_by : (setup : Setup) (s : Store) (last : Last) → EndsAlike (endings s.pieces) (finish setup (record s { last = last }))
 finish_alike_by setup s (Located location) = cond_both (has_pieces s.pieces) _ _ (EndsAlike (endings s.pieces)) (λ e. tt) (λ e. whole_alike setup None location (record s { last = Located location }))
-finish_alike_by setup s Plain = cond_both (has_pieces s.pieces) _ _ (EndsAlike (endings s.pieces)) (λ e. tt) (λ e. top_alike setup (record s { last = Plain }))
-finish_alike_by setup s Pushed = cond_both (has_pieces s.pieces) _ _ (EndsAlike (endings s.pieces)) (λ e. tt) (λ e. top_alike setup (record s { last = Pushed }))
-finish_alike_by setup s Nothing = cond_both (has_pieces s.pieces) _ _ (EndsAlike (endings s.pieces)) (λ e. refl) (λ e. top_alike setup (record s { last = Nothing }))
-finish_alike_by setup s Pieced = cond_both (has_pieces s.pieces) _ _ (EndsAlike (endings s.pieces)) (λ e. refl) (λ e. top_alike setup (record s { last = Pieced }))
-finish_alike_by setup s Called = cond_both (has_pieces s.pieces) _ _ (EndsAlike (endings s.pieces)) (λ e. refl) (λ e. top_alike setup (record s { last = Called }))
+finish_alike_by setup s last = cond_both (has_pieces s.pieces) _ _ (EndsAlike (endings s.pieces)) (λ e. search rules) (λ e. top_alike setup (record s { last = last }))
 
 -- the end adds at most the whole variable
 pub finish_alike : (setup : Setup) (s : Store) → EndsAlike (endings s.pieces) (finish setup s)

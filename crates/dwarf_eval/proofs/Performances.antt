@@ -1,5 +1,5 @@
 -- What an operation does to a state is what its act says.
-use Rattle.std.proofs.Common.{ℕ, ℤ, ◌≡◌, ◌+◌, ◌<◌, ◌≤◌, Bool, true, false, List, [], ◌∷◌, length, Option, Result, Ok, Some, None, arith, ap, ◌∙◌, sym, refl, subst, nat_lt}
+use Rattle.std.proofs.Common.{ℕ, ℤ, ◌≡◌, ◌+◌, ◌<◌, ◌≤◌, Bool, true, false, List, [], ◌∷◌, length, Option, Result, Ok, Err, Some, None, arith, ap, ◌∙◌, sym, refl, subst, nat_lt}
 use Rattle.std.proofs.lemmas.Bool.{cond-true, cond-false}
 use Rattle.std.proofs.lemmas.Bool.Decides.{nat_tests}
 use Rattle.dwarf_base.specs.declared.errors.Error.{Error}
@@ -9,19 +9,17 @@ use Rattle.dwarf_base.specs.declared.errors.Error.TheVariants.{BadBranchTarget}
 use Rattle.dwarf_value.specs.declared.types.Value.{Value}
 use Rattle.dwarf_meaning.specs.Locations.{Location, Piece}
 use Rattle.dwarf_meaning.specs.Requests.{Request, OnAnswer}
-use Rattle.dwarf_meaning.specs.Acts.{Act, Pushes, Branches, Locates, EndsPiece, RequestAct, FaultAct, push}
-use Rattle.dwarf_meaning.specs.Stores.{Setup, Store, Last, Plain, Pieced, Located, push_value, push_piece, push_values, Next, Goes, RequestNext, FaultNext, next_at, branch_target, branch}
+use Rattle.dwarf_meaning.specs.Acts.{Act, Pushes, Branches, Locates, EndsPiece, RequestAct, FaultAct, on_top, on_result, underflow, push}
+use Rattle.dwarf_meaning.proofs.Choices.{top_none, top_some, answer_ok, answer_err}
+use Rattle.dwarf_value.specs.Values.{to_u64_of}
+use Rattle.dwarf_meaning.specs.Stores.{address_bits, Setup, Store, Last, Plain, Pieced, Located, push_value, push_piece, push_values, Next, Goes, FaultNext, next_at, branch_target, branch}
 use Rattle.dwarf_meaning.specs.Rest.{State, Status, Start, Running, RequestStatus, CompleteStatus, FaultStatus, with_refusal}
 use Rattle.dwarf_meaning.specs.Refusals.{Refusal, Never}
 use Rattle.dwarf_meaning.specs.Inputs.{with_status}
 use Rattle.dwarf_eval.specs.inner.Machine.{replied_status}
-use Rattle.dwarf_eval.specs.inner.StateChanges.{Asks, Stays, TriesChange, HasTriedChange, Pops, Jumps, do_act_at, LeadsToFault, LeadsBy, Performs, with_store, with_values, with_last, with_place, PopsGenerics, before_pushes}
+use Rattle.dwarf_eval.specs.inner.StateChanges.{Asks, Stays, TriesChange, HasTriedChange, Pops, Jumps, do_act_at, LeadsToFault, LeadsBy, Performs, with_store, with_values, with_last, with_place, PopsTo, before_pushes}
 use Rattle.dwarf_eval.proofs.RefusedPushes.{tries_as, bind_ok}
-use Rattle.dwarf_eval.proofs.Staying.{stays_from, stays_low, stays_then}
-use Rattle.std.proofs.lemmas.Option.{none-some}
-use Rattle.std.specs.Prelude.{slice_get}
-use Rattle.std.specs.Option.{unwrap_or}
-use Rattle.dwarf_value.specs.declared.types.Value.TheVariants.{Generic}
+use Rattle.dwarf_eval.proofs.Staying.{fewer_one, stays_from, stays_here, stays_low, stays_popped, stays_then}
 
 pub performs_as : (a b : Act) (old new : State) → a ≡ b → Performs b old new → Performs a old new
 performs_as a b old new e h = subst (λ (z : Act). Performs z old new) (sym e) h
@@ -91,20 +89,17 @@ pub performs_more : (value : Value) (old new : State) → old.status ≡ Running
 performs_more value old new runs h = performs_push old.store.values value old old new runs (omega arith) refl h
 
 -- nothing is pushed
+performs_quietly : (a : Act) (rest : List Value) (last : Last) (old new : State) → ((s : Store) → do_act_at a old s ≡ next_at old.place (from rest last (λ t. Ok t) s)) → old.status ≡ Running → new ≡ with_last last (with_values rest old) → Performs a old new
+performs_quietly a rest last old new is runs e =
+    subst (Performs a old) (sym e)
+    (performs_goes a (from rest last (λ t. Ok t)) old is (with_last last (with_values rest old)) true runs (record { steps = record { pushes = 0; same = λ r. refl }; alone = refl }))
+
 pub performs_none : (rest : List Value) (old new : State) → old.status ≡ Running → new ≡ with_last Plain (with_values rest old) → Performs (Pushes rest []) old new
-performs_none rest old new runs e =
-    performs_goes (Pushes rest []) (from rest Plain (λ s. Ok s)) old (λ s. refl) new true runs (record {
-      steps = record { pushes = 0; same = λ r. ap (λ (z : State). Ok (with_refusal r z.store)) (sym e) };
-      alone = e ∙ ap (λ (z : State). with_store z.store old) (sym e);
-    })
+performs_none rest old new runs e = performs_quietly (Pushes rest []) rest Plain old new (λ s. refl) runs e
 
 -- a location waits
 pub performs_located : (rest : List Value) (location : Location) (old new : State) → old.status ≡ Running → new ≡ with_last (Located location) (with_values rest old) → Performs (Locates rest location) old new
-performs_located rest location old new runs e =
-    performs_goes (Locates rest location) (from rest (Located location) (λ s. Ok s)) old (λ s. refl) new true runs (record {
-      steps = record { pushes = 0; same = λ r. ap (λ (z : State). Ok (with_refusal r z.store)) (sym e) };
-      alone = e ∙ ap (λ (z : State). with_store z.store old) (sym e);
-    })
+performs_located rest location old new runs e = performs_quietly (Locates rest location) rest (Located location) old new (λ s. refl) runs e
 
 -- a piece is ended
 pub performs_ends : (rest : List Value) (piece : Piece) (old mid new : State) (done : Bool) → old.status ≡ Running → length rest ≤ length old.store.values → mid ≡ with_last Pieced (with_values rest old) → TriesChange 0 (push_piece mid.setup piece) mid new done → Performs (EndsPiece rest piece) old new
@@ -113,38 +108,32 @@ performs_ends rest piece old mid new done runs fewer e h =
     (tries_from rest Pieced (λ setup. push_piece setup piece) old mid new done fewer e h)
 
 -- something is asked
-pub performs_asks : (rest : List Value) (request : Request) (on_answer : OnAnswer) (old new : State) → new ≡ with_status (RequestStatus request on_answer) (with_values rest old) → Performs (RequestAct rest request on_answer) old new
-performs_asks rest request on_answer old new e =
-    subst (LeadsBy (do_act_at (RequestAct rest request on_answer) old) old new) (sym (ap (λ (z : State). z.status) e)) (record {
-      steps = record { pushes = 0; same = λ r. ap (λ (z : State). RequestNext request on_answer (with_refusal r z.store)) (sym e) };
-      alone = e ∙ ap (λ (z : State). with_store z.store (with_status (RequestStatus request on_answer) old)) (sym e);
-    })
+pub performs_asks : (request : Request) (on_answer : OnAnswer) (old new : State) → new ≡ with_status (RequestStatus request on_answer) old → Performs (RequestAct old.store.values request on_answer) old new
+performs_asks request on_answer old new e =
+    subst (Performs (RequestAct old.store.values request on_answer) old) (sym e) (record { steps = record { pushes = 0; same = λ r. refl }; alone = refl })
 
 -- a request was opened, if there is one
 pub asks_by : (asked : Option Request) (on_answer : OnAnswer) (old new : State) → new ≡ with_status (replied_status asked on_answer) old → Asks asked on_answer old new
 asks_by None on_answer old new e = tt
-asks_by (Some request) on_answer old new e = performs_asks old.store.values request on_answer old new e
+asks_by (Some request) on_answer old new e = performs_asks request on_answer old new e
 
 -- a branch is taken
 pub performs_branch : (t : ℤ) (old mid new : State) (target : ℕ) (done : Bool) → old.status ≡ Running → mid ≡ with_last Plain old → target ≡ branch_target mid.setup mid.place t → Jumps target mid new done → Performs (Branches old.store.values t) old new
 performs_branch t old mid new target true runs e f h =
-    let rest = old.store.values in
+    let gone : State = with_place target (with_last Plain old) in
     let is : target ≡ branch_target old.setup old.place t = f ∙ ap (λ (z : State). branch_target z.setup z.place t) e in
-    let new_is : new ≡ with_place target (with_last Plain old) = h.1 ∙ ap (with_place target) e in
     let fits : target ≤ length old.text.bytes = subst (λ (z : State). target ≤ length z.text.bytes) e h.0 in
-    let place : new.place ≡ target = ap (λ (z : State). z.place) new_is in
     let inside : nat_lt (length old.text.bytes) target ≡ false = grind (arith, nat_tests) in
-    subst (LeadsBy (do_act_at (Branches rest t) old) old new) (sym (ap (λ (z : State). z.status) new_is ∙ runs)) (record {
+    subst (Performs (Branches old.store.values t) old) (sym (h.1 ∙ ap (with_place target) e)) (subst (LeadsBy (do_act_at (Branches old.store.values t) old) old gone) (sym runs) (record {
       steps = record {
         pushes = 0;
         same = λ r.
-            let s : Store = record (with_refusal r old.store) { values = rest; last = Plain } in
+            let s : Store = record (with_refusal r old.store) { last = Plain } in
             ap (λ (n : ℕ). branch (length old.text.bytes) n s) (sym is)
-            ∙ (cond-false (nat_lt (length old.text.bytes) target) (FaultNext (BadBranchTarget target)) (Goes target s) inside
-            ∙ ap (λ (z : State). Goes z.place (with_refusal r z.store)) (sym new_is));
+            ∙ cond-false (nat_lt (length old.text.bytes) target) (FaultNext (BadBranchTarget target)) (Goes target s) inside;
       };
-      alone = new_is ∙ ap (λ (z : State). with_store z.store (with_place z.place old)) (sym new_is);
-    })
+      alone = refl;
+    }))
 performs_branch t old mid new target false runs e f h =
     let rest = old.store.values in
     let is : target ≡ branch_target old.setup old.place t = f ∙ ap (λ (z : State). branch_target z.setup z.place t) e in
@@ -177,16 +166,6 @@ pops_two y x old mid new h i =
 pub fewer_two : (y x : Value) (rest values : List Value) → values ≡ y ∷ x ∷ rest → length rest + 1 ≤ length values
 fewer_two y x rest values e = let n = ap length e in omega (arith, n)
 
-pub stays_two : (y x : Value) (old new : State) → PopsTwo y x old new → Stays 0 old new
-stays_two y x old new h =
-    let n = fewer_two y x h.rest old.store.values h.values in
-    stays_low h.rest old.store.last old new (omega (arith, n)) h.alone
-
-pub pops_one : (y : Value) (old mid new : State) → Pops (Some y) old mid → Pops None mid new → old.store.values ≡ y ∷ []
-pops_one y old mid new h i =
-    let low : mid.store.values ≡ h.0 = ap (λ (z : State). z.store.values) h.2 in
-    h.1 ∙ ap (λ (vs : List Value). y ∷ vs) (sym low ∙ i.0)
-
 pub record PopsThree (z y x : Value) (old new : State) : Type 0 where
   pub rest : List Value
   pub values : old.store.values ≡ z ∷ y ∷ x ∷ rest
@@ -199,11 +178,6 @@ pops_three z y x old mid new h i =
 
 pub fewer_three : (z y x : Value) (rest values : List Value) → values ≡ z ∷ y ∷ x ∷ rest → length rest + 2 ≤ length values
 fewer_three z y x rest values e = let n = ap length e in omega (arith, n)
-
-pub pops_only_two : (z y : Value) (old mid new : State) → PopsTwo z y old mid → Pops None mid new → old.store.values ≡ z ∷ y ∷ []
-pops_only_two z y old mid new h i =
-    let low : mid.store.values ≡ h.rest = ap (λ (s : State). s.store.values) h.alone in
-    h.values ∙ ap (λ (vs : List Value). z ∷ y ∷ vs) (sym low ∙ i.0)
 
 -- ---- an operation on what is left of the stack
 
@@ -230,26 +204,38 @@ pub performs_low : (f : List Value → Act) (rest : List Value) (old mid new : S
 performs_low f rest old mid new fewer e h =
     low_by rest old new fewer (do_act_at (f rest) (with_values rest old)) (do_act_at (f rest) old) (act_low (f rest) rest old) new.status (subst (λ (z : State). Performs (f z.store.values) z new) e h)
 
-two_are : (values : List Value) (y x : Value) → slice_get values 0 ≡ Some y → slice_get values 1 ≡ Some x → (rest : List Value) × (values ≡ y ∷ x ∷ rest)
-two_are [] y x e f = absurd (none-some y e)
-two_are (a ∷ []) y x e f = absurd (none-some x f)
-two_are (a ∷ b ∷ rest) y x e f = (rest, ap (λ (v : Value). v ∷ b ∷ rest) (ap (λ (o : Option Value). unwrap_or o a) e) ∙ ap (λ (v : Value). y ∷ v ∷ rest) (ap (λ (o : Option Value). unwrap_or o b) f))
+-- ---- the top is popped first
 
-tail_of : List Value → List Value
-tail_of [] = []
-tail_of (x ∷ rest) = rest
+-- no value is there
+pub falls_short : (go : Value → List Value → Act) (old mid new : State) → Pops None old mid → new ≡ with_status (FaultStatus error.NotEnoughStackItems) mid → Performs (on_top old.store.values underflow go) old new
+falls_short go old mid new pops is =
+    performs_refuses _ error.NotEnoughStackItems old mid new (top_none old.store.values underflow go pops.0) (stays_popped None old mid pops) is
 
-pop_rest : (o : Option Value) (old new : State) (y : Value) (rest : List Value) → old.store.values ≡ y ∷ rest → Pops o old new → new ≡ with_values rest old
-unfolding tail_of
-pop_rest None old new y rest e h = let n = ap length (sym h.0 ∙ e) in absurd (omega (arith, n))
-pop_rest (Some v) old new y rest e h = h.2 ∙ ap (λ (vs : List Value). with_values (tail_of vs) old) (sym h.1 ∙ e)
+pub performs_popped : (go : Value → List Value → Act) (x : Value) (old mid new : State) → Pops (Some x) old mid → Performs (go x mid.store.values) mid new → Performs (on_top old.store.values underflow go) old new
+performs_popped go x old mid new pops h =
+    performs_as _ (go x pops.0) old new (top_some old.store.values underflow go x pops.0 pops.1)
+    (performs_low (go x) pops.0 old mid new (fewer_one x pops.0 old.store.values pops.1) pops.2 h)
 
-pub generics_popped : (o p : Option Value) (old mid new : State) (right left : ℕ) → Some (Generic right) ≡ slice_get old.store.values 0 → Some (Generic left) ≡ slice_get old.store.values 1 → Pops o old mid → Pops p mid new → PopsGenerics (Some (left, right)) old new
-generics_popped o p old mid new right left e f h i =
-    let two = two_are old.store.values (Generic right) (Generic left) (sym e) (sym f) in
-    let first = pop_rest o old mid (Generic right) (Generic left ∷ two.0) two.1 h in
-    let second = pop_rest p mid new (Generic left) two.0 (ap (λ (z : State). z.store.values) first) i in
-    (two.0, two.1, second ∙ ap (with_values two.0) first)
+-- as a number
+pub performs_number : (bits : ℕ) (go : ℕ → List Value → Act) (number : ℕ) (old mid new : State) → bits ≡ address_bits old.setup → PopsTo number old mid → Performs (go number mid.store.values) mid new → Performs (on_top old.store.values underflow (λ x rest. go (to_u64_of bits x) rest)) old new
+performs_number bits go number old mid new same pops h =
+    let is : to_u64_of bits pops.value ≡ number = ap (λ (b : ℕ). to_u64_of b pops.value) same ∙ sym pops.is in
+    performs_as _ (go number pops.rest) old new
+    (top_some old.store.values underflow (λ x rest. go (to_u64_of bits x) rest) pops.value pops.rest pops.values ∙ ap (λ (n : ℕ). go n pops.rest) is)
+    (performs_low (go number) pops.rest old mid new (fewer_one pops.value pops.rest old.store.values pops.values) pops.alone h)
 
-pub same_two : (left right : ℕ) (old new : State) → PopsGenerics (Some (left, right)) old new → PopsTwo (Generic right) (Generic left) old new
-same_two left right old new h = record { rest = h.0; values = h.1; alone = h.2 }
+-- both on top
+pub performs_two : (go : Value → Value → List Value → Act) (y x : Value) (old mid new : State) → PopsTwo y x old mid → Performs (go y x mid.store.values) mid new → Performs (on_top old.store.values underflow (λ y below. on_top below underflow (go y))) old new
+performs_two go y x old mid new pops h =
+    let n = fewer_two y x pops.rest old.store.values pops.values in
+    performs_as _ (go y x pops.rest) old new
+    (top_some old.store.values underflow (λ y below. on_top below underflow (go y)) y (x ∷ pops.rest) pops.values ∙ top_some (x ∷ pops.rest) underflow (go y) x pops.rest refl)
+    (performs_low (go y x) pops.rest old mid new (omega (arith, n)) pops.alone h)
+
+-- a call's value is pushed
+pub performs_result : (call : Result Value Error) (value : Value) (old new : State) → old.status ≡ Running → call ≡ Ok value → HasTriedChange 0 (λ s. push_value old.setup value (record s { last = Plain })) old new → Performs (on_result call FaultAct (push old.store.values)) old new
+performs_result call value old new runs e h = performs_as _ _ old new (answer_ok call FaultAct (push old.store.values) value e) (performs_more value old new runs h)
+
+-- a call's error is a fault
+pub performs_error : (call : Result Value Error) (error : Error) (old new : State) → call ≡ Err error → new ≡ with_status (FaultStatus error) old → Performs (on_result call FaultAct (push old.store.values)) old new
+performs_error call error old new e is = performs_refuses _ error old old new (answer_err call FaultAct (push old.store.values) error e) (stays_here old) is

@@ -1,7 +1,6 @@
 -- One operation that is counted, read and done before what is left of a text is one turn of the nested run.
-use Rattle.std.proofs.Common.{ℕ, ◌≡◌, ◌-◌, ◌<◌, ◌≤◌, ◌==◌, ◌&&◌, nat_lt, not, Bool, true, false, List, length, arith, ap, ◌∙◌, sym, refl, subst}
+use Rattle.std.proofs.Common.{ℕ, ◌≡◌, ◌<◌, ◌≤◌, ◌&&◌, nat_lt, Bool, true, false, List, length, arith, ap, ◌∙◌, sym, refl, subst}
 use Rattle.std.proofs.lemmas.Bool.Decides.{nat_tests}
-use Rattle.dwarf_base.specs.Reads.{IsSuffix}
 use Rattle.dwarf_meaning.specs.Locations.{Location}
 use Rattle.dwarf_meaning.specs.Stores.{Last, Located}
 use Rattle.dwarf_meaning.specs.Rest.{State, Status, Running}
@@ -31,10 +30,6 @@ ready_on x h =
     let parts = on_parts (is_running x.status) (is_free x.store.last) (nat_lt x.place (length x.text.bytes)) h in
     let inside = parts.2 in
     record { runs = running_on x.status parts.0; inside = grind (arith, nat_tests, inside); free = parts.1 }
-
--- with something left it isn't the end
-pub some_left : (left bytes : List ℕ) → IsSuffix left bytes → nat_lt (length bytes - length left) (length bytes) ≡ not (length left == 0)
-some_left left bytes h = let fewer = h.no_longer in grind (arith, nat_tests, fewer)
 
 -- ---- the turn
 
@@ -72,6 +67,3 @@ runs_more start x new on h turn is =
       less = λ _. omega (arith, fewer, before);
       no_more = omega (arith, fewer, before);
     }
-
-pub runs_out : (start x new : State) (on : Bool) → on ≡ false → StillRuns start x on → new ≡ x → Turns start new
-runs_out start x new on out h e = subst (Turns start) (sym e) (record { comes = h.comes; less = h.less out })

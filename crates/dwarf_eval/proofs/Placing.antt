@@ -79,7 +79,7 @@ module _ (a : Act) (place : ℕ) (old new : State) (still : IsStill a) where
   beyond_by (Start initial_value) h = absurd h
   beyond_by (CompleteStatus value) h = absurd h
 
--- the same before what is left of the text
+-- what takes no branch does the same before what is left of the text
 pub performs_at : (a : Act) (left : List ℕ) (old new : State) → IsStill a → Performs a old new → Performs a (at_rest left old) (at_rest left new)
 performs_at a left old new still h =
     let place = length old.text.bytes - length left in

@@ -82,28 +82,17 @@ module _ (old : State) (totals : Refusal → List Input → Total) where
 pub comes_here : (x : State) → x.status ≡ Running → ComesToState x (total x) x
 comes_here x runs = subst (ComesToStateBy x (total x) x) (sym runs) (reaches_here x runs)
 
-pub runs_on : (status : Status) → is_running status ≡ true → status ≡ Running
-runs_on Running h = refl
-runs_on _ h = cc
-
 -- ---- the beginning
 
 pub begins_none : (x new : State) → IsAtRestBy x (Start None) → new ≡ with_status Running x → ComesToState x (total x) new
 begins_none x new is e =
     let starts : x.status ≡ Start None = ap (λ (z : State). z.status) is in
-    let runs : new.status ≡ Running = ap (λ (z : State). z.status) e in
-    subst (ComesToStateBy x (total x) new) (sym runs) (record {
+    subst (ComesToState x (total x)) (sym e) (record {
       pushes = 0;
-      same = λ r inputs.
-          total_start r x inputs None is
-          ∙ sym (total_running r new inputs runs ∙ ap (λ (z : State). going z (with_refusal r z.store) inputs) e);
-      kept = record { setup = ap (λ (z : State). z.setup) e; settings = ap (λ (z : State). z.store.settings) e };
-      spends =
-          let kept = ap (λ (z : State). kept_in z.store) e in
-          begun_spends x new None starts runs (ap (λ (z : State). length z.callers) e) (ap (λ (z : State). z.store.count) e) (ap (λ (z : State). z.decodings) e) (ap (λ (z : State). z.store.last) e) (omega (arith, kept)) (ap (λ (z : State). z.store.pieces) e);
-      nears =
-          let count : new.store.count ≡ x.store.count = ap (λ (z : State). z.store.count) e in
-          nears_by x new (Start None) Running starts runs (omega (arith, count));
+      same = λ r inputs. total_start r x inputs None is ∙ sym (total_running r (with_status Running x) inputs refl);
+      kept = record { setup = refl; settings = refl };
+      spends = begun_spends x (with_status Running x) None starts refl refl refl refl refl (omega arith) refl;
+      nears = nears_by x (with_status Running x) (Start None) Running starts refl (omega arith);
     })
 
 begins_pushed : (v : ℕ) (x new : State) (done : Bool) → IsAtRestBy x (Start (Some v)) → TriesChange 0 (push_value x.setup (Generic v)) (with_status Running x) new done → ComesToState x (total x) new

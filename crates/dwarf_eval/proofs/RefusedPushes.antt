@@ -5,7 +5,7 @@ use Rattle.dwarf_value.specs.declared.types.Value.{Value}
 use Rattle.dwarf_meaning.specs.Stores.{Setup, Store, push_value, push_values, Plain}
 use Rattle.dwarf_meaning.specs.Rest.{State, with_refusal}
 use Rattle.dwarf_meaning.specs.Refusals.{Limits, Refusal, Never, After, MayPick}
-use Rattle.dwarf_eval.specs.inner.StateChanges.{MayGive, ChangesStoreBy, Stays, TriesChange, with_store, Refused, HasTriedChange, with_last, before_push, before_pushes}
+use Rattle.dwarf_eval.specs.inner.StateChanges.{ChangesStoreBy, Stays, TriesChange, with_store, HasTriedChange, with_last, before_push, before_pushes}
 use Rattle.dwarf_eval.proofs.Staying.{stays_from, stays_more, stays_pushed}
 
 pub before_more : (p q : ℕ) (r : Refusal) → before_pushes (p + q) r ≡ before_pushes p (before_pushes q r)
@@ -83,37 +83,13 @@ does_then n m f g old mid new false h stays i =
       stays = stays i.stays;
     }
 
-pub gets_then : (limits : Limits) (f g : Store → Result Store Fault) (s : Store) (fault : Fault) → MayGive limits f s (Err fault) → MayGive limits (λ z. f z >>= g) s (Err fault)
-gets_then limits f g s fault h = record { refusal = h.refusal; may = h.may; same = ap (λ (z : Result Store Fault). z >>= g) h.same }
-
 pub bind_ok : (r : Result Store Fault) → (r >>= λ s. Ok s) ≡ r
 bind_ok (Ok s) = refl
 bind_ok (Err fault) = refl
 
--- two pushes, one after the other
-bind_two : (f : Store → Result Store Fault) (r : Result Store Fault) → (r >>= λ s. f s >>= λ t. Ok t) ≡ r >>= f
-bind_two f (Ok s) = bind_ok (f s)
-bind_two f (Err fault) = refl
-
-pub push_values-two : (setup : Setup) (first second : Value) (s : Store) → push_values setup (first ∷ second ∷ []) s ≡ push_value setup first s >>= push_value setup second
-push_values-two setup first second s = bind_two (push_value setup second) (push_value setup first s)
-
--- more is allowed
-stays_wide : (n : ℕ) (old new : State) → Stays 0 old new → Stays n old new
-stays_wide n old new h =
-    record { kept = h.kept; text = h.text; callers = h.callers; count = h.count; decodings = h.decodings; pieces = h.pieces; items = omega (arith, h.items) }
-
--- the first is refused, and so are all of them
-pub refused_values : (n : ℕ) (first : Value) (others : List Value) (old new : State) → Refused 0 (push_value old.setup first) old new → Refused n (push_values old.setup (first ∷ others)) old new
-refused_values n first others old new h = record {
-  error = h.error;
-  failed = h.failed;
-  gets = record { refusal = h.gets.refusal; may = h.gets.may; same = ap (λ (z : Result Store Fault). z >>= push_values old.setup others) h.gets.same };
-  stays = stays_wide n old new h.stays;
-}
-
-pub refused_first : (first second : Value) (old new : State) → Refused 0 (push_value old.setup first) old new → Refused 1 (push_values old.setup (first ∷ second ∷ [])) old new
-refused_first first second old new h = refused_values 1 first (second ∷ []) old new h
+-- one push, as one of several
+one_tried : (n : ℕ) (value : Value) (old new : State) (done : Bool) → TriesChange n (push_value old.setup value) old new done → TriesChange n (push_values old.setup (value ∷ [])) old new done
+one_tried n value old new done h = tries_as n n _ _ old old new done (λ r. bind_ok (push_value old.setup value (with_refusal r old.store))) (λ s. refl) refl (λ stays. stays) h
 
 -- the first is pushed, and then the others
 pub values_then : (n : ℕ) (first : Value) (others : List Value) (old mid new : State) (done : Bool)
@@ -126,10 +102,7 @@ values_then n first others old mid new done pushed h =
 pub value_then : (first second : Value) (old mid new : State) (done : Bool)
     → ChangesStoreBy (push_value old.setup first) old mid → TriesChange 0 (push_value mid.setup second) mid new done
     → TriesChange 1 (push_values old.setup (first ∷ second ∷ [])) old new done
-value_then first second old mid new done pushed h =
-    tries_as 1 1 _ _ old old new done (λ r. push_values-two old.setup first second _) (λ s. refl) refl (λ stays. stays)
-    (does_then 0 1 (push_value old.setup first) (λ setup. push_value setup second) old mid new done pushed
-    (stays_more 1 0 old mid new (stays_pushed old.setup first old mid pushed)) h)
+value_then first second old mid new done pushed h = values_then 0 first (second ∷ []) old mid new done pushed (one_tried 0 second mid new done h)
 
 -- what a plain operation tries, once it is noted that it is one
 pub plain_tried : (n : ℕ) (f : Setup → Store → Result Store Fault) (old marked new : State) (done : Bool)

@@ -12,7 +12,7 @@ use Rattle.dwarf_meaning.specs.contracts.kinds.WaitingKind.{the_type}
 use Rattle.dwarf_meaning.specs.declared.kinds.WaitingKind.{WaitingKind}
 use Rattle.dwarf_meaning.specs.Kinds.{kind_of_request, kind_of_answer, is_same_kind}
 use Rattle.dwarf_meaning.specs.Requests.{Request, OnAnswer, Answer, BaseTypeAnswer, Input}
-use Rattle.dwarf_meaning.specs.Acts.{Use, PushesAnswer, Calls, FaultUse, use_of}
+use Rattle.dwarf_meaning.specs.Acts.{Use, PushesAnswer, Calls, FaultUse, on_result, turn_top, use_of}
 use Rattle.dwarf_meaning.specs.RunLaws.{waits_of}
 use Rattle.dwarf_meaning.specs.Stores.{address_bits, Store, Last, Pushed, Called, push_value, push_caller}
 use Rattle.dwarf_meaning.specs.Run.{Position, Course, run_callee, enter_callee, after_push, run}
@@ -23,8 +23,10 @@ use Rattle.dwarf_meaning.proofs.Effects.{IsUseOf, use_is}
 use Rattle.dwarf_meaning.specs.Bounds.{waiting, faults_in}
 use Rattle.dwarf_meaning.specs.Inputs.{input_of, with_status}
 use Rattle.dwarf_eval.specs.inner.StateChanges.{Total, total_after, total_used, ChangesStoreBy, Refused, Stays, Pops, TriesChange, HasTriedChange, Enters, TriesToEnter, ComesToState, ComesToStateBy, TakesAnswer, with_last, with_values, before_pushes}
-use Rattle.dwarf_eval.specs.inner.Answers.{IsWaiting}
-use Rattle.dwarf_eval.proofs.AnswerUses.{IsOpen, IsOpenTo, open_in, turned, turned_none, turned_ok, turned_err}
+use Rattle.dwarf_eval.specs.inner.Answers.{IsWaiting, asking, asking_status}
+use Rattle.dwarf_eval.proofs.Asking.{comes_asking}
+use Rattle.dwarf_eval.proofs.AnswerUses.{IsOpen, IsOpenTo, open_in}
+use Rattle.dwarf_meaning.proofs.Choices.{answer_ok, answer_err, top_none, top_some}
 use Rattle.dwarf_eval.proofs.Computes.{width_old}
 use Rattle.dwarf_eval.proofs.Loads.{AllGiven, kept_in, caller_stored, value_stored}
 use Rattle.dwarf_eval.proofs.Spending.{nears_by, answered_spends}
@@ -136,20 +138,16 @@ module _ (x : State) (waits : IsWaiting x.status) (on_answer : OnAnswer) (answer
 
   pub empty_takes : (callee : Text) (new : State) → used ≡ Calls callee → callee.bytes ≡ [] → new ≡ with_last Called (with_status Running x) → TakesAnswer on_answer answer x new
   empty_takes callee new calls none e =
-      let callers = ap (λ (z : State). length z.callers) e in
-      let kept = ap (λ (z : State). kept_in z.store) e in
-      let last = ap (λ (z : State). waits_of z.store.last) e in
-      let runs : new.status ≡ Running = ap (λ (z : State). z.status) e in
-      let count : new.store.count ≡ x.store.count = ap (λ (z : State). z.store.count) e in
-      subst (ComesToStateBy x totals new) (sym runs) (record {
+      let entered : State = with_last Called (with_status Running x) in
+      subst (TakesAnswer on_answer answer x) (sym e) (record {
         pushes = 0;
         same = λ r inputs.
             answer_rest r inputs (Calls callee) calls
             ∙ (ap (λ (bytes : List ℕ). total_of_course x.store.count x.setup x.callers (run_callee (run x.setup) x.setup position (length x.callers) callee bytes (with_refusal r x.store) inputs)) none
-            ∙ sym (total_running r new inputs runs ∙ ap (λ (z : State). going z (with_refusal r z.store) inputs) e));
-        kept = record { setup = ap (λ (z : State). z.setup) e; settings = ap (λ (z : State). z.store.settings) e };
-        spends = answered_spends x new now.request now.on_answer now.is runs (omega (arith, callers)) (omega (arith, callers, kept)) count (ap (λ (z : State). z.decodings) e) (omega (arith, last)) (ap (λ (z : State). z.store.pieces) e) (λ given. subst (λ (l : Last). AllGiven (waiting l Running)) (ap (λ (z : State). z.store.last) (sym e)) refl);
-        nears = nears_by x new (RequestStatus now.request now.on_answer) Running now.is runs (omega (arith, count));
+            ∙ sym (total_running r entered inputs refl));
+        kept = record { setup = refl; settings = refl };
+        spends = answered_spends x entered now.request now.on_answer now.is refl (omega arith) (omega arith) refl refl (omega arith) refl (λ given. refl);
+        nears = nears_by x entered (RequestStatus now.request now.on_answer) Running now.is refl (omega arith);
       })
 
   module _ (callee : Text) (byte : ℕ) (bytes : List ℕ) (calls : used ≡ Calls callee) (some : callee.bytes ≡ byte ∷ bytes) where
@@ -193,18 +191,30 @@ module _ (x : State) (waits : IsWaiting x.status) (on_answer : OnAnswer) (answer
     pub text_takes : (mid new : State) (done : Bool) → mid ≡ with_status Running x → TriesToEnter callee mid new done → TakesAnswer on_answer answer x new
     text_takes mid new done e h = text_takes_by new done (subst (λ (z : State). TriesToEnter callee z new done) e h)
 
+-- an answer to a request in the place of the open one, if it is of that one's kind
+pub answer_asked : (x : State) (waits : IsWaiting x.status) (on_answer : OnAnswer) (answer : Answer) (request : Request) (new : State) → ((open_now : Request) (wanted : OnAnswer) → x.status ≡ RequestStatus open_now wanted → wanted ≡ on_answer) → kind_of_request request ≡ kind_of_answer answer → TakesAnswer on_answer answer x new
+    → ComesToState (asking request x) (total_after (asking request x) (input_of (asking request x) answer)) new
+answer_asked x waits on_answer answer request new kept fits h =
+    let now = open_in x.status waits in
+    let is = ap (asking_status request) now.is ∙ ap (RequestStatus request) (kept now.request now.on_answer now.is) in
+    answer_comes (asking request x) on_answer answer new (record { request = request; is = is; fits = fits })
+    (comes_asking x now request (total_used x (use_of (address_bits x.setup) on_answer answer x.store.values)) new h)
+
 -- ---- the top becomes a value of a type
 
-module _ (x : State) (waits : IsWaiting x.status) (on_answer : OnAnswer) (t : ValueType) (call : ℕ → ValueType → Value → Result Value Error) (is : use_of (address_bits x.setup) on_answer (BaseTypeAnswer t) x.store.values ≡ turned (address_bits x.setup) x.store.values call t) (mid new : State) where
+module _ (x : State) (waits : IsWaiting x.status) (on_answer : OnAnswer) (t : ValueType) (call : ℕ → ValueType → Value → Result Value Error) (is : use_of (address_bits x.setup) on_answer (BaseTypeAnswer t) x.store.values ≡ turn_top (call (address_bits x.setup) t) x.store.values) (mid new : State) where
+  abbrev made : Value → List Value → Use
+  made y rest = on_result (call (address_bits x.setup) t y) FaultUse (PushesAnswer rest)
+
   pub turns_none : Pops None x mid → new ≡ with_status (FaultStatus NotEnoughStackItems) mid → TakesAnswer on_answer (BaseTypeAnswer t) x new
-  turns_none pops e = denies x waits on_answer (BaseTypeAnswer t) NotEnoughStackItems mid new (is ∙ turned_none (address_bits x.setup) x.store.values call t pops.0) (stays_popped None x mid pops) e
+  turns_none pops e = denies x waits on_answer (BaseTypeAnswer t) NotEnoughStackItems mid new (is ∙ top_none x.store.values (FaultUse NotEnoughStackItems) made pops.0) (stays_popped None x mid pops) e
 
   module _ (top : Value) (width : ℕ) (pops : Pops (Some top) x mid) (same : width ≡ address_bits mid.setup) where
     call_is : (r : Result Value Error) → r ≡ call width t top → call (address_bits x.setup) t top ≡ r
     call_is r e = ap (λ (w : ℕ). call w t top) (sym (width_old width pops.0 x mid pops.2 same)) ∙ sym e
 
     pub turns_ok : (v : Value) → Ok v ≡ call width t top → HasTriedChange 0 (push_value mid.setup v) (with_status Running (with_last Pushed mid)) new → TakesAnswer on_answer (BaseTypeAnswer t) x new
-    turns_ok v e h = value_takes x waits on_answer (BaseTypeAnswer t) pops.0 v (is ∙ turned_ok (address_bits x.setup) x.store.values call t top pops.0 v pops.1 (call_is (Ok v) e)) mid new pops.2 h
+    turns_ok v e h = value_takes x waits on_answer (BaseTypeAnswer t) pops.0 v (is ∙ (top_some x.store.values (FaultUse NotEnoughStackItems) made top pops.0 pops.1 ∙ answer_ok (call (address_bits x.setup) t top) FaultUse (PushesAnswer pops.0) v (call_is (Ok v) e))) mid new pops.2 h
 
     pub turns_err : (error : Error) → Err error ≡ call width t top → new ≡ with_status (FaultStatus error) mid → TakesAnswer on_answer (BaseTypeAnswer t) x new
-    turns_err error e f = denies x waits on_answer (BaseTypeAnswer t) error mid new (is ∙ turned_err (address_bits x.setup) x.store.values call t top pops.0 error pops.1 (call_is (Err error) e)) (stays_popped (Some top) x mid pops) f
+    turns_err error e f = denies x waits on_answer (BaseTypeAnswer t) error mid new (is ∙ (top_some x.store.values (FaultUse NotEnoughStackItems) made top pops.0 pops.1 ∙ answer_err (call (address_bits x.setup) t top) FaultUse (PushesAnswer pops.0) error (call_is (Err error) e))) (stays_popped (Some top) x mid pops) f

@@ -72,24 +72,15 @@ pub spent_initial : (number : ℕ) (a b c : State) → b.status ≡ Start None �
 spent_initial number a b c was is h =
     let i = ap initial_due was in
     let d = ap answer_due was in
-    let positions = ap (λ (z : State). length z.callers) is in
-    let count = ap (λ (z : State). z.store.count) is in
-    let waits : waiting c.store.last c.status ≡ waiting b.store.last b.status = ap (λ (z : State). waiting z.store.last z.status) is ∙ (start_waits b.store.last (Some number) ∙ sym (ap (waiting b.store.last) was ∙ start_waits b.store.last None)) in
+    let met = ap faults_in was in
+    let waits : waiting b.store.last (Start (Some number)) ≡ waiting b.store.last b.status = start_waits b.store.last (Some number) ∙ sym (ap (waiting b.store.last) was ∙ start_waits b.store.last None) in
     let due = ap (λ (w : List Location). length w) waits in
-    let j = ap (λ (z : State). initial_due z.status) is in
-    let e = ap (λ (z : State). answer_due z.status) is in
-    let read = ap (λ (z : State). z.decodings) is in
-    let lists = ap (λ (z : State). length z.store.values + length z.callers + length z.store.pieces) is in
-    record {
-      items = omega (arith, h.items, i, d, lists, count, due, j, e);
-      callers = omega (arith, h.callers, d, e, positions, count);
-      decodings = omega (arith, h.decodings, due, read, count);
-      once = λ was_once.
-          let met = ap faults_in was in
-          let meets = ap (λ (z : State). faults_in z.status) is in
-          let pieces = ap (λ (z : State). z.store.pieces) is in
-          once_alike b c (omega (arith, met, meets)) pieces count read waits (h.once was_once);
-    }
+    subst (Spends 1 a) (sym is) (record {
+      items = omega (arith, h.items, i, d, due);
+      callers = omega (arith, h.callers, d);
+      decodings = omega (arith, h.decodings, due);
+      once = λ was_once. once_alike b (record b { status = Start (Some number) }) (omega (arith, met)) refl refl refl waits (h.once was_once);
+    })
 
 -- the settings
 pub setting_spends : (settings : Settings) (x : State) → Spends 0 x (with_settings settings x)
@@ -116,20 +107,13 @@ once_by old new sound same given d =
     record { each = omega (arith, d.each, same); no_other = omega (arith, d.no_other, same, sound); given = given }
 
 module _ (old new : State) where
-  -- an operation that was counted and read, and what it does with what is kept
-  pub counted_spends : old.status ≡ Running → new.status ≡ Running → length new.callers ≡ length old.callers → new.store.count ≡ old.store.count + 1 → new.decodings ≡ old.decodings + 1 → kept_in new.store ≤ kept_in old.store + 1 → endings new.store.pieces ≡ endings old.store.pieces → AllGiven (waiting new.store.last Running) → Spends 0 old new
-  counted_spends was is callers count decodings kept ended given =
+  -- an operation that was counted and read, to a state where an answer is due or none
+  pub counted_spends : (status : Status) → old.status ≡ Running → new.status ≡ status → waiting new.store.last status ≡ waiting new.store.last Running → initial_due status ≡ 0 → length new.callers ≡ length old.callers → new.store.count ≡ old.store.count + 1 → new.decodings ≡ old.decodings + 1 → answer_due status ≤ 1 → kept_in new.store + answer_due status ≤ kept_in old.store + 1 → endings new.store.pieces ≡ endings old.store.pieces → AllGiven (waiting new.store.last Running) → Spends 0 old new
+  counted_spends status was is waits none callers count decodings one kept ended given =
       let o = running old was in
-      let n = running new is in
+      let n = due_by new status is waits in
       let little = waits_little new.store.last in
-      record { items = omega (arith, o.locations, o.initial, o.answer, n.locations, n.initial, n.answer, callers, count, kept); callers = omega (arith, o.answer, n.answer, callers, count); decodings = omega (arith, o.locations, n.locations, count, decodings, little); once = once_by old new (ap faults_in was) (omega (arith, count, decodings, ended)) (subst AllGiven (sym n.waits) given) }
-
-  pub asked_spends : (request : Request) (on_answer : OnAnswer) → old.status ≡ Running → new.status ≡ RequestStatus request on_answer → length new.callers ≡ length old.callers → new.store.count ≡ old.store.count + 1 → new.decodings ≡ old.decodings + 1 → kept_in new.store ≤ kept_in old.store → endings new.store.pieces ≡ endings old.store.pieces → AllGiven (waiting new.store.last Running) → Spends 0 old new
-  asked_spends request on_answer was is callers count decodings kept ended given =
-      let o = running old was in
-      let n = due_by new (RequestStatus request on_answer) is (request_waits new.store.last request on_answer) in
-      let little = waits_little new.store.last in
-      record { items = omega (arith, o.locations, o.initial, o.answer, n.locations, n.initial, n.answer, callers, count, kept); callers = omega (arith, o.answer, n.answer, callers, count); decodings = omega (arith, o.locations, n.locations, count, decodings, little); once = once_by old new (ap faults_in was) (omega (arith, count, decodings, ended)) (subst AllGiven (sym n.waits) given) }
+      record { items = omega (arith, o.locations, o.initial, o.answer, n.locations, n.initial, n.answer, none, callers, count, kept); callers = omega (arith, o.answer, n.answer, callers, count, one); decodings = omega (arith, o.locations, n.locations, count, decodings, little); once = once_by old new (ap faults_in was) (omega (arith, count, decodings, ended)) (subst AllGiven (sym n.waits) given) }
 
   -- the piece after a location: it isn't counted
   pub held_spends : (location : Location) → old.status ≡ Running → new.status ≡ Running → length new.callers ≡ length old.callers → new.store.count ≡ old.store.count → new.decodings ≡ old.decodings + 1 → old.store.last ≡ Located location → new.store.last ≡ Pieced → kept_in new.store ≡ kept_in old.store → endings new.store.pieces ≡ endings old.store.pieces + cond (is_given location) 1 0 → Spends 0 old new

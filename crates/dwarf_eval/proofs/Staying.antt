@@ -5,7 +5,7 @@ use Rattle.dwarf_meaning.specs.RunLaws.{waits_of}
 use Rattle.dwarf_meaning.specs.Stores.{Setup, Store, Last, push_value}
 use Rattle.dwarf_meaning.specs.Rest.{State, Status}
 use Rattle.dwarf_meaning.specs.Inputs.{Keeps, with_status}
-use Rattle.dwarf_eval.specs.inner.StateChanges.{ChangesStoreBy, Pops, PopsNumber, Stays, with_last, with_values}
+use Rattle.dwarf_eval.specs.inner.StateChanges.{ChangesStoreBy, Pops, Stays, with_last, with_values}
 use Rattle.dwarf_eval.proofs.Loads.{kept_in, value_stored}
 
 pub keeps_here : (x : State) → Keeps x x
@@ -64,10 +64,6 @@ stays_low rest last old new fewer e = stays_from 0 0 rest last old.status old ne
 pub stays_popped : (o : Option Value) (old new : State) → Pops o old new → Stays 0 old new
 stays_popped None old new h = stays_same old new h.1
 stays_popped (Some x) old new h = stays_low h.0 old.store.last old new (fewer_one x h.0 old.store.values h.1) h.2
-
-pub stays_number : (o : Option ℕ) (old new : State) → PopsNumber old new o → Stays 0 old new
-stays_number None old new h = stays_same old new h.1
-stays_number (Some number) old new h = stays_low h.rest old.store.last old new (fewer_one h.value h.rest old.store.values h.values) h.alone
 
 -- a value was pushed
 pub stays_pushed : (setup : Setup) (value : Value) (old new : State) → ChangesStoreBy (push_value setup value) old new → Stays 1 old new

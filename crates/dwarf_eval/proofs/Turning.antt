@@ -21,8 +21,8 @@ use Rattle.dwarf_meaning.proofs.Turns.{run_turn, below_most, waits_little}
 use Rattle.dwarf_meaning.specs.Bounds.{endings, faults_in}
 use Rattle.dwarf_meaning.specs.Inputs.{Keeps, with_status}
 use Rattle.dwarf_eval.specs.inner.StateChanges.{Stays, total, CountsOne, ReadsOperation, act_of, do_act_at, LeadsToPlace, LeadsToRequest, LeadsToFault, LeadsBy, Performs, read_to, with_store, ComesToStateBy, is_free, IsReady, Turns, effort, effort_by, before_pushes}
-use Rattle.dwarf_eval.proofs.Loads.{EndsNoMore, done_ends, free_given, piece_due, IsLighter, kept_in, done_lighter}
-use Rattle.dwarf_eval.proofs.Spending.{nears_by, asked_spends, counted_spends, fallen_spends}
+use Rattle.dwarf_eval.proofs.Loads.{EndsNoMore, done_ends, free_given, piece_due, request_waits, IsLighter, kept_in, done_lighter}
+use Rattle.dwarf_eval.proofs.Spending.{nears_by, counted_spends, fallen_spends}
 use Rattle.dwarf_eval.proofs.Staying.{stays_status}
 use Rattle.dwarf_eval.proofs.Totals.{closed, going, waiting_total, total_running, total_waits, course_failed, course_counted, course_asked}
 
@@ -191,8 +191,8 @@ module _ (x : State) (ready : IsReady x) where
                   ∙ (ap (λ (n : ℕ). total_of_course n x.setup x.callers course) (sym count)
                   ∙ sym (total_running r new inputs runs ∙ ap (λ (y : State). going y (with_refusal r new.store) inputs) goes.alone));
               kept = keeps_by new (ap (λ (z : State). z.setup) goes.alone) tally;
-              spends = counted_spends x new ready.runs runs (ap (λ (z : State). length z.callers) goes.alone) count (ap (λ (z : State). z.decodings) goes.alone)
-                  (next_lighter (before_pushes goes.steps.pushes Never) (Goes new.place (with_refusal Never new.store)) (goes.steps.same Never)) ends.pieces ends.given;
+              spends = counted_spends x new Running ready.runs runs refl refl (ap (λ (z : State). length z.callers) goes.alone) count (ap (λ (z : State). z.decodings) goes.alone) (omega arith)
+                  (let lighter : kept_in new.store ≤ kept_in x.store + 1 = next_lighter (before_pushes goes.steps.pushes Never) (Goes new.place (with_refusal Never new.store)) (goes.steps.same Never) in omega (arith, lighter)) ends.pieces ends.given;
               nears = nears_by x new Running Running ready.runs runs (omega (arith, count));
             });
             less = less_counted x new ready.runs runs can (ap (λ (z : State). z.callers) goes.alone) count;
@@ -212,8 +212,8 @@ module _ (x : State) (ready : IsReady x) where
                   ∙ (ap (λ (n : ℕ). waiting_total (record there { store = record there.store { count = n } }) request on_answer (with_refusal r new.store) inputs) (sym count)
                   ∙ sym (total_waits r new inputs request on_answer open_now ∙ ap (λ (y : State). waiting_total y request on_answer (with_refusal r new.store) inputs) asks.alone)));
               kept = keeps_by new (ap (λ (z : State). z.setup) asks.alone) tally;
-              spends = asked_spends x new request on_answer ready.runs open_now (ap (λ (z : State). length z.callers) asks.alone) count (ap (λ (z : State). z.decodings) asks.alone)
-                  (next_lighter (before_pushes asks.steps.pushes Never) (RequestNext request on_answer (with_refusal Never new.store)) (asks.steps.same Never)) ends.pieces ends.given;
+              spends = counted_spends x new (RequestStatus request on_answer) ready.runs open_now (request_waits new.store.last request on_answer) refl (ap (λ (z : State). length z.callers) asks.alone) count (ap (λ (z : State). z.decodings) asks.alone) (omega arith)
+                  (let lighter : kept_in new.store ≤ kept_in x.store = next_lighter (before_pushes asks.steps.pushes Never) (RequestNext request on_answer (with_refusal Never new.store)) (asks.steps.same Never) in omega (arith, lighter)) ends.pieces ends.given;
               nears =
                   let below = below_most x.store can in
                   nears_by x new Running (RequestStatus request on_answer) ready.runs open_now (omega (arith, count, below));

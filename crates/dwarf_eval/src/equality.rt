@@ -29,7 +29,7 @@ pub fn result_equality_laws<R: Reader + Eq, O: Eq>()
         → IsEqualityOf (ok_reply text number) ⟦<EvaluationResult<R, O> as PartialEq>⟧.eq }
 {}
 
-/// The same of locations and of pieces.
+/// Locations are equal exactly if they are seen as the same, and pieces too. It does nothing; its contract is the law.
 pub fn piece_equality_laws<R: Reader + Eq, O: Eq>()
     ensures location { (text : R → Text) (number : O → ℕ) → IsEqualityOf text R.PartialEq.eq
         → IsEqualityOf number O.PartialEq.eq

@@ -95,7 +95,7 @@ HasTriedChange more f old new = (done : Bool) × TriesChange more f old new done
 abbrev pub PushesPlain : Value → State → State → Type 0
 PushesPlain value old new = HasTriedChange 0 (λ s. push_value old.setup value (record s { last = Plain })) old new
 
--- the same of several values, in order
+-- the values of a plain operation were pushed, in order, or the state keeps the fault
 abbrev pub PushesAllPlain : List Value → State → State → Type 0
 PushesAllPlain values old new =
     HasTriedChange (length values - 1) (λ s. push_values old.setup values (record s { last = Plain })) old new
@@ -143,7 +143,7 @@ Jumps place old new false =
 abbrev pub at_rest : (left : List ℕ) → State → State
 at_rest left x = with_place (length x.text.bytes - length left) x
 
--- the same state at this place, once one more operation was decoded
+-- the state at this place, once one more operation was decoded
 abbrev pub read_to : ℕ → State → State
 read_to place x = record x { place = place; decodings = x.decodings + 1 }
 

@@ -1,14 +1,14 @@
 //! An evaluation and its calls.
 
 ghost use Rattle.std.specs.Prelude.{◌≡◌, ◌<◌, ◌≤◌, [], None, Some, IfOk, map, true, ◌↔◌};
+ghost use Rattle.dwarf_meaning.specs.declared.kinds.WaitingKind.{WaitingKind};
 ghost use Rattle.dwarf_meaning.specs.declared.kinds.WaitingKind.TheVariants as kind;
 ghost use Rattle.dwarf_meaning.specs.Kinds.{kind_of_answer};
 ghost use Rattle.dwarf_meaning.specs.Requests as requests;
 ghost use Rattle.dwarf_meaning.specs.Rest.{Start};
 ghost use Rattle.dwarf_eval.specs.Permits.{Admits, AnswersWith, IsOpenFor, Permits, Shows};
 ghost use Rattle.dwarf_eval.specs.inner.Answers.{answer_of};
-ghost use Rattle.dwarf_meaning.specs.Bounds.{calls_left};
-ghost use Rattle.dwarf_eval.specs.Evaluation.{Evaluates, HasResult, IsClosed, IsComplete, Resumes, fresh_state, with_maximum, with_object, input_of, with_status};
+ghost use Rattle.dwarf_eval.specs.Evaluation.{Evaluates, HasResult, IsClosed, IsComplete, fresh_state, with_maximum, with_object, with_status};
 ghost use Rattle.dwarf_meaning.specs.Stores.{setup_of};
 ghost use Rattle.dwarf_op.specs.Views.{piece_of};
 
@@ -182,15 +182,13 @@ impl<R: Reader + Copy, S: EvaluationStorage<R>> Evaluation<R, S> {
         reply(&mut self.machine, &mut self.waiting)
     }
 
-    /// Goes on with an answer of this kind, which contracts alone need.
+    /// Goes on with an answer.
     #[inline(always)]
-    fn resume(&mut self, _kind: WaitingKind, given: Given<R>) -> Result<EvaluationResult<R>>
-        requires { IsOpenFor (kind_of_answer (answer_of R.text _kind given)) self.old.status }
-        ensures follows { Resumes R.text R.Offset.number
-            (input_of self.old (answer_of R.text _kind given))
-            self.old self.new result self.old.status }
-        ensures admits { IfOk result (λ replied. Admits replied self.new.status) }
-        ensures fewer { IfOk result (λ reply. calls_left self.new < calls_left self.old) }
+    fn resume(&mut self, given: Given<R>) -> Result<EvaluationResult<R>>
+        ghost open_kind: { WaitingKind }
+        requires { IsOpenFor (kind_of_answer (answer_of R.text open_kind given)) self.old.status }
+        ensures { AnswersWith R.text R.Offset.number (answer_of R.text open_kind given)
+            self.old self.new result }
     {
         if self.waiting.kind.is_none() {
             return reply(&mut self.machine, &mut self.waiting);
@@ -211,7 +209,7 @@ impl<R: Reader + Copy, S: EvaluationStorage<R>> Evaluation<R, S> {
         ensures { AnswersWith R.text R.Offset.number
             (requests.ValueAnswer kind.Memory value) self.old self.new result }
     {
-        self.resume(WaitingKind::Memory, Given::Value(value))
+        self.resume(Given::Value(value))
     }
 
     /// Goes on with what a register holds, after `RequiresRegister`.
@@ -226,7 +224,7 @@ impl<R: Reader + Copy, S: EvaluationStorage<R>> Evaluation<R, S> {
         ensures { AnswersWith R.text R.Offset.number
             (requests.ValueAnswer kind.Register value) self.old self.new result }
     {
-        self.resume(WaitingKind::Register, Given::Value(value))
+        self.resume(Given::Value(value))
     }
 
     /// Goes on with a value of WebAssembly, after `RequiresWasmLocal`, `RequiresWasmGlobal` or
@@ -242,7 +240,7 @@ impl<R: Reader + Copy, S: EvaluationStorage<R>> Evaluation<R, S> {
         ensures { AnswersWith R.text R.Offset.number
             (requests.ValueAnswer kind.WasmValue value) self.old self.new result }
     {
-        self.resume(WaitingKind::WasmValue, Given::Value(value))
+        self.resume(Given::Value(value))
     }
 
     /// Goes on with what the expression gave at the function's entry, after `RequiresEntryValue`.
@@ -257,7 +255,7 @@ impl<R: Reader + Copy, S: EvaluationStorage<R>> Evaluation<R, S> {
         ensures { AnswersWith R.text R.Offset.number
             (requests.ValueAnswer kind.EntryValue value) self.old self.new result }
     {
-        self.resume(WaitingKind::EntryValue, Given::Value(value))
+        self.resume(Given::Value(value))
     }
 
     /// Goes on with the frame base, after `RequiresFrameBase`.
@@ -272,7 +270,7 @@ impl<R: Reader + Copy, S: EvaluationStorage<R>> Evaluation<R, S> {
         ensures { AnswersWith R.text R.Offset.number
             (requests.NumberAnswer kind.FrameBase frame_base) self.old self.new result }
     {
-        self.resume(WaitingKind::FrameBase, Given::Number(frame_base))
+        self.resume(Given::Number(frame_base))
     }
 
     /// Goes on with an address in thread-local storage, after `RequiresTls`.
@@ -287,7 +285,7 @@ impl<R: Reader + Copy, S: EvaluationStorage<R>> Evaluation<R, S> {
         ensures { AnswersWith R.text R.Offset.number
             (requests.NumberAnswer kind.Tls value) self.old self.new result }
     {
-        self.resume(WaitingKind::Tls, Given::Number(value))
+        self.resume(Given::Number(value))
     }
 
     /// Goes on with the canonical frame address, after `RequiresCallFrameCfa`.
@@ -302,7 +300,7 @@ impl<R: Reader + Copy, S: EvaluationStorage<R>> Evaluation<R, S> {
         ensures { AnswersWith R.text R.Offset.number
             (requests.NumberAnswer kind.CallFrameCfa cfa) self.old self.new result }
     {
-        self.resume(WaitingKind::CallFrameCfa, Given::Number(cfa))
+        self.resume(Given::Number(cfa))
     }
 
     /// Goes on with the expression that stands there, after `RequiresAtLocation`. It is evaluated in the
@@ -318,7 +316,7 @@ impl<R: Reader + Copy, S: EvaluationStorage<R>> Evaluation<R, S> {
         ensures { AnswersWith R.text R.Offset.number
             (requests.LocationAnswer (R.text bytes)) self.old self.new result }
     {
-        self.resume(WaitingKind::AtLocation, Given::Location(bytes))
+        self.resume(Given::Location(bytes))
     }
 
     /// Goes on with the value of the parameter, after `RequiresParameterRef`.
@@ -333,7 +331,7 @@ impl<R: Reader + Copy, S: EvaluationStorage<R>> Evaluation<R, S> {
         ensures { AnswersWith R.text R.Offset.number
             (requests.NumberAnswer kind.ParameterRef parameter_value) self.old self.new result }
     {
-        self.resume(WaitingKind::ParameterRef, Given::Number(parameter_value))
+        self.resume(Given::Number(parameter_value))
     }
 
     /// Goes on with the relocated address, after `RequiresRelocatedAddress`.
@@ -348,7 +346,7 @@ impl<R: Reader + Copy, S: EvaluationStorage<R>> Evaluation<R, S> {
         ensures { AnswersWith R.text R.Offset.number
             (requests.NumberAnswer kind.RelocatedAddress address) self.old self.new result }
     {
-        self.resume(WaitingKind::RelocatedAddress, Given::Number(address))
+        self.resume(Given::Number(address))
     }
 
     /// Goes on with what stands at the index, after `RequiresIndexedAddress`.
@@ -363,7 +361,7 @@ impl<R: Reader + Copy, S: EvaluationStorage<R>> Evaluation<R, S> {
         ensures { AnswersWith R.text R.Offset.number
             (requests.NumberAnswer kind.IndexedAddress address) self.old self.new result }
     {
-        self.resume(WaitingKind::IndexedAddress, Given::Number(address))
+        self.resume(Given::Number(address))
     }
 
     /// Goes on with the base type, after `RequiresBaseType`.
@@ -380,7 +378,7 @@ impl<R: Reader + Copy, S: EvaluationStorage<R>> Evaluation<R, S> {
         ensures { AnswersWith R.text R.Offset.number
             (requests.BaseTypeAnswer base_type) self.old self.new result }
     {
-        self.resume(WaitingKind::BaseType, Given::BaseType(base_type))
+        self.resume(Given::BaseType(base_type))
     }
 
     /// The value of a complete evaluation, as it stands; `None` if it has pieces or a location instead.

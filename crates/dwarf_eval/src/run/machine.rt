@@ -16,7 +16,7 @@ ghost use Rattle.dwarf_meaning.specs.Inputs.{fresh_state, with_maximum, with_obj
 ghost use Rattle.dwarf_eval.specs.Evaluation.{request_in};
 ghost use Rattle.dwarf_eval.specs.inner.Answers.{AsksFor, IsWaiting, asking};
 ghost use Rattle.dwarf_eval.specs.inner.Machine.{last_of, on_answer_of, replied_status, status_of};
-ghost use Rattle.dwarf_eval.specs.inner.StateChanges.{CountsOne, GoesBack, Jumps, Pops, PopsGeneric, PopsGenerics, ReadsOperation, TriesChange, TriesToEnter, at_rest, is_free, is_running, read_to, with_last};
+ghost use Rattle.dwarf_eval.specs.inner.StateChanges.{Asks, CountsOne, GoesBack, Jumps, Pops, PopsGeneric, PopsGenerics, ReadsOperation, TriesChange, TriesToEnter, at_rest, is_free, is_running, read_to, with_last};
 
 use crate::op::EvaluationResult;
 use crate::run::states::{EvaluationState, LastOperation, OnAnswer};
@@ -290,14 +290,16 @@ impl<R: Reader + Copy, S: EvaluationStorage<R>> Machine<R, S> {
         }
     }
 
-    /// Replies a request, to do this with its answer.
+    /// Asks this, to do that with the answer.
     #[inline(always)]
-    pub(crate) fn request(&mut self, request: EvaluationResult<R>, on_answer: OnAnswer<R>)
-        ensures { self.new
+    pub(crate) fn ask(&mut self, request: EvaluationResult<R>, on_answer: OnAnswer<R>)
+        ensures alone { self.new
             ≡ with_status
             (replied_status (request_in R.text R.Offset.number request)
             (on_answer_of R.text on_answer))
             self.old }
+        ensures asks { Asks (request_in R.text R.Offset.number request) (on_answer_of R.text on_answer)
+            self.old self.new }
     {
         self.state = EvaluationState::Replied(request);
         self.on_answer = on_answer;

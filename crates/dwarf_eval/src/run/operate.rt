@@ -2,17 +2,14 @@ ghost use Rattle.std.specs.Prelude.{◌≡◌, [], ◌∷◌};
 ghost use Rattle.dwarf_base.specs.Reads.{IsRestOf};
 ghost use Rattle.dwarf_meaning.specs.Acts.{Branches, Locates, Pushes, FaultAct, binary, push, unary};
 ghost use Rattle.dwarf_meaning.specs.Operations as meaning;
-ghost use Rattle.dwarf_meaning.specs.Requests as requests;
 ghost use Rattle.dwarf_meaning.specs.Rest.{Running, FaultStatus};
 ghost use Rattle.dwarf_meaning.specs.Stores.{address_bits, push_values};
 ghost use Rattle.dwarf_base.specs.declared.errors.Error.TheVariants.{NotEnoughStackItems, UnsupportedEvaluation};
 ghost use Rattle.dwarf_value.specs.Values.{from_u64_of, to_u64_of, type_of, unary_of, binary_of, Plus};
 ghost use Rattle.dwarf_meaning.specs.Inputs.{with_status};
-ghost use Rattle.dwarf_eval.specs.Evaluation.{request_in};
-ghost use Rattle.dwarf_eval.specs.inner.Machine.{on_answer_of};
 ghost use Rattle.dwarf_op.specs.Views.{location_of};
 ghost use Rattle.dwarf_eval.specs.inner.Machine.{binary_operator_of, operator_of};
-ghost use Rattle.dwarf_eval.specs.inner.StateChanges.{Asks, Performs, PopsNumber, PushesAllPlain, PushesPlain, TriesChange, act_of, at_rest};
+ghost use Rattle.dwarf_eval.specs.inner.StateChanges.{Performs, PopsNumber, PushesAllPlain, PushesPlain, TriesChange, act_of, at_rest};
 
 use crate::op::EvaluationResult;
 use crate::run::binary::{BinaryKind, BinaryOperator};
@@ -116,7 +113,7 @@ impl<R: Reader + Copy, S: EvaluationStorage<R>> Machine<R, S> {
         }
     }
 
-    /// The same, of values of any types.
+    /// Puts the call's value in the place of the two on top, of any types.
     #[inline(never)]
     fn compute_typed(&mut self, kind: BinaryKind)
         requires { self.old.status ≡ Running }
@@ -153,7 +150,7 @@ impl<R: Reader + Copy, S: EvaluationStorage<R>> Machine<R, S> {
         Value::Generic(content).add(addend, self.addr_mask())
     }
 
-    /// The same, of a value of another type.
+    /// A value that isn't generic plus a constant of its type.
     #[inline(never)]
     fn typed_sum(&self, value: Value, constant: u64) -> Result<Value>
         ensures { result
@@ -177,7 +174,7 @@ impl<R: Reader + Copy, S: EvaluationStorage<R>> Machine<R, S> {
             .unwrap_or(0)
     }
 
-    /// The same, of a value of another type.
+    /// The number of an address's bits that a value is, which isn't generic.
     #[inline(never)]
     fn typed_number_of(&self, value: Value) -> u64
         ensures { result ≡ to_u64_of (address_bits self.now.setup) value }
@@ -404,23 +401,6 @@ impl<R: Reader + Copy, S: EvaluationStorage<R>> Machine<R, S> {
         });
     }
 
-    /// Asks for what is pushed as it is, or run.
-    #[inline(always)]
-    pub(crate) fn ask(&mut self, request: EvaluationResult<R>)
-        ensures { Asks (request_in R.text R.Offset.number request) requests.Push self.old self.new }
-    {
-        self.ask_to(OnAnswer::Push, request);
-    }
-
-    /// Asks, to do this with the answer.
-    #[inline(always)]
-    pub(crate) fn ask_to(&mut self, on_answer: OnAnswer<R>, request: EvaluationResult<R>)
-        ensures { Asks (request_in R.text R.Offset.number request) (on_answer_of R.text on_answer)
-            self.old self.new }
-    {
-        self.request(request, on_answer);
-    }
-
     /// Asks for what memory holds at the address on top, in the space below it if one is named.
     #[inline(never)]
     pub(crate) fn dereference(&mut self, base_type: UnitOffset<R::Offset>, size: u8, space: bool)
@@ -437,24 +417,30 @@ impl<R: Reader + Copy, S: EvaluationStorage<R>> Machine<R, S> {
             return;
         };
         if !space {
-            self.ask(EvaluationResult::RequiresMemory {
-                address,
-                size,
-                space: None,
-                base_type,
-            });
+            self.ask(
+                EvaluationResult::RequiresMemory {
+                    address,
+                    size,
+                    space: None,
+                    base_type,
+                },
+                OnAnswer::Push,
+            );
             return;
         }
         let Some(space) = self.pop_number() else {
             self.fall_short();
             return;
         };
-        self.ask(EvaluationResult::RequiresMemory {
-            address,
-            size,
-            space: Some(space),
-            base_type,
-        })
+        self.ask(
+            EvaluationResult::RequiresMemory {
+                address,
+                size,
+                space: Some(space),
+                base_type,
+            },
+            OnAnswer::Push,
+        )
     }
 
     /// Asks for the address of the thread-local slot on top.
@@ -466,6 +452,6 @@ impl<R: Reader + Copy, S: EvaluationStorage<R>> Machine<R, S> {
             self.fall_short();
             return;
         };
-        self.ask(EvaluationResult::RequiresTls(index))
+        self.ask(EvaluationResult::RequiresTls(index), OnAnswer::Push)
     }
 }

@@ -88,21 +88,21 @@ impl<R: Reader + Copy, S: EvaluationStorage<R>> Machine<R, S> {
                 register,
                 offset,
                 base_type,
-            } => self.ask_to(
-                OnAnswer::Add(offset),
+            } => self.ask(
                 RequiresRegister {
                     register,
                     base_type,
                 },
+                OnAnswer::Add(offset),
             ),
             Operation::FrameOffset { offset } => {
-                self.ask_to(OnAnswer::Add(offset), RequiresFrameBase)
+                self.ask(RequiresFrameBase, OnAnswer::Add(offset))
             }
             Operation::Nop => self.pass(),
             Operation::PushObjectAddress => self.push_object_address(),
-            Operation::Call { offset } => self.ask(RequiresAtLocation(offset)),
+            Operation::Call { offset } => self.ask(RequiresAtLocation(offset), OnAnswer::Push),
             Operation::TLS => self.ask_tls(),
-            Operation::CallFrameCFA => self.ask(RequiresCallFrameCfa),
+            Operation::CallFrameCFA => self.ask(RequiresCallFrameCfa, OnAnswer::Push),
             Operation::Piece {
                 size_in_bits,
                 bit_offset,
@@ -113,31 +113,43 @@ impl<R: Reader + Copy, S: EvaluationStorage<R>> Machine<R, S> {
                 self.locate(Location::ImplicitPointer { value, byte_offset })
             }
             Operation::EntryValue { expression } => {
-                self.ask(RequiresEntryValue(Expression(expression)))
+                self.ask(RequiresEntryValue(Expression(expression)), OnAnswer::Push)
             }
-            Operation::ParameterRef { offset } => self.ask(RequiresParameterRef(offset)),
-            Operation::Address { address } => self.ask(RequiresRelocatedAddress(address)),
-            Operation::AddressIndex { index } => self.ask(RequiresIndexedAddress {
-                index,
-                relocate: true,
-            }),
-            Operation::ConstantIndex { index } => self.ask(RequiresIndexedAddress {
-                index,
-                relocate: false,
-            }),
+            Operation::ParameterRef { offset } => {
+                self.ask(RequiresParameterRef(offset), OnAnswer::Push)
+            }
+            Operation::Address { address } => {
+                self.ask(RequiresRelocatedAddress(address), OnAnswer::Push)
+            }
+            Operation::AddressIndex { index } => self.ask(
+                RequiresIndexedAddress {
+                    index,
+                    relocate: true,
+                },
+                OnAnswer::Push,
+            ),
+            Operation::ConstantIndex { index } => self.ask(
+                RequiresIndexedAddress {
+                    index,
+                    relocate: false,
+                },
+                OnAnswer::Push,
+            ),
             Operation::TypedLiteral { base_type, value } => {
-                self.ask_to(OnAnswer::Parse(value), RequiresBaseType(base_type))
+                self.ask(RequiresBaseType(base_type), OnAnswer::Parse(value))
             }
             Operation::Convert { base_type } => {
-                self.ask_to(OnAnswer::Convert, RequiresBaseType(base_type))
+                self.ask(RequiresBaseType(base_type), OnAnswer::Convert)
             }
             Operation::Reinterpret { base_type } => {
-                self.ask_to(OnAnswer::Reinterpret, RequiresBaseType(base_type))
+                self.ask(RequiresBaseType(base_type), OnAnswer::Reinterpret)
             }
             Operation::Uninitialized => self.fail_unsupported(),
-            Operation::WasmLocal { index } => self.ask(RequiresWasmLocal { index }),
-            Operation::WasmGlobal { index } => self.ask(RequiresWasmGlobal { index }),
-            Operation::WasmStack { index } => self.ask(RequiresWasmStack { index }),
+            Operation::WasmLocal { index } => self.ask(RequiresWasmLocal { index }, OnAnswer::Push),
+            Operation::WasmGlobal { index } => {
+                self.ask(RequiresWasmGlobal { index }, OnAnswer::Push)
+            }
+            Operation::WasmStack { index } => self.ask(RequiresWasmStack { index }, OnAnswer::Push),
             Operation::VariableValue { offset: _ } => self.fail_unsupported(),
         }
     }

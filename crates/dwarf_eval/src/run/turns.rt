@@ -77,7 +77,7 @@ impl<R: Reader + Copy, S: EvaluationStorage<R>> Machine<R, S> {
 
     /// Adds the piece of the location that waits for it.
     #[inline(always)]
-    fn push_located(&mut self, size_in_bits: u64, bit_offset: Option<u64>)
+    fn push_piece_of_location(&mut self, size_in_bits: u64, bit_offset: Option<u64>)
         requires { is_free self.old.store.last ≡ false }
         ensures { (location : _) → self.old.store.last ≡ Located location →
             EndsLocated location (meant.Piece size_in_bits bit_offset) self.old self.new }
@@ -90,9 +90,9 @@ impl<R: Reader + Copy, S: EvaluationStorage<R>> Machine<R, S> {
         });
     }
 
-    /// Ends the piece of the location that waits for it, if the operation that was read ends one.
+    /// Ends the location that waits for its piece, if the operation that was read is a piece.
     #[inline(always)]
-    fn end_located(&mut self, operation: Operation<R>)
+    fn end_location(&mut self, operation: Operation<R>)
         requires after { 0 < self.old.place }
         requires waits { is_free self.old.store.last ≡ false }
         ensures { (location : _) → self.old.store.last ≡ Located location →
@@ -107,46 +107,47 @@ impl<R: Reader + Copy, S: EvaluationStorage<R>> Machine<R, S> {
             self.fail(Error::InvalidExpressionTerminator(place - 1));
             return;
         };
-        self.push_located(size_in_bits, bit_offset);
+        self.push_piece_of_location(size_in_bits, bit_offset);
     }
 
-    /// Reads the piece of a location that waits for it.
+    /// Reads the piece of a location that waits for it, in line.
     #[inline(always)]
-    fn read_held(&mut self)
+    fn read_piece_of_location_in_line(&mut self)
         requires runs { self.old.status ≡ Running }
         requires inside { self.old.place < length self.old.text.bytes }
         requires waits { is_free self.old.store.last ≡ false }
         ensures { Turns self.old self.new }
     {
         match self.decode_here() {
-            Ok(operation) => self.end_located(operation),
+            Ok(operation) => self.end_location(operation),
             Err(error) => self.fail(error),
         }
     }
 
-    /// The same, whatever operation comes.
+    /// Reads the piece of a location that waits for it, whatever operation comes.
     #[inline(never)]
-    fn hold_any(&mut self)
+    fn read_any_piece_of_location(&mut self)
         requires runs { self.old.status ≡ Running }
         requires inside { self.old.place < length self.old.text.bytes }
         requires waits { is_free self.old.store.last ≡ false }
         ensures { Turns self.old self.new }
     {
-        self.read_held();
+        self.read_piece_of_location_in_line();
     }
 
-    /// The same, with a way of its own for a short piece: it takes no call, so no register is saved.
+    /// Reads the piece of a location that waits for it. A short one has a way of its own: it takes no call, so no
+    /// register is saved.
     #[inline(never)]
-    fn hold(&mut self)
+    fn read_piece_of_location(&mut self)
         requires runs { self.old.status ≡ Running }
         requires inside { self.old.place < length self.old.text.bytes }
         requires waits { is_free self.old.store.last ≡ false }
         ensures { Turns self.old self.new }
     {
         if self.is_at_short_piece() {
-            self.read_held();
+            self.read_piece_of_location_in_line();
         } else {
-            self.hold_any();
+            self.read_any_piece_of_location();
         }
     }
 
@@ -243,7 +244,7 @@ impl<R: Reader + Copy, S: EvaluationStorage<R>> Machine<R, S> {
             self.run_operations();
             return;
         }
-        self.hold();
+        self.read_piece_of_location();
     }
 
     /// Runs on to a request, to the end, or to a fault, which it keeps.

@@ -1,9 +1,8 @@
-use Rattle.std.proofs.Common.{ap, subst, sym, ◌∙◌}
-use Rattle.std.specs.Prelude.{is_some}
+use Rattle.std.proofs.Common.{ap, sym, ◌∙◌}
 use Rattle.dwarf_eval.specs.Evaluation.{request_in}
-use Rattle.dwarf_eval.specs.inner.Answers.{IsWaiting, open_kind}
+use Rattle.dwarf_eval.specs.inner.Answers.{open_kind}
 use Rattle.dwarf_eval.specs.inner.Machine.{status_of}
-use Rattle.dwarf_eval.proofs.Asking.{admits_by, ended_waits, kind_in, kinds_alike, replied_as, waits_if}
+use Rattle.dwarf_eval.proofs.Asking.{admits_by, ended_waits, kind_in, kinds_alike, replied_as, waits_kept}
 use Rattle.dwarf_eval.proofs.eval.requests.reply.Goals as goal
 
 pub returns-then-is_some-clause-kind : goal.returns-then-is_some-clause-kind
@@ -15,27 +14,13 @@ returns-then-is_some-clause-kind g c =
 
 pub returns-then-is_some-clause-reply : goal.returns-then-is_some-clause-reply
 returns-then-is_some-clause-reply g c =
-    let text = g.R.Reader.text in
-    let number = g.R.Offset.ReaderOffset.number in
-    let is = sym c.state.ensures.1 ∙ ap (λ s. status_of text number s c.state.ensures.0) c.in-Replied.is in
-    let some = ap is_some (sym c.kind_of-waiting.ensures) ∙ (sym c.is_some.ensures ∙ c.if-is_some.true) in
-    let waits = subst IsWaiting (sym is) (waits_if (request_in text number c.in-Replied.replied) c.state.ensures.0 some) in
-    replied_as (request_in text number c.hand_out.result) c.args.machine.now.status waits c.hand_out.ensures.request
+    replied_as _ c.args.machine.now.status (waits_kept _ _ _ _ _ _ _ c.state.ensures.1 c.in-Replied.is c.kind_of-waiting.ensures (sym c.is_some.ensures ∙ c.if-is_some.true)) c.hand_out.ensures.request
 
 pub returns-then-is_some-clause-ends : goal.returns-then-is_some-clause-ends
 returns-then-is_some-clause-ends g c =
-    let text = g.R.Reader.text in
-    let number = g.R.Offset.ReaderOffset.number in
-    let is = sym c.state.ensures.1 ∙ ap (λ s. status_of text number s c.state.ensures.0) c.in-Replied.is in
-    let some = ap is_some (sym c.kind_of-waiting.ensures) ∙ (sym c.is_some.ensures ∙ c.if-is_some.true) in
-    let waits = subst IsWaiting (sym is) (waits_if (request_in text number c.in-Replied.replied) c.state.ensures.0 some) in
-    ended_waits _ c.args.machine.now.status waits
+    ended_waits _ c.args.machine.now.status (waits_kept _ _ _ _ _ _ _ c.state.ensures.1 c.in-Replied.is c.kind_of-waiting.ensures (sym c.is_some.ensures ∙ c.if-is_some.true))
 
 pub returns-then-is_some-clause-admits : goal.returns-then-is_some-clause-admits
 returns-then-is_some-clause-admits g c =
-    let text = g.R.Reader.text in
-    let number = g.R.Offset.ReaderOffset.number in
-    let is = sym c.state.ensures.1 ∙ ap (λ s. status_of text number s c.state.ensures.0) c.in-Replied.is in
-    let some = ap is_some (sym c.kind_of-waiting.ensures) ∙ (sym c.is_some.ensures ∙ c.if-is_some.true) in
-    let waits = subst IsWaiting (sym is) (waits_if (request_in text number c.in-Replied.replied) c.state.ensures.0 some) in
-    admits_by (request_in text number c.hand_out.result) _ c.args.machine.now.status (kinds_alike text _ number _ c.hand_out.result) c.hand_out.ensures.request waits
+    admits_by _ _ c.args.machine.now.status (kinds_alike g.R.Reader.text _ g.R.Offset.ReaderOffset.number _ c.hand_out.result) c.hand_out.ensures.request
+    (waits_kept _ _ _ _ _ _ _ c.state.ensures.1 c.in-Replied.is c.kind_of-waiting.ensures (sym c.is_some.ensures ∙ c.if-is_some.true))

@@ -6,7 +6,6 @@ use Rattle.dwarf_eval.specs.contracts.run.asked.Asked as asked
 use Rattle.dwarf_eval.specs.contracts.run.asked.Asked.new as f
 use Rattle.dwarf_eval.proofs.run.asked.Asked.new.Statement.{statement}
 use Rattle.dwarf_eval.proofs.run.asked.Asked.new.Code as code
-use Rattle.dwarf_eval.specs.contracts.run.asked.Asked.{the_row as R}
 
 abbrev stayed : Stays f.ended.signature.params f.ended.kept
 stayed = tt

@@ -1,40 +1,48 @@
-use Rattle.std.proofs.Common.{◌≡◌, ◌==◌, [], ap, true, false, arith, w16, None, ℤ, subst}
-use Rattle.std.proofs.lemmas.Int.{to_z-of_z}
+use Rattle.std.proofs.Common.{ℕ, ℤ, ◌≡◌, ◌==◌, List, [], None, ap, true, false, arith, cond, w16, refl, subst}
+use Rattle.std.proofs.lemmas.Bool.{cond-true, cond-false}
 use Rattle.std.proofs.lemmas.Bool.Decides.{nat_tests}
-use Rattle.dwarf_base.specs.declared.errors.Error.TheVariants.{NotEnoughStackItems}
-use Rattle.dwarf_value.specs.Values.{to_u64_of}
-use Rattle.dwarf_meaning.specs.Acts.{Pushes, Branches}
+use Rattle.std.proofs.lemmas.Int.{to_z-of_z}
+use Rattle.dwarf_value.specs.declared.types.Value.{Value}
+use Rattle.dwarf_meaning.specs.Acts.{Act, Pushes, Branches, act}
 use Rattle.dwarf_meaning.specs.Rest.{State}
-use Rattle.dwarf_meaning.specs.Stores.{address_bits}
-use Rattle.dwarf_eval.specs.inner.StateChanges.{Performs, PopsNumber, at_rest}
-use Rattle.dwarf_eval.proofs.ActCases.{none_bra, zero_bra, some_bra}
+use Rattle.dwarf_eval.specs.inner.StateChanges.{Performs, Pops, PopsTo, at_rest}
 use Rattle.dwarf_eval.proofs.Placing.{performs_at}
-use Rattle.dwarf_eval.proofs.Performances.{performs_as, performs_low, performs_refuses}
-use Rattle.dwarf_eval.proofs.Staying.{fewer_one, stays_number}
+use Rattle.dwarf_eval.proofs.Performances.{falls_short, performs_as, performs_number}
 use Rattle.dwarf_eval.proofs.run.machine.Machine.branch_if.Goals as goal
 
+-- by the number on top
+abbrev branch_by : ℤ → ℕ → List Value → Act
+branch_by target number rest = cond (number == 0) (Pushes rest []) (Branches rest target)
+
+-- a number that was popped, before what is left of the text
+popped_there : (left : List ℕ) (number : ℕ) (old mid : State) → PopsTo number old mid → PopsTo number (at_rest left old) (at_rest left mid)
+popped_there left number old mid h = record { value = h.value; rest = h.rest; values = h.values; alone = ap (at_rest left) h.alone; is = h.is }
+
 pub returns-in_default-clause-performs : goal.returns-in_default-clause-performs
+unfolding act
 returns-in_default-clause-performs g c =
     let left = (g.R.Reader.text c.args.rest.now).bytes in
-    let none : PopsNumber (at_rest left c.args.self.now) (at_rest left c.pop_number.new.self) None = (c.in_default.ensures.0, ap (at_rest left) c.in_default.ensures.1) in
-    performs_refuses _ NotEnoughStackItems (at_rest left c.args.self.now) (at_rest left c.pop_number.new.self) (at_rest left c.fall_short.new.self) (none_bra _ _ c.args.self.now.store.values c.args.target c.in_default.ensures.0) (stays_number None (at_rest left c.args.self.now) (at_rest left c.pop_number.new.self) none) (ap (at_rest left) c.fall_short.ensures)
+    let none : Pops None (at_rest left c.args.self.now) (at_rest left c.pop_number.new.self) = (c.in_default.ensures.0, ap (at_rest left) c.in_default.ensures.1) in
+    falls_short _ (at_rest left c.args.self.now) (at_rest left c.pop_number.new.self) (at_rest left c.fall_short.new.self) none (ap (at_rest left) c.fall_short.ensures)
 
 pub returns-then-number-eq0-clause-performs : goal.returns-then-number-eq0-clause-performs
+unfolding act
 returns-then-number-eq0-clause-performs g c =
     let left = (g.R.Reader.text c.args.rest.now).bytes in
-    let popped = c.in-Some.ensures in
-    let zero : (to_u64_of (address_bits c.args.self.now.setup) popped.value == 0) ≡ true = grind (arith, nat_tests, popped.is, c.if-number-eq0.true) in
-    performs_as _ _ (at_rest left c.args.self.now) (at_rest left c.pass.new.self) (zero_bra _ _ c.args.self.now.store.values c.args.target popped.value popped.rest popped.values zero)
-    (performs_low (λ rest. Pushes rest []) popped.rest (at_rest left c.args.self.now) (at_rest left c.pop_number.new.self) (at_rest left c.pass.new.self) (fewer_one popped.value popped.rest c.args.self.now.store.values popped.values) (ap (at_rest left) popped.alone)
-    (performs_at (Pushes c.pop_number.new.self.store.values []) left c.pop_number.new.self c.pass.new.self tt c.pass.ensures))
+    let low : State = c.pop_number.new.self in
+    let new : State = at_rest left c.pass.new.self in
+    let zero : (c.in-Some.number == 0) ≡ true = grind (arith, nat_tests, c.if-number-eq0.true) in
+    performs_number _ (branch_by c.args.target) c.in-Some.number (at_rest left c.args.self.now) (at_rest left low) new refl (popped_there left c.in-Some.number c.args.self.now low c.in-Some.ensures)
+    (performs_as _ (Pushes low.store.values []) (at_rest left low) new (cond-true (c.in-Some.number == 0) (Pushes low.store.values []) (Branches low.store.values c.args.target) zero)
+    (performs_at (Pushes low.store.values []) left low c.pass.new.self tt c.pass.ensures))
 
 pub returns-clause-performs : goal.returns-clause-performs
+unfolding act
 returns-clause-performs g c =
     let left = (g.R.Reader.text c.args.rest.now).bytes in
-    let popped = c.in-Some.ensures in
-    let some : (to_u64_of (address_bits c.args.self.now.setup) popped.value == 0) ≡ false = grind (arith, nat_tests, popped.is, c.if-number-eq0.false) in
-    let low : State = at_rest left c.pop_number.new.self in
-    let then : State = at_rest (g.R.Reader.text c.take_branch.new.rest).bytes c.take_branch.new.self in
-    let taken = subst (λ (t : ℤ). Performs (Branches low.store.values t) low then) (to_z-of_z w16 c.args.target c.ranges.target) c.take_branch.ensures.performs in
-    performs_as _ _ (at_rest left c.args.self.now) then (some_bra _ _ c.args.self.now.store.values c.args.target popped.value popped.rest popped.values some)
-    (performs_low (λ rest. Branches rest c.args.target) popped.rest (at_rest left c.args.self.now) low then (fewer_one popped.value popped.rest c.args.self.now.store.values popped.values) (ap (at_rest left) popped.alone) taken)
+    let low : State = c.pop_number.new.self in
+    let new : State = at_rest (g.R.Reader.text c.take_branch.new.rest).bytes c.take_branch.new.self in
+    let some : (c.in-Some.number == 0) ≡ false = grind (arith, nat_tests, c.if-number-eq0.false) in
+    let taken = subst (λ (t : ℤ). Performs (Branches low.store.values t) (at_rest left low) new) (to_z-of_z w16 c.args.target c.ranges.target) c.take_branch.ensures.performs in
+    performs_number _ (branch_by c.args.target) c.in-Some.number (at_rest left c.args.self.now) (at_rest left low) new refl (popped_there left c.in-Some.number c.args.self.now low c.in-Some.ensures)
+    (performs_as _ (Branches low.store.values c.args.target) (at_rest left low) new (cond-false (c.in-Some.number == 0) (Pushes low.store.values []) (Branches low.store.values c.args.target) some) taken)

@@ -1,22 +1,17 @@
-use Rattle.std.proofs.Common.{None, Some, ◌∙◌, sym}
-use Rattle.dwarf_base.specs.declared.errors.Error.TheVariants.{NotEnoughStackItems}
+use Rattle.std.proofs.Common.{◌∙◌, sym}
 use Rattle.dwarf_value.specs.Values.{binary_of}
 use Rattle.dwarf_eval.specs.inner.Machine.{binary_operator_of}
-use Rattle.dwarf_eval.proofs.Performances.{performs_refuses, pops_one, pops_two}
-use Rattle.dwarf_eval.proofs.Computes.{binary_none, binary_one, binary_pushes, binary_refuses}
-use Rattle.dwarf_eval.proofs.Staying.{stays_more, stays_popped}
+use Rattle.dwarf_eval.proofs.Performances.{falls_short, performs_popped, pops_two}
+use Rattle.dwarf_eval.proofs.Computes.{binary_pushes, binary_refuses}
 use Rattle.dwarf_eval.proofs.run.machine.Machine.compute_typed.Goals as goal
 
 pub returns-in_default : goal.returns-in_default
-returns-in_default g c =
-    performs_refuses _ NotEnoughStackItems c.args.self.now c.pop.new.self c.fall_short.new.self (binary_none _ c.args.self.now.store.values c.in_default.ensures.0) (stays_popped None c.args.self.now c.pop.new.self c.in_default.ensures) c.fall_short.ensures
+returns-in_default g c = falls_short _ c.args.self.now c.pop.new.self c.fall_short.new.self c.in_default.ensures c.fall_short.ensures
 
 pub returns-in_default-pop : goal.returns-in_default-pop
 returns-in_default-pop g c =
-    performs_refuses _ NotEnoughStackItems c.args.self.now c.pop-2.new.self c.fall_short-in_default-pop.new.self
-    (binary_one _ c.args.self.now.store.values c.in-Some.right (pops_one c.in-Some.right c.args.self.now c.pop.new.self c.pop-2.new.self c.in-Some.ensures c.in_default-pop.ensures))
-    (stays_more 0 0 c.args.self.now c.pop.new.self c.pop-2.new.self (stays_popped (Some c.in-Some.right) c.args.self.now c.pop.new.self c.in-Some.ensures) (stays_popped None c.pop.new.self c.pop-2.new.self c.in_default-pop.ensures))
-    c.fall_short-in_default-pop.ensures
+    performs_popped _ c.in-Some.right c.args.self.now c.pop.new.self c.fall_short-in_default-pop.new.self c.in-Some.ensures
+    (falls_short _ c.pop.new.self c.pop-2.new.self c.fall_short-in_default-pop.new.self c.in_default-pop.ensures c.fall_short-in_default-pop.ensures)
 
 pub returns-in-Ok : goal.returns-in-Ok
 returns-in-Ok g c =

@@ -1,15 +1,11 @@
-use Rattle.std.proofs.Common.{None}
-use Rattle.dwarf_base.specs.declared.errors.Error.TheVariants.{NotEnoughStackItems}
 use Rattle.dwarf_value.specs.Values.{width_of, unary_of}
 use Rattle.dwarf_eval.specs.inner.Machine.{operator_of}
-use Rattle.dwarf_eval.proofs.Performances.{performs_refuses}
-use Rattle.dwarf_eval.proofs.Computes.{unary_none, unary_pushes, unary_refuses}
-use Rattle.dwarf_eval.proofs.Staying.{stays_popped}
+use Rattle.dwarf_eval.proofs.Performances.{falls_short}
+use Rattle.dwarf_eval.proofs.Computes.{unary_pushes, unary_refuses}
 use Rattle.dwarf_eval.proofs.run.machine.Machine.compute_unary.Goals as goal
 
 pub returns-in_default : goal.returns-in_default
-returns-in_default g c =
-    performs_refuses _ NotEnoughStackItems c.args.self.now c.pop.new.self c.fall_short.new.self (unary_none _ c.args.self.now.store.values c.in_default.ensures.0) (stays_popped None c.args.self.now c.pop.new.self c.in_default.ensures) c.fall_short.ensures
+returns-in_default g c = falls_short _ c.args.self.now c.pop.new.self c.fall_short.new.self c.in_default.ensures c.fall_short.ensures
 
 pub returns-in-Ok : goal.returns-in-Ok
 returns-in-Ok g c =

@@ -1,16 +1,23 @@
 use Rattle.std.proofs.Common.{sym}
 use Rattle.dwarf_base.specs.declared.errors.Error.TheVariants.{InvalidPushObjectAddress}
 use Rattle.dwarf_value.specs.declared.types.Value.TheVariants.{Generic}
-use Rattle.dwarf_eval.proofs.ActCases.{pushes_object}
+use Rattle.dwarf_meaning.specs.Acts.{FaultAct, act, push}
+use Rattle.dwarf_meaning.proofs.Choices.{some_none, some_some}
 use Rattle.dwarf_eval.proofs.Performances.{performs_as, performs_more, performs_refuses}
 use Rattle.dwarf_eval.proofs.Staying.{stays_here}
 use Rattle.dwarf_eval.proofs.run.machine.Machine.push_object_address.Goals as goal
 
 pub returns-in_default : goal.returns-in_default
+unfolding act
 returns-in_default g c =
-    performs_refuses _ InvalidPushObjectAddress c.args.self.now c.args.self.now c.fail.new.self ((pushes_object _ _ c.args.self.now.store.values).0 (sym c.in_default.ensures)) (stays_here c.args.self.now) c.fail.ensures
+    let x = c.args.self.now in
+    performs_refuses _ InvalidPushObjectAddress x x c.fail.new.self
+    (some_none x.store.settings.object_address (FaultAct InvalidPushObjectAddress) _ (sym c.in_default.ensures)) (stays_here x) c.fail.ensures
 
 pub returns : goal.returns
+unfolding act
 returns g c =
-    performs_as _ _ c.args.self.now c.push_plain.new.self ((pushes_object _ _ c.args.self.now.store.values).1 c.in-Some.address (sym c.in-Some.ensures))
-    (performs_more (Generic c.in-Some.address) c.args.self.now c.push_plain.new.self c.requires c.push_plain.ensures)
+    let x = c.args.self.now in
+    performs_as _ _ x c.push_plain.new.self
+    (some_some x.store.settings.object_address (FaultAct InvalidPushObjectAddress) (λ address. push x.store.values (Generic address)) c.in-Some.address (sym c.in-Some.ensures))
+    (performs_more (Generic c.in-Some.address) x c.push_plain.new.self c.requires c.push_plain.ensures)

@@ -1,41 +1,28 @@
-use Rattle.std.proofs.Common.{ap, sym, ◌∙◌}
+use Rattle.std.proofs.Common.{sym, ◌∙◌}
 use Rattle.dwarf_meaning.specs.declared.kinds.WaitingKind.TheVariants as kind
 use Rattle.dwarf_meaning.specs.Acts.{use_of}
 use Rattle.dwarf_meaning.specs.Inputs.{input_of}
-use Rattle.dwarf_meaning.specs.Rest.{RequestStatus}
+use Rattle.dwarf_meaning.specs.Rest.{State}
 use Rattle.dwarf_meaning.specs.Stores.{address_bits}
-use Rattle.dwarf_eval.specs.inner.Answers.{answer_of, asking, asking_status}
+use Rattle.dwarf_eval.specs.inner.Answers.{answer_of, asking}
 use Rattle.dwarf_eval.specs.inner.Machine.{on_answer_of}
 use Rattle.dwarf_eval.specs.inner.StateChanges.{total_after, total_used}
-use Rattle.dwarf_eval.proofs.AnswerUses.{open_in}
-use Rattle.dwarf_eval.proofs.Asking.{comes_asking}
 use Rattle.dwarf_eval.proofs.Reaching.{comes_more, comes_over}
-use Rattle.dwarf_eval.proofs.Resuming.{answer_comes}
+use Rattle.dwarf_eval.proofs.Resuming.{answer_asked}
 use Rattle.dwarf_eval.proofs.run.machine.Machine.resume.Goals as goal
 
 pub returns-then-is_running-clause-comes : goal.returns-then-is_running-clause-comes
 returns-then-is_running-clause-comes g c = λ kind request fits.
-    let x = c.args.self.now in
-    let asked = asking request x in
-    let answer = answer_of g.R.Reader.text kind c.args.given in
-    let on_answer = on_answer_of g.R.Reader.text c.on_answer.result in
-    let now = open_in x.status c.requires in
-    let is = ap (asking_status request) now.is ∙ ap (RequestStatus request) (c.on_answer.ensures now.request now.on_answer now.is) in
-    let used = use_of (address_bits x.setup) on_answer answer x.store.values in
-    let took = comes_asking x now request (total_used x used) c.take.new.self (c.take.ensures kind) in
-    comes_more asked (total_after asked (input_of asked answer)) c.take.new.self c.run_on.new.self (sym c.is_running.ensures ∙ c.if-is_running.true) (answer_comes asked on_answer answer c.take.new.self (record { request = request; is = is; fits = fits }) took) c.run_on.ensures.comes
+    let text = g.R.Reader.text in
+    let asked : State = asking request c.args.self.now in
+    let answer = answer_of text kind c.args.given in
+    comes_more asked (total_after asked (input_of asked answer)) c.take.new.self c.run_on.new.self (sym c.is_running.ensures ∙ c.if-is_running.true)
+    (answer_asked c.args.self.now c.requires (on_answer_of text c.on_answer.result) answer request c.take.new.self c.on_answer.ensures fits (c.take.ensures kind)) c.run_on.ensures.comes
 
 pub returns-else-is_running-clause-comes : goal.returns-else-is_running-clause-comes
 returns-else-is_running-clause-comes g c = λ kind request fits.
-    let x = c.args.self.now in
-    let asked = asking request x in
-    let answer = answer_of g.R.Reader.text kind c.args.given in
-    let on_answer = on_answer_of g.R.Reader.text c.on_answer.result in
-    let now = open_in x.status c.requires in
-    let is = ap (asking_status request) now.is ∙ ap (RequestStatus request) (c.on_answer.ensures now.request now.on_answer now.is) in
-    let used = use_of (address_bits x.setup) on_answer answer x.store.values in
-    let took = comes_asking x now request (total_used x used) c.take.new.self (c.take.ensures kind) in
-    answer_comes asked on_answer answer c.take.new.self (record { request = request; is = is; fits = fits }) took
+    let text = g.R.Reader.text in
+    answer_asked c.args.self.now c.requires (on_answer_of text c.on_answer.result) (answer_of text kind c.args.given) request c.take.new.self c.on_answer.ensures fits (c.take.ensures kind)
 
 -- an answer of any kind is used alike
 pub returns-else-is_running-clause-replies : goal.returns-else-is_running-clause-replies

@@ -1,24 +1,34 @@
-use Rattle.std.proofs.Common.{[], ◌∷◌, None, Some}
-use Rattle.dwarf_base.specs.declared.errors.Error.TheVariants.{NotEnoughStackItems}
-use Rattle.dwarf_eval.proofs.ActCases.{swaps}
-use Rattle.dwarf_eval.proofs.Performances.{performs_as, performs_pushes, performs_refuses, fewer_two, pops_one, pops_two}
-use Rattle.dwarf_eval.proofs.Staying.{stays_more, stays_popped}
+use Rattle.std.proofs.Common.{ℕ, ◌≡◌, List, [], ◌∷◌, Option, ap, refl}
+use Rattle.dwarf_value.specs.declared.types.Value.{Value}
+use Rattle.dwarf_meaning.specs.Acts.{Pushes, act, on_top, underflow}
+use Rattle.dwarf_meaning.specs.Operations as operation
+use Rattle.dwarf_meaning.specs.Stores.{address_bits}
+use Rattle.dwarf_eval.proofs.Performances.{falls_short, fewer_two, performs_as, performs_popped, performs_pushes, pops_two}
 use Rattle.dwarf_eval.proofs.run.machine.Machine.swap.Goals as goal
+
+swap_is : (bits : ℕ) (object : Option ℕ) (values : List Value) → act bits object operation.Swap values ≡ on_top values underflow (λ y below. on_top below underflow (λ x rest. Pushes rest (y ∷ x ∷ [])))
+unfolding act on_top
+swap_is bits object [] = refl
+swap_is bits object (y ∷ []) = refl
+swap_is bits object (y ∷ x ∷ rest) = refl
 
 pub returns-in_default : goal.returns-in_default
 returns-in_default g c =
-    performs_refuses _ NotEnoughStackItems c.args.self.now c.pop.new.self c.fall_short.new.self ((swaps _ _ c.args.self.now.store.values).0 c.in_default.ensures.0) (stays_popped None c.args.self.now c.pop.new.self c.in_default.ensures) c.fall_short.ensures
+    performs_as _ _ c.args.self.now c.fall_short.new.self (swap_is _ _ c.args.self.now.store.values)
+    (falls_short _ c.args.self.now c.pop.new.self c.fall_short.new.self c.in_default.ensures c.fall_short.ensures)
 
 pub returns-in_default-pop : goal.returns-in_default-pop
 returns-in_default-pop g c =
-    performs_refuses _ NotEnoughStackItems c.args.self.now c.pop-2.new.self c.fall_short-in_default-pop.new.self
-    ((swaps _ _ c.args.self.now.store.values).1 c.in-Some.top (pops_one c.in-Some.top c.args.self.now c.pop.new.self c.pop-2.new.self c.in-Some.ensures c.in_default-pop.ensures))
-    (stays_more 0 0 c.args.self.now c.pop.new.self c.pop-2.new.self (stays_popped (Some c.in-Some.top) c.args.self.now c.pop.new.self c.in-Some.ensures) (stays_popped None c.pop.new.self c.pop-2.new.self c.in_default-pop.ensures))
-    c.fall_short-in_default-pop.ensures
+    let new = c.fall_short-in_default-pop.new.self in
+    performs_as _ _ c.args.self.now new (swap_is _ _ c.args.self.now.store.values)
+    (performs_popped _ c.in-Some.top c.args.self.now c.pop.new.self new c.in-Some.ensures
+    (falls_short _ c.pop.new.self c.pop-2.new.self new c.in_default-pop.ensures c.fall_short-in_default-pop.ensures))
 
 pub returns : goal.returns
+unfolding act
 returns g c =
-    let two = pops_two c.in-Some.top c.in-Some-pop.next c.args.self.now c.pop.new.self c.pop-2.new.self c.in-Some.ensures c.in-Some-pop.ensures in
-    performs_as _ _ c.args.self.now c.push_both.new.self ((swaps _ _ c.args.self.now.store.values).2 c.in-Some.top c.in-Some-pop.next two.rest two.values)
-    (performs_pushes 1 two.rest (c.in-Some.top ∷ c.in-Some-pop.next ∷ []) c.args.self.now c.pop-2.new.self c.push_both.new.self c.requires
-    (fewer_two c.in-Some.top c.in-Some-pop.next two.rest c.args.self.now.store.values two.values) two.alone c.push_both.ensures)
+    let x = c.args.self.now in
+    let two = pops_two c.in-Some.top c.in-Some-pop.next x c.pop.new.self c.pop-2.new.self c.in-Some.ensures c.in-Some-pop.ensures in
+    performs_as _ _ x c.push_both.new.self (ap (act (address_bits x.setup) x.store.settings.object_address operation.Swap) two.values)
+    (performs_pushes 1 two.rest (c.in-Some.top ∷ c.in-Some-pop.next ∷ []) x c.pop-2.new.self c.push_both.new.self c.requires
+    (fewer_two c.in-Some.top c.in-Some-pop.next two.rest x.store.values two.values) two.alone c.push_both.ensures)

@@ -6,7 +6,6 @@ use Rattle.dwarf_eval.specs.contracts.run.ticks.Ticks as ticks
 use Rattle.dwarf_eval.specs.contracts.run.ticks.Ticks.new as f
 use Rattle.dwarf_eval.proofs.run.ticks.Ticks.new.Statement.{statement}
 use Rattle.dwarf_eval.proofs.run.ticks.Ticks.new.Code as code
-use Rattle.dwarf_eval.specs.contracts.run.ticks.Ticks.{the_row as R}
 
 abbrev stayed : Stays f.ended.signature.params f.ended.kept
 stayed = tt

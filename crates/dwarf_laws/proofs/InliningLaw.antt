@@ -322,7 +322,7 @@ module _ (encoding : Encoding) (bits : ℕ) where
                     (same_requests (in_force r.store.settings later) inlined first_rest.requests first_rest.end second_rest.requests second_rest.end rests clean);
               }
 
-pub unlimited : (setup : Setup) → setup.limits ≡ no_limits → free setup.encoding setup.offset_bits ≡ setup
+unlimited : (setup : Setup) → setup.limits ≡ no_limits → free setup.encoding setup.offset_bits ≡ setup
 unlimited setup h = ap (λ (limits : Limits). record setup { limits = limits }) (sym h)
 
 pub inlines : Inlining

@@ -34,6 +34,10 @@ pub same_length : {A : Type 0} {R : A → A → Type 0} {xs ys : List A} → Pai
 same_length none = refl
 same_length (more r rs) = ap suc (same_length rs)
 
+pub paired_refl : {A : Type 0} {R : A → A → Type 0} → ((x : A) → R x x) → (xs : List A) → Pairwise R xs xs
+paired_refl h [] = none
+paired_refl h (x ∷ xs) = more (h x) (paired_refl h xs)
+
 pub snoc_both : {A : Type 0} {R : A → A → Type 0} {xs ys : List A} {x y : A} → Pairwise R xs ys → R x y
     → Pairwise R (xs ++ x ∷ []) (ys ++ y ∷ [])
 snoc_both none h = more h none
@@ -55,12 +59,14 @@ module _ {A : Type 0} (R : A → A → Type 0) where
       at true = h
       at false = g
 
-  pub top_pair : (w : ℕ) (vs ws : List Value) (x x' : A) (go go' : Value → List Value → A) → Pairwise (Agree w) vs ws → R x x'
-      → ((v v' : Value) (rest rest' : List Value) → Agree w v v' → Pairwise (Agree w) rest rest' → R (go v rest) (go' v' rest'))
+  pub top_pair : (Same : Type 0) (w : ℕ) (vs ws : List Value) (x x' : A) (go go' : Value → List Value → A)
+      → Pairwise (Agree w) vs ws → (Same → vs ≡ ws) → R x x'
+      → ((v v' : Value) (rest rest' : List Value) → Agree w v v' → Pairwise (Agree w) rest rest'
+      → (Same → (v ∷ rest) ≡ (v' ∷ rest')) → R (go v rest) (go' v' rest'))
       → R (on_top vs x go) (on_top ws x' go')
   unfolding on_top
-  top_pair w vs ws x x' go go' none h g = h
-  top_pair w vs ws x x' go go' (more a bs) h g = g _ _ _ _ a bs
+  top_pair Same w vs ws x x' go go' none e h g = h
+  top_pair Same w vs ws x x' go go' (more a bs) e h g = g _ _ _ _ a bs e
 
   pub some_pair : {X : Type 0} (Q : X → X → Type 0) (o o' : Option X) (x x' : A) (go go' : X → A) → Both Q o o' → R x x'
       → ((v v' : X) → Q v v' → R (go v) (go' v')) → R (option_map_or go o x) (option_map_or go' o' x')

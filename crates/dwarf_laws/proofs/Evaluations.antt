@@ -185,18 +185,13 @@ module _ (Free : Type 0) (setup : Setup) (limits : Limits) (premise : Free ⊎ (
         stand = rest.stand;
       }
 
-clear_start : (setup : Setup) (refusal : Refusal) (text : Text) (log : Log) (rest : List Reply)
-    → NoneIsFull (replies (outcome_of setup refusal text log) ++ rest)
-    → IsClearSoFar (Unit {0}) (outcome_of setup refusal text log)
-clear_start setup refusal text log rest h = clear_reply (Unit {0}) _ rest (λ free. h)
-
 pub two_runs : TwoRuns
 two_runs setup limits refusal another text log second steps others width t p (inl e) =
     alike_steps ⊥ setup limits (inr e.0) width refusal another (inr e.1) text steps others log second (pairs _ _ p) t
     (λ free. absurd free) (λ free. absurd free) (λ free. absurd free) (λ free. absurd free)
 two_runs setup limits refusal another text log second steps others width t p (inr e) =
     alike_steps (Unit {0}) setup limits (inl tt) width refusal another (inl tt) text steps others log second (pairs _ _ p) t
-    (clear_start setup refusal text log _ e.0) (clear_start (record setup { limits = limits }) another text second _ e.1)
+    (clear_reply (Unit {0}) _ _ (λ free. e.0)) (clear_reply (Unit {0}) _ _ (λ free. e.1))
     (λ free. none_full_beyond _ _ e.0) (λ free. none_full_beyond _ _ e.1)
 
 -- with empty logs the premise holds

@@ -51,18 +51,26 @@ pub record AgreeingStores (m : Mode) (w : ℕ) (s t : Store) : Type 0 where
   pub refusal : m.Left s.refusal t.refusal
   pub same : m.Same → calm s ≡ calm t
 
--- what is left of two refusals
-pub data AgreeingRooms (m : Mode) : Result Refusal Fault → Result Refusal Fault → Type 0 where
-  rooms : {left right : Refusal} → m.Left left right → AgreeingRooms m (Ok left) (Ok right)
-  no_rooms : AgreeingRooms m (Err StackFull) (Err StackFull)
-  room_first : {r : Result Refusal Fault} → m.First → AgreeingRooms m (Err StackFull) r
-  room_second : {r : Result Refusal Fault} → m.Second → AgreeingRooms m r (Err StackFull)
+-- two results that are related, or a push that was refused on one side alone
+pub data Agreeing (m : Mode) {A : Type 0} (R : A → A → Type 0) : Result A Fault → Result A Fault → Type 0 where
+  results : {x y : A} → R x y → Agreeing m R (Ok x) (Ok y)
+  refusals : {fault : Fault} → Agreeing m R (Err fault) (Err fault)
+  result_first : {r : Result A Fault} → m.First → Agreeing m R (Err StackFull) r
+  result_second : {r : Result A Fault} → m.Second → Agreeing m R r (Err StackFull)
 
-pub data AgreeingResults (m : Mode) (w : ℕ) : Result Store Fault → Result Store Fault → Type 0 where
-  stores : {s t : Store} → AgreeingStores m w s t → AgreeingResults m w (Ok s) (Ok t)
-  refusals : {fault : Fault} → AgreeingResults m w (Err fault) (Err fault)
-  result_first : {r : Result Store Fault} → m.First → AgreeingResults m w (Err StackFull) r
-  result_second : {r : Result Store Fault} → m.Second → AgreeingResults m w r (Err StackFull)
+bind_both : {m : Mode} {A B : Type 0} {R : A → A → Type 0} {Q : B → B → Type 0} (r r' : Result A Fault)
+    (f g : A → Result B Fault) → Agreeing m R r r' → ((x y : A) → R x y → Agreeing m Q (f x) (g y))
+    → Agreeing m Q (r >>= f) (r' >>= g)
+bind_both r r' f g (results h) k = k _ _ h
+bind_both r r' f g refusals k = refusals
+bind_both r r' f g (result_first free) k = result_first free
+bind_both r r' f g (result_second free) k = result_second free
+
+abbrev pub AgreeingRooms : Mode → Result Refusal Fault → Result Refusal Fault → Type 0
+AgreeingRooms m = Agreeing m m.Left
+
+abbrev pub AgreeingResults : Mode → ℕ → Result Store Fault → Result Store Fault → Type 0
+AgreeingResults m w = Agreeing m (AgreeingStores m w)
 
 pub data AgreeingNexts (m : Mode) (w : ℕ) : Next → Next → Type 0 where
   goes_on : {place : ℕ} {s t : Store} → AgreeingStores m w s t → AgreeingNexts m w (Goes place s) (Goes place t)
@@ -108,13 +116,13 @@ map_free f x y (inr e) = inr (ap f e)
 
 module _ (Free : Type 0) where
   free_rooms : (r r' : Result Refusal Fault) → Free → IsRoom r → IsRoom r' → AgreeingRooms (either Free) r r'
-  free_rooms r r' free is_left is_left = rooms (inl free)
-  free_rooms r r' free is_left is_full = room_second free
-  free_rooms r r' free is_full h = room_first free
+  free_rooms r r' free is_left is_left = results (inl free)
+  free_rooms r r' free is_left is_full = result_second free
+  free_rooms r r' free is_full h = result_first free
 
   same_rooms : (r : Result Refusal Fault) → IsRoom r → AgreeingRooms (either Free) r r
-  same_rooms r is_left = rooms (inr refl)
-  same_rooms r is_full = no_rooms
+  same_rooms r is_left = results (inr refl)
+  same_rooms r is_full = refusals
 
   rooms_agree : (limit limit' : Option ℕ) → Free ⊎ (limit ≡ limit') → Rooms (either Free) limit limit'
   rooms_agree limit limit' (inl free) n n' refusal refusal' e h =
@@ -141,8 +149,8 @@ calm_rooms n n' refusal refusal' e never =
     (at _ (after_push_is refusal))
   where
     at : (r : Result Refusal Fault) → IsRoom r → AgreeingRooms calmed r (Ok Never)
-    at r is_left = rooms refl
-    at r is_full = room_first tt
+    at r is_left = results refl
+    at r is_full = result_first tt
 
 pub pushing_calmed : Pushing calmed no_limits no_limits
 pushing_calmed =
@@ -179,22 +187,14 @@ module _ (m : Mode) (setup : Setup) (limits : Limits) (pushing : Pushing m setup
   abbrev other : Setup
   other = record setup { limits = limits }
 
-  store_rooms : (make make' : Refusal → Store) (r r' : Result Refusal Fault) → AgreeingRooms m r r'
-      → ((left right : Refusal) → m.Left left right → AgreeingStores m w (make left) (make' right))
-      → AgreeingResults m w (r >>= λ left. Ok (make left)) (r' >>= λ left. Ok (make' left))
-  store_rooms make make' r r' (rooms h) g = stores (g _ _ h)
-  store_rooms make make' r r' no_rooms g = refusals
-  store_rooms make make' r r' (room_first free) g = result_first free
-  store_rooms make make' r r' (room_second free) g = result_second free
-
   pub push_value_both : (x x' : Value) (s t : Store) → Agree w x x' → (m.Same → x ≡ x') → AgreeingStores m w s t
       → AgreeingResults m w (push_value setup x s) (push_value other x' t)
   unfolding push_value
   push_value_both x x' s t a i h =
-      store_rooms (λ left. record s { values = x ∷ s.values; refusal = left })
-      (λ left. record t { values = x' ∷ t.values; refusal = left }) _ _
+      bind_both _ _ (λ left. Ok (record s { values = x ∷ s.values; refusal = left }))
+      (λ left. Ok (record t { values = x' ∷ t.values; refusal = left }))
       (pushing.values (length s.values) (length t.values) s.refusal t.refusal (same_length h.values) h.refusal)
-      (λ left right e. record {
+      (λ left right e. results (record {
         values = more a h.values;
         pieces = h.pieces;
         count = h.count;
@@ -203,16 +203,16 @@ module _ (m : Mode) (setup : Setup) (limits : Limits) (pushing : Pushing m setup
         refusal = e;
         same = λ k. ap (λ (u : Store). record u { values = x ∷ u.values }) (h.same k)
             ∙ ap (λ (y : Value). record (calm t) { values = y ∷ t.values }) (i k);
-      })
+      }))
 
   pub push_piece_both : (p p' : Piece) (s t : Store) → AgreeingPieces w p p' → (m.Same → p ≡ p') → AgreeingStores m w s t
       → AgreeingResults m w (push_piece setup p s) (push_piece other p' t)
   unfolding push_piece
   push_piece_both p p' s t a i h =
-      store_rooms (λ left. record s { pieces = s.pieces ++ p ∷ []; refusal = left })
-      (λ left. record t { pieces = t.pieces ++ p' ∷ []; refusal = left }) _ _
+      bind_both _ _ (λ left. Ok (record s { pieces = s.pieces ++ p ∷ []; refusal = left }))
+      (λ left. Ok (record t { pieces = t.pieces ++ p' ∷ []; refusal = left }))
       (pushing.pieces (length s.pieces) (length t.pieces) s.refusal t.refusal (same_length h.pieces) h.refusal)
-      (λ left right e. record {
+      (λ left right e. results (record {
         values = h.values;
         pieces = snoc_both h.pieces a;
         count = h.count;
@@ -221,15 +221,15 @@ module _ (m : Mode) (setup : Setup) (limits : Limits) (pushing : Pushing m setup
         refusal = e;
         same = λ k. ap (λ (u : Store). record u { pieces = u.pieces ++ p ∷ [] }) (h.same k)
             ∙ ap (λ (q : Piece). record (calm t) { pieces = t.pieces ++ q ∷ [] }) (i k);
-      })
+      }))
 
   pub push_frame_both : (depth : ℕ) (s t : Store) → AgreeingStores m w s t
       → AgreeingResults m w (push_caller setup depth s) (push_caller other depth t)
   unfolding push_caller
   push_frame_both depth s t h =
-      store_rooms (λ left. record s { refusal = left }) (λ left. record t { refusal = left }) _ _
+      bind_both _ _ (λ left. Ok (record s { refusal = left })) (λ left. Ok (record t { refusal = left }))
       (pushing.callers depth depth s.refusal t.refusal refl h.refusal)
-      (λ left right e. record {
+      (λ left right e. results (record {
         values = h.values;
         pieces = h.pieces;
         count = h.count;
@@ -237,19 +237,11 @@ module _ (m : Mode) (setup : Setup) (limits : Limits) (pushing : Pushing m setup
         last = h.last;
         refusal = e;
         same = h.same;
-      })
-
-  bind_both : (r r' : Result Store Fault) (f g : Store → Result Store Fault) → AgreeingResults m w r r'
-      → ((s t : Store) → AgreeingStores m w s t → AgreeingResults m w (f s) (g t))
-      → AgreeingResults m w (r >>= f) (r' >>= g)
-  bind_both r r' f g (stores h) k = k _ _ h
-  bind_both r r' f g refusals k = refusals
-  bind_both r r' f g (result_first free) k = result_first free
-  bind_both r r' f g (result_second free) k = result_second free
+      }))
 
   push_values_both : (xs ys : List Value) (s t : Store) → Pairwise (Agree w) xs ys → (m.Same → xs ≡ ys) → AgreeingStores m w s t
       → AgreeingResults m w (push_values setup xs s) (push_values other ys t)
-  push_values_both xs ys s t none i h = stores h
+  push_values_both xs ys s t none i h = results h
   push_values_both xs ys s t (more {x = x} {y = y} {xs = xs'} {ys = ys'} a as') i h =
       bind_both (push_value setup x s) (push_value other y t) (push_values setup xs') (push_values other ys')
       (push_value_both x y s t a (λ k. let e = i k in cc) h)
@@ -259,7 +251,7 @@ module _ (m : Mode) (setup : Setup) (limits : Limits) (pushing : Pushing m setup
 
   goes_both : (place : ℕ) (r r' : Result Store Fault) → AgreeingResults m w r r'
       → AgreeingNexts m w (next_at place r) (next_at place r')
-  goes_both place r r' (stores h) = goes_on h
+  goes_both place r r' (results h) = goes_on h
   goes_both place r r' refusals = fails
   goes_both place r r' (result_first free) = next_first free
   goes_both place r r' (result_second free) = next_second free

@@ -8,8 +8,6 @@ use Rattle.dwarf_meaning.specs.Requests.{Request, OnAnswer}
 use Rattle.dwarf_meaning.specs.DecodeLaws.{IsNear, BranchesNear}
 use Rattle.dwarf_laws.specs.Inlining.{IsStraight}
 use Rattle.dwarf_meaning.specs.Acts.{Act, Pushes, Branches, Locates, EndsPiece, RequestAct, FaultAct, act}
-use Rattle.dwarf_meaning.specs.Stores.{Store}
-use Rattle.dwarf_meaning.specs.Run.{located_act}
 use Rattle.dwarf_meaning.proofs.Effects.{IsActOf, act_is}
 use Rattle.dwarf_meaning.specs.Operations as operation
 use Rattle.dwarf_meaning.proofs.Effects as effect
@@ -53,8 +51,3 @@ jumping P op (FaultAct fault) d j = refuses
 pub act_jumps : (P : ℤ → Type 0) (bits : ℕ) (object : Option ℕ) (op : Operation) (values : List Value) → AllJumps P op
     → Jumping P (act bits object op values)
 act_jumps P bits object op values j = jumping P op (act bits object op values) (act_is bits object op values) j
-
-pub located_jumps : (P : ℤ → Type 0) (location : Location) (s : Store) (place : ℕ) (op : Operation)
-    → Jumping P (located_act location s place op)
-located_jumps P location s place (operation.Piece size_in_bits bit_offset) = ends
-located_jumps P location s place op = refuses

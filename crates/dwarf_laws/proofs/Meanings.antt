@@ -16,7 +16,7 @@ use Rattle.dwarf_laws.specs.Agreement.{AgreeingInputs, Both, nothing, something,
 use Rattle.dwarf_laws.proofs.Calm.{calm}
 use Rattle.dwarf_laws.proofs.Pairs.{Pairwise, none, more, if_pair, zipped, top_pair}
 use Rattle.dwarf_laws.proofs.Actions.{AgreeingActs, located_both, uses_refl, AgreeingUses, gives, calls, denies, act_both, same_kinds, use_both, same_addresses}
-use Rattle.dwarf_laws.proofs.Holdings.{Mode, Pushing, AgreeingLasts, both_nothing, both_plain, both_pushed, both_called, both_located, AgreeingStores, AgreeingResults, stores, refusals, result_first, result_second, AgreeingNexts, goes_on, request_next, fails, next_first, next_second, changed, push_value_both, push_frame_both, done_both, push_piece_both}
+use Rattle.dwarf_laws.proofs.Holdings.{Mode, Pushing, AgreeingLasts, both_nothing, both_plain, both_pushed, both_called, both_located, AgreeingStores, AgreeingResults, results, refusals, result_first, result_second, AgreeingNexts, goes_on, request_next, fails, next_first, next_second, changed, push_value_both, push_frame_both, done_both, push_piece_both}
 use Rattle.dwarf_value.specs.declared.types.Value.{Value}
 use Rattle.dwarf_value.specs.Values.{Agree, to_u64_of}
 use Rattle.dwarf_value.proofs.Agreements.{Agree-Generic}
@@ -135,7 +135,7 @@ module _ (m : Mode) (setup : Setup) (limits : Limits) (pushing : Pushing m setup
     resumed_both : (position : Position) (depth : ℕ) (inputs inputs' : List Input) (r r' : Result Store Fault)
         → AgreeingLists m w inputs inputs' → AgreeingResults m w r r'
         → AgreeingCourses m w (after_push go position depth inputs r) (after_push go' position depth inputs' r')
-    resumed_both position depth inputs inputs' r r' i (stores h) = H position.text position.place depth _ _ inputs inputs' h i
+    resumed_both position depth inputs inputs' r r' i (results h) = H position.text position.place depth _ _ inputs inputs' h i
     resumed_both position depth inputs inputs' r r' i refusals = ended_both m w _ _ fail_both
     resumed_both position depth inputs inputs' r r' i (result_first free) = course_first free refl
     resumed_both position depth inputs inputs' r r' i (result_second free) = course_second free refl
@@ -143,7 +143,7 @@ module _ (m : Mode) (setup : Setup) (limits : Limits) (pushing : Pushing m setup
     entered_both : (position : Position) (depth : ℕ) (callee : Text) (inputs inputs' : List Input)
         (r r' : Result Store Fault) → AgreeingLists m w inputs inputs' → AgreeingResults m w r r'
         → AgreeingCourses m w (enter_callee go position depth callee inputs r) (enter_callee go' position depth callee inputs' r')
-    entered_both position depth callee inputs inputs' r r' i (stores h) =
+    entered_both position depth callee inputs inputs' r r' i (results h) =
         back_both position depth _ _ (H callee 0 (suc depth) _ _ inputs inputs' h i)
     entered_both position depth callee inputs inputs' r r' i refusals = ended_both m w _ _ fail_both
     entered_both position depth callee inputs inputs' r r' i (result_first free) = course_first free refl
@@ -264,7 +264,7 @@ module _ (m : Mode) (setup : Setup) (limits : Limits) (pushing : Pushing m setup
 
   completed_both : (value value' : Option Value) (r r' : Result Store Fault) → Both (Agree w) value value'
       → (m.Same → value ≡ value') → AgreeingResults m w r r' → AgreeUnlessFull m w (completion_of value r) (completion_of value' r')
-  completed_both value value' r r' a x (stores {s = s} {t = t} h) =
+  completed_both value value' r r' a x (results {x = s} {y = t} h) =
       agree (completions (zipped h.pieces) a) (λ k. ap (λ (u : Store). CompleteOutcome u.pieces value) (h.same k)
       ∙ ap (CompleteOutcome t.pieces) (x k))
   completed_both value value' r r' a x refusals = agree faults (λ k. refl)
@@ -333,7 +333,7 @@ module _ (m : Mode) (setup : Setup) (limits : Limits) (pushing : Pushing m setup
 
   initial_both : (n n' : Option ℕ) (s t : Store) → Both (AgreeingNumbers w) n n' → (m.Same → n ≡ n') → AgreeingStores m w s t
       → AgreeingResults m w (with_initial setup n s) (with_initial other n' t)
-  initial_both n n' s t nothing x h = stores h
+  initial_both n n' s t nothing x h = results h
   initial_both n n' s t (something e) x h =
       push_value_both m setup limits pushing _ _ s t (Agree-Generic w _ _ e) (λ k. let p = x k in cc) h
 

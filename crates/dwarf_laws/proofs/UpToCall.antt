@@ -1,5 +1,5 @@
 -- Up to the call: what is asked, and what is kept there.
-use Rattle.std.proofs.Common.{ℕ, ◌-◌, ◌≡◌, ◌≤◌, ◌<◌, List, [], ◌∷◌, ◌++◌, length, Result, Ok, refl, sym, subst, ◌==◌, arith, ◌+◌, Bool, true, false, drop, ap, ◌∙◌, append_assoc, length-append, ◌⊎◌, inl, inr}
+use Rattle.std.proofs.Common.{ℕ, ◌-◌, ◌≡◌, ◌≤◌, ◌<◌, List, [], ◌∷◌, ◌++◌, length, Result, Ok, refl, sym, subst, ◌==◌, arith, ◌+◌, Bool, true, false, drop, ap, ◌∙◌, append_assoc, length-append, ◌⊎◌, inl, inr, cond}
 use Rattle.std.proofs.lemmas.Bool.{cond-true, cond-false}
 use Rattle.std.proofs.lemmas.Bool.Decides.{nat_tests}
 use Rattle.std.proofs.lemmas.List.{append-nil, drop-append-le, length-drop}
@@ -87,21 +87,15 @@ module _ (encoding : Encoding) (bits : ℕ) (A K B : List ℕ) (big : Bool) (off
       (do_act S k (length (A ++ (K ++ B))) (act (address_bits S) s.settings.object_address (operation.Call offset) s.values)
       s)) call_place
 
+  may_count : (b : Bool) (c : Course) → AtCall (cond b c (only_end (FaultEnd TooManyIterations))).end → b ≡ true
+  may_count true c at_call = refl
+  may_count false c at_call = let x : FaultEnd TooManyIterations ≡ RequestEnd call (after_call ∷ []) [] = at_call in absurd cc
+
   counts_call : (t : Store) (before : List Input) → AtCall (turn_counted (run S) S outer (length A) 0 (calm t) before).end
       → (inputs : List Input) → turn_counted (run S) S outer (length A) 0 (calm t) inputs ≡ call_course t inputs
-  counts_call t before at_call inputs = by_test (can_count (calm t)) refl
-    where
-      by_test : (b : Bool) → can_count (calm t) ≡ b → turn_counted (run S) S outer (length A) 0 (calm t) inputs ≡ call_course t inputs
-      by_test true e =
-          cond-true (can_count (calm t)) _ _ e ∙ ap (prepend (record { text = outer; place = length A } ∷ []) [])
-          (does_call (count_one (calm t)) inputs)
-      by_test false e =
-          let x : FaultEnd TooManyIterations ≡ RequestEnd call (after_call ∷ []) [] = sym
-          (ap (λ (c : Course). c.end) (cond-false (can_count (calm t))
-          (prepend (record { text = outer; place = length A } ∷ []) []
-          (do_operation (run S) S outer 0 (count_one (calm t)) before (counted_act S t) (read S outer (length A))))
-          (only_end (FaultEnd TooManyIterations)) e)) ∙ at_call in
-          absurd cc
+  counts_call t before at_call inputs =
+      cond-true (can_count (calm t)) _ _ (may_count (can_count (calm t)) _ at_call)
+      ∙ ap (prepend (record { text = outer; place = length A } ∷ []) []) (does_call (count_one (calm t)) inputs)
 
   held_call : (location : Location) (s : Store) (inputs : List Input)
       → AtCall (do_operation (run S) S outer 0 s inputs (located_act location s) (read S outer (length A))).end → ⊥

@@ -2,6 +2,7 @@
 use Rattle.std.proofs.Common.{ℕ, zero, suc, ◌≡◌, ◌<◌, ◌≤◌, ap, refl, sym, subst, ◌∙◌, ◌⊎◌, inl, inr, List, [], ◌∷◌, ◌++◌, length, take, Option, Some, arith, append_assoc}
 use Rattle.std.proofs.lemmas.Bool.{cases_lt}
 use Rattle.std.proofs.lemmas.List.{take_all}
+use Rattle.std.proofs.lemmas.List.Elements.{length_all_zip}
 use Rattle.std.proofs.lemmas.Option.{slice_get_within}
 use Rattle.std.specs.Prelude.{slice_get}
 use Rattle.std.specs.List.{AllZip}
@@ -20,7 +21,7 @@ use Rattle.dwarf_meaning.specs.Refusals.{Limits, Refusal, Never, After, HasFreeL
 use Rattle.dwarf_laws.specs.Agreement as agreeing
 use Rattle.dwarf_laws.specs.Agreement.{Both, nothing, something, AgreeingSteps, AgreeingLogs, AgreeingOutcomes}
 use Rattle.dwarf_laws.specs.TwoRuns.{NoneIsFull, AreAlike, AreComparable}
-use Rattle.dwarf_laws.proofs.Pairs.{Pairwise, none, more, zipped, pairs, same_length, get_both}
+use Rattle.dwarf_laws.proofs.Pairs.{Pairwise, none, more, zipped, pairs, get_both}
 use Rattle.dwarf_laws.proofs.Evaluations.{two_runs}
 use Rattle.dwarf_replay.specs.Replays.{log_at, IsInRequest, IsInFault, StandsAt}
 use Rattle.dwarf_expr.specs.Twins.{AreTwins, MayReplay, AreComparableReplays, open_texts, StatesStandAlike, unstarted, in_request, in_fault, in_completion, IsFront, DoesAllWith, FindsMisplaced, FindsNoRoom, ReplayAlike, TwoReplays}
@@ -275,7 +276,7 @@ module _ (x z new other : State) (steps others : List Step) (refusal another : R
         let stuck_first = λ (n : ℕ). stuck n x steps refusal replies new in
         let stuck_second = λ (n : ℕ). stuck n y others another given other in
         let over = λ (n : ℕ). did_over y others another given other n in
-        let same = same_length paired in
+        let same = length_all_zip (AgreeingSteps w) steps others h.agreeing in
         record {
           done = λ k l. equal (length steps) (length others) same (first k) (second l);
           misplaced = λ n m k l. same_step n m (stuck_first n k) (stuck_second m l);

@@ -98,13 +98,10 @@ module _ (w : ℕ) where
   act_both object object' (operation.Pick index) values others o h =
       some_pair (AgreeingActs w) (Agree w) _ _ _ _ _ _ (get_both (Agree w) index h) refuses
       (λ x x' a. pushes_one values others x x' h a)
-  act_both object object' operation.Swap values others o none = refuses
-  act_both object object' operation.Swap values others o (more a none) = refuses
   act_both object object' operation.Swap values others o (more a (more c d)) = pushes d (more a (more c none))
-  act_both object object' operation.Rot values others o none = refuses
-  act_both object object' operation.Rot values others o (more a none) = refuses
-  act_both object object' operation.Rot values others o (more a (more c none)) = refuses
+  act_both object object' operation.Swap values others o _ = refuses
   act_both object object' operation.Rot values others o (more a (more c (more e f))) = pushes f (more a (more e (more c none)))
+  act_both object object' operation.Rot values others o _ = refuses
   act_both object object' (operation.Unary op) values others o h = unary_acts (unary_of op w) values others (unary_of-Agree op w) h
   act_both object object' (operation.Binary op) values others o h = binary_acts (binary_of op w) values others (binary_of-Agree op w) h
   act_both object object' (operation.PlusConstant value) values others o h =

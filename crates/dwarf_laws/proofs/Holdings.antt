@@ -1,6 +1,7 @@
 -- What two runs keep, and what is pushed on it.
-use Rattle.std.proofs.Common.{ℕ, zero, suc, ◌≡◌, ap, refl, sym, subst, ◌∙◌, ◌⊎◌, inl, inr, List, [], ◌∷◌, ◌++◌, length, Option, Some, None, Result, Ok, Err}
+use Rattle.std.proofs.Common.{ℕ, zero, ◌≡◌, ap, refl, sym, subst, ◌∙◌, ◌⊎◌, inl, inr, List, [], ◌∷◌, ◌++◌, length, Option, Some, None, Result, Ok, Err}
 use Rattle.std.proofs.lemmas.Bool.{cond_both}
+use Rattle.std.proofs.lemmas.List.Elements.{length_all_zip}
 use Rattle.std.specs.Prelude.{nat_lt}
 use Rattle.dwarf_base.specs.Faults.{Fault, ◌>>=◌}
 use Rattle.dwarf_base.specs.declared.errors.Error.TheVariants.{StackFull}
@@ -14,7 +15,7 @@ use Rattle.dwarf_meaning.specs.Refusals.{Limits, Refusal, Never, After, refusal_
 use Rattle.dwarf_laws.specs.Agreement.{AgreeingSettings, AgreeingLocations, AgreeingPieces}
 use Rattle.dwarf_meaning.specs.RowWords.{no_limits}
 use Rattle.dwarf_laws.proofs.Calm.{calm}
-use Rattle.dwarf_laws.proofs.Pairs.{Pairwise, none, more, same_length, snoc_both, if_pair}
+use Rattle.dwarf_laws.proofs.Pairs.{Pairwise, none, more, zipped, snoc_both, if_pair}
 use Rattle.dwarf_laws.proofs.Actions.{AgreeingActs, pushes, branches, locates, ends, asks, refuses}
 
 pub data AgreeingLasts (w : ℕ) : Last → Last → Type 0 where
@@ -88,10 +89,8 @@ data IsRoom : Result Refusal Fault → Type 0 where
   is_full : IsRoom (Err StackFull)
 
 after_push_is : (refusal : Refusal) → IsRoom (refusal_after_push refusal)
-after_push_is Never = is_left
 after_push_is (After zero zero) = is_full
-after_push_is (After zero (suc more_pushes)) = is_left
-after_push_is (After (suc inputs) more_pushes) = is_left
+after_push_is _ = is_left
 
 room_is : (limit : Option ℕ) (n : ℕ) (refusal : Refusal) → IsRoom (push_with_room limit n refusal)
 room_is None n refusal = after_push_is refusal
@@ -193,7 +192,7 @@ module _ (m : Mode) (setup : Setup) (limits : Limits) (pushing : Pushing m setup
   push_value_both x x' s t a i h =
       bind_both _ _ (λ left. Ok (record s { values = x ∷ s.values; refusal = left }))
       (λ left. Ok (record t { values = x' ∷ t.values; refusal = left }))
-      (pushing.values (length s.values) (length t.values) s.refusal t.refusal (same_length h.values) h.refusal)
+      (pushing.values (length s.values) (length t.values) s.refusal t.refusal (length_all_zip (Agree w) s.values t.values (zipped h.values)) h.refusal)
       (λ left right e. results (record {
         values = more a h.values;
         pieces = h.pieces;
@@ -211,7 +210,7 @@ module _ (m : Mode) (setup : Setup) (limits : Limits) (pushing : Pushing m setup
   push_piece_both p p' s t a i h =
       bind_both _ _ (λ left. Ok (record s { pieces = s.pieces ++ p ∷ []; refusal = left }))
       (λ left. Ok (record t { pieces = t.pieces ++ p' ∷ []; refusal = left }))
-      (pushing.pieces (length s.pieces) (length t.pieces) s.refusal t.refusal (same_length h.pieces) h.refusal)
+      (pushing.pieces (length s.pieces) (length t.pieces) s.refusal t.refusal (length_all_zip (AgreeingPieces w) s.pieces t.pieces (zipped h.pieces)) h.refusal)
       (λ left right e. results (record {
         values = h.values;
         pieces = snoc_both h.pieces a;

@@ -1,6 +1,6 @@
 -- A called text may be written in its call's place.
-use Rattle.std.proofs.Common.{ℕ, ◌+◌, ◌≡◌, ◌≢◌, ◌<◌, Bool, List, [], ◌∷◌, ◌++◌, length, Option, Some, None, refl, sym, ap, subst, ◌∙◌, arith, append_assoc, length-append}
-use Rattle.std.proofs.lemmas.List.{append-nil}
+use Rattle.std.proofs.Common.{ℕ, ◌+◌, ◌≡◌, ◌≢◌, ◌<◌, Bool, List, [], ◌∷◌, ◌++◌, length, Option, Some, None, refl, sym, ap, subst, ◌∙◌, arith, append_assoc}
+use Rattle.std.proofs.lemmas.List.{append-nil, append_cancel_right}
 use Rattle.std.specs.List.{AllByRecursion}
 use Rattle.dwarf_base.specs.declared.common.Encoding.{Encoding}
 use Rattle.dwarf_base.specs.Faults.{Fault}
@@ -34,15 +34,6 @@ use Rattle.dwarf_laws.proofs.UpToCall.{call_course, call_turn, straight_beyond, 
 -- the called text as an answer that changes no setting
 abbrev pub answered : CallSite → Settings → Input
 answered site settings = record { settings = settings; answer = LocationAnswer (inlining.callee_text site) }
-
-snoc_same : {A : Type 0} (a b : List A) (x : A) → a ++ x ∷ [] ≡ b ++ x ∷ [] → a ≡ b
-snoc_same [] [] x e = refl
-snoc_same [] (y ∷ b) x e = absurd (omega (arith, ap length e, length-append b (x ∷ [])))
-snoc_same (y ∷ a) [] x e = absurd (omega (arith, ap length e, length-append a (x ∷ [])))
-snoc_same (y ∷ a) (z ∷ b) x e =
-    let first : y ≡ z = cc in
-    let others : a ++ x ∷ [] ≡ b ++ x ∷ [] = cc in
-    ap (λ (n : _). n ∷ a) first ∙ ap (λ (xs : List _). z ∷ xs) (snoc_same a b x others)
 
 -- the operations at the front, and what follows them
 straight_both : (encoding : Encoding) (bits : ℕ) (big : Bool) (bytes : List ℕ) (ops : List Operation)
@@ -257,7 +248,7 @@ module _ (encoding : Encoding) (bits : ℕ) where
 
         front_is : r.front ≡ requests
         front_is =
-            snoc_same r.front requests call
+            append_cancel_right r.front requests (call ∷ [])
             (sym ((goes_on (K ++ B) []).requests ∙ ap (λ (c : Course). r.front ++ c.requests) (calls []))
             ∙ (ap (λ (inputs : List Input). (course outer inputs).requests) (append-nil earlier) ∙ leads.asked))
 

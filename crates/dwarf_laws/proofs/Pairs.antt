@@ -1,5 +1,5 @@
 -- Two lists, options and choices that are related.
-use Rattle.std.proofs.Common.{ℕ, zero, suc, ◌≡◌, ap, refl, subst, Bool, true, false, List, [], ◌∷◌, ◌++◌, length, Option, Result, Ok, Err, cond}
+use Rattle.std.proofs.Common.{ℕ, zero, suc, ◌≡◌, subst, Bool, true, false, List, [], ◌∷◌, ◌++◌, Option, Result, Ok, Err, cond}
 use Rattle.std.specs.Prelude.{slice_get}
 use Rattle.std.specs.List.{AllZip}
 use Rattle.std.specs.Option.{option_map_or}
@@ -29,10 +29,6 @@ pairs [] [] h = none
 pairs [] (y ∷ ys) h = absurd h
 pairs (x ∷ xs) [] h = absurd h
 pairs (x ∷ xs) (y ∷ ys) h = more h.0 (pairs xs ys h.1)
-
-pub same_length : {A : Type 0} {R : A → A → Type 0} {xs ys : List A} → Pairwise R xs ys → length xs ≡ length ys
-same_length none = refl
-same_length (more r rs) = ap suc (same_length rs)
 
 pub paired_refl : {A : Type 0} {R : A → A → Type 0} → ((x : A) → R x x) → (xs : List A) → Pairwise R xs xs
 paired_refl h [] = none

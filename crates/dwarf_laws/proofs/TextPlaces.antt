@@ -113,11 +113,9 @@ module _ (encoding : Encoding) (bits : ℕ) where
     abbrev inlined : Text
     inlined = record { bytes = A ++ (C ++ B); is_big = big }
 
-    outer_length : length (A ++ (K ++ B)) ≡ length A + (length K + length B)
-    outer_length = omega (arith, length-append A (K ++ B), length-append K B)
-
-    inlined_length : length (A ++ (C ++ B)) ≡ length A + (length C + length B)
-    inlined_length = omega (arith, length-append A (C ++ B), length-append C B)
+    -- with either of both between A and B
+    whole_length : (X : List ℕ) → length (A ++ (X ++ B)) ≡ length A + (length X + length B)
+    whole_length X = omega (arith, length-append A (X ++ B), length-append X B)
 
     -- the callee's places in the inlined text
     abbrev pub InCallee : ℕ → ℕ → Type 0
@@ -128,10 +126,10 @@ module _ (encoding : Encoding) (bits : ℕ) where
     callee_aligned target n some are short = record {
       ends = λ p p' h e. h.1 ∙ ap (λ (k : ℕ). length A + k) e;
       inside = λ p p' h e. inl (record {
-        not_over = let x = h.0 in let y = h.1 in let l = inlined_length in grind (arith, nat_tests);
+        not_over = let x = h.0 in let y = h.1 in let l = whole_length C in grind (arith, nat_tests);
         reads = λ op rest e.
             let st = stands callee p op rest e in
-            let l = inlined_length in
+            let l = whole_length C in
             let m : length (rest ++ B) ≡ length rest + length B = length-append rest B in
             let here : Text = record { bytes = drop p C; is_big = big } in
             let few : length rest ≤ length C = let a = st.left in let b = length-drop p C in omega (arith, a, b) in
@@ -166,25 +164,22 @@ module _ (encoding : Encoding) (bits : ℕ) where
       pub second : p' ≡ length A + (length C + beyond)
       pub straight : StraightFrom outer p
 
-    drop_first : (m : ℕ) → drop (length A + (length K + m)) (A ++ (K ++ B)) ≡ drop m B
-    drop_first m = drop-append-add A (K ++ B) (length K + m) ∙ drop-append-add K B m
-
-    drop_second : (m : ℕ) → drop (length A + (length C + m)) (A ++ (C ++ B)) ≡ drop m B
-    drop_second m = drop-append-add A (C ++ B) (length C + m) ∙ drop-append-add C B m
+    drop_whole : (X : List ℕ) (m : ℕ) → drop (length A + (length X + m)) (A ++ (X ++ B)) ≡ drop m B
+    drop_whole X m = drop-append-add A (X ++ B) (length X + m) ∙ drop-append-add X B m
 
     pub beyond_aligned : (target : _) (n : ℕ) (Asks : List Position → List Input → Type 0)
         → ((place : ℕ) → length A + length K < place → MayAsk Asks outer 0 place)
         → Alignment encoding bits target n outer inlined ⊥ Asks Beside (length (A ++ (C ++ B)))
     beyond_aligned target n Asks asks = record {
-      ends = λ p p' h e. let x = h.first in let y = h.second in omega (arith, inlined_length, outer_length, x, y, e);
+      ends = λ p p' h e. let x = h.first in let y = h.second in omega (arith, whole_length C, whole_length K, x, y, e);
       inside = λ p p' h e. inl (record {
-        not_over = let x = h.first in let y = h.second in let k = outer_length in let l = inlined_length in grind (arith, nat_tests);
+        not_over = let x = h.first in let y = h.second in let k = whole_length K in let l = whole_length C in grind (arith, nat_tests);
         reads = λ op rest e.
             let st = stands outer p op rest e in
             let step = straight_step outer p op rest e h.straight in
             let m = h.beyond in
-            let one : drop p (A ++ (K ++ B)) ≡ drop m B = ap (λ (k : ℕ). drop k (A ++ (K ++ B))) h.first ∙ drop_first m in
-            let two : drop p' (A ++ (C ++ B)) ≡ drop m B = ap (λ (k : ℕ). drop k (A ++ (C ++ B))) h.second ∙ drop_second m in
+            let one : drop p (A ++ (K ++ B)) ≡ drop m B = ap (λ (k : ℕ). drop k (A ++ (K ++ B))) h.first ∙ drop_whole K m in
+            let two : drop p' (A ++ (C ++ B)) ≡ drop m B = ap (λ (k : ℕ). drop k (A ++ (C ++ B))) h.second ∙ drop_whole C m in
             let few : length rest ≤ length B = let a = st.left in
             let b : length (drop p (A ++ (K ++ B))) ≡ length (drop m B) = ap length one in
             let c = length-drop m B in omega (arith, a, b, c) in
@@ -194,9 +189,9 @@ module _ (encoding : Encoding) (bits : ℕ) where
               next =
                   record {
                     beyond = length B - length rest;
-                    first = omega (arith, outer_length, few);
+                    first = omega (arith, whole_length K, few);
                     second = omega
-                        (arith, inlined_length, few);
+                        (arith, whole_length C, few);
                     straight = step.1;
                   };
               asks = asks _ (let x = h.first in let a = st.place in let b = st.some in omega (arith, x, a, b));

@@ -1,5 +1,5 @@
 -- Two replays, of a text with a call and of the inlined text, over the law of called texts.
-use Rattle.std.proofs.Common.{◌≡◌, ◌≢◌, ap, refl, sym, subst, ◌∙◌, List, [], ◌∷◌, ◌++◌, Option, Some, None}
+use Rattle.std.proofs.Common.{◌≡◌, ◌≢◌, ap, refl, sym, subst, ◌∙◌, List, [], ◌∷◌, ◌++◌, Option, Some, append_assoc}
 use Rattle.dwarf_base.specs.declared.errors.Error.{Error}
 use Rattle.dwarf_base.specs.Faults.{Fault}
 use Rattle.dwarf_base.specs.Reads.{Text}
@@ -9,7 +9,7 @@ use Rattle.dwarf_meaning.specs.Stores.{Setup}
 use Rattle.dwarf_meaning.specs.Meaning.{Outcome, FaultOutcome, First, meaning}
 use Rattle.dwarf_meaning.specs.Rest.{State, FaultStatus}
 use Rattle.dwarf_meaning.proofs.OutcomeByInputs.{outcome_from}
-use Rattle.dwarf_meaning.specs.Steps.{Step, Evaluate, Resume, Log, Reply, outcome_of, AllAllowed, after_steps}
+use Rattle.dwarf_meaning.specs.Steps.{Step, Evaluate, Resume, Log, Reply, outcome_of, after_steps}
 use Rattle.dwarf_meaning.specs.Inputs.{fresh_state}
 use Rattle.dwarf_meaning.specs.Run.{most_operations}
 use Rattle.dwarf_meaning.specs.RowWords.{no_limits, dwarf4, unset}
@@ -21,7 +21,7 @@ use Rattle.dwarf_laws.specs.Inlining.{CallSite, outer_text, callee_text, inlined
 use Rattle.dwarf_laws.proofs.InliningLaw.{answered, inlines}
 use Rattle.dwarf_replay.specs.Replays.{log_at, StandsAt, DoesAll}
 use Rattle.dwarf_expr.specs.Inlined.{MayInline, StatesEndAlike, in_request, in_completion, InlinedReplay}
-use Rattle.dwarf_expr.proofs.StepLogs.{log_steps, log_steps_more, added, log_steps_inputs, log_steps_first, log_is, log_before, log_comes, unrefused}
+use Rattle.dwarf_expr.proofs.StepLogs.{log_steps, log_steps_more, log_steps_inputs, log_steps_first, log_is, log_before, log_comes, Done, unrefused}
 use Rattle.dwarf_expr.proofs.Twins.{asking_of, stopped_of, did}
 
 -- ---- where they stand
@@ -45,28 +45,12 @@ no_fault o o' requests fault e = cc
 
 -- ---- a replay without limits in which no push was refused
 
--- it was done by the definitions without a refusal
-record Done (setup : Setup) (text : Text) (log : Log) (steps : List Step) (new : State) : Type 0 where
-  allowed : AllAllowed setup Never text log steps
-  stands : StandsAt (after_steps setup Never text log steps) new
-      (outcome_of setup Never text (after_steps setup Never text log steps))
-
 done : (x : State) (steps : List Step) (replies : List Reply) (new : State) → x.setup.limits ≡ no_limits
     → DoesAll x steps replies new → NoneIsFull replies
     → Done x.setup x.text (log_at x) steps new
 done x steps replies new h k n =
-    let d = did x steps replies new k in
-    let u =
-    unrefused x.setup h k.refusal x.text (log_at x) steps (λ e. cc) d.allowed (subst NoneIsFull d.replies_are n)
-    in
-    let comes = outcome_of x.setup Never x.text (after_steps x.setup Never x.text (log_at x) steps) in
-    record {
-      allowed = u.allowed;
-      stands =
-          subst (λ (t : Log). StandsAt t new comes) u.log_same
-          (subst (λ (o : Option Outcome). StandsAt (after_steps x.setup k.refusal x.text (log_at x) steps) new o)
-          u.comes_same d.stands);
-    }
+    let d = did x steps k.refusal replies new (k, refl) in
+    unrefused x.setup h k.refusal x.text (log_at x) steps new (λ e. cc) d.allowed (subst NoneIsFull d.replies_are n) d.stands
 
 -- ---- the law, over plain texts
 
@@ -75,7 +59,7 @@ module _ (setup : Setup) (site : CallSite) (offset : DieReference) (log : Log) (
   at_call = log_steps log start
 
   abbrev later : List Input
-  later = added at_call.now.settings beyond
+  later = (log_steps (record at_call { inputs = [] }) beyond).inputs
 
   abbrev all_steps : List Step
   all_steps = start ++ (Resume (LocationAnswer (callee_text site)) ∷ beyond)
@@ -88,32 +72,23 @@ module _ (setup : Setup) (site : CallSite) (offset : DieReference) (log : Log) (
 
   module _ (started : at_call.first ≡ Some first)
       (still : at_call.now.settings ≡ in_force first.settings at_call.inputs) where
-    outer_inputs : (log_steps log all_steps).inputs ≡ with_answer site first at_call.inputs later
-    outer_inputs =
-        ap (λ (t : Log). t.inputs) (log_steps_more log start (Resume (LocationAnswer (callee_text site)) ∷ beyond))
-        ∙ (log_steps_inputs at_call (Resume (LocationAnswer (callee_text site)) ∷ beyond) ∙ ap
-        (λ (k : Settings). at_call.inputs ++ (answered site k ∷ later)) still)
-
-    outer_first : (log_steps log all_steps).first ≡ Some first
-    outer_first =
-        ap (λ (t : Log). t.first) (log_steps_more log start (Resume (LocationAnswer (callee_text site)) ∷ beyond))
-        ∙ log_steps_first at_call (Resume (LocationAnswer (callee_text site)) ∷ beyond) first started
-
-    inlined_inputs : (log_steps log (start ++ beyond)).inputs ≡ at_call.inputs ++ later
-    inlined_inputs = ap (λ (t : Log). t.inputs) (log_steps_more log start beyond) ∙ log_steps_inputs at_call beyond
-
-    inlined_first : (log_steps log (start ++ beyond)).first ≡ Some first
-    inlined_first = ap (λ (t : Log). t.first) (log_steps_more log start beyond) ∙ log_steps_first at_call beyond first started
+    comes_by : (text : Text) (rest : List Step) (inputs : List Input) → (log_steps at_call rest).inputs ≡ inputs
+        → outcome_of setup Never text (log_steps log (start ++ rest)) ≡ Some (meaning setup Never text first inputs)
+    comes_by text rest inputs e =
+        ap (λ (t : Log). outcome_of setup Never text t) (log_steps_more log start rest)
+        ∙ (ap (λ (o : Option First). outcome_from setup Never text (log_steps at_call rest).inputs o)
+        (log_steps_first at_call rest first started)
+        ∙ ap (λ (l : List Input). Some (meaning setup Never text first l)) e)
 
     outer_comes : outcome_of setup Never (outer_text site) (log_steps log all_steps) ≡ Some means_outer
     outer_comes =
-        ap (λ (o : Option First). outcome_from setup Never (outer_text site) (log_steps log all_steps).inputs o) outer_first
-        ∙ ap (λ (inputs : List Input). Some (meaning setup Never (outer_text site) first inputs)) outer_inputs
+        comes_by (outer_text site) (Resume (LocationAnswer (callee_text site)) ∷ beyond) _
+        (log_steps_inputs at_call (at_call.inputs ++ answered site at_call.now.settings ∷ []) beyond
+        ∙ (append_assoc at_call.inputs (answered site at_call.now.settings ∷ []) later
+        ∙ ap (λ (k : Settings). at_call.inputs ++ (answered site k ∷ later)) still))
 
     inlined_comes : outcome_of setup Never (inlined_text site) (log_steps log (start ++ beyond)) ≡ Some means_inlined
-    inlined_comes =
-        ap (λ (o : Option First). outcome_from setup Never (inlined_text site) (log_steps log (start ++ beyond)).inputs o) inlined_first
-        ∙ ap (λ (inputs : List Input). Some (meaning setup Never (inlined_text site) first inputs)) inlined_inputs
+    inlined_comes = comes_by (inlined_text site) beyond _ (log_steps_inputs at_call at_call.inputs beyond)
 
     ends : (new other : State)
         → (((fault : Fault) → means_outer ≢ FaultOutcome fault) → inlining.EndAlike means_outer means_inlined)
@@ -137,19 +112,18 @@ module _ (setup : Setup) (site : CallSite) (offset : DieReference) (log : Log) (
 
 pub inlined_replays : InlinedReplay
 inlined_replays x y new other site offset start beyond replies given h k n sound l m =
-    let y_free = subst (λ (s : Setup). s.limits ≡ no_limits) h.setups h.unlimited in
-    let same_log : log_at y ≡ log_at x =
-    ap (λ (k : Settings). record { now = record { initial_value = None; settings = k }; first = None; inputs = [] }) (sym h.settings)
-    in
     let first_done =
     subst (λ (t : Text). Done x.setup t (log_at x) (start ++ (Resume (LocationAnswer (callee_text site)) ∷ beyond)) new) h.x_is_outer
     (done x (start ++ (Resume (LocationAnswer (callee_text site)) ∷ beyond)) replies new h.unlimited k n)
     in
+    let twin : State = record y { setup = x.setup; text = inlined_text site; store = record y.store { settings = x.store.settings } } in
+    let is_twin : y ≡ twin =
+    ap (λ (s : Setup). record y { setup = s }) (sym h.setups)
+    ∙ (ap (λ (t : Text). record y { setup = x.setup; text = t }) h.y_is_inlined
+    ∙ ap (λ (k : Settings). record twin { store = record y.store { settings = k } }) (sym h.settings))
+    in
     let second_done =
-    subst (λ (s : Setup). Done s (inlined_text site) (log_at x) (start ++ beyond) other) (sym h.setups)
-    (subst (λ (t : Text). Done y.setup t (log_at x) (start ++ beyond) other) h.y_is_inlined
-    (subst (λ (t : Log). Done y.setup y.text t (start ++ beyond) other) same_log
-    (done y (start ++ beyond) given other y_free l m)))
+    done twin (start ++ beyond) given other h.unlimited (subst (λ (s : State). DoesAll s (start ++ beyond) given other) is_twin l) m
     in
     let at_call : h.log ≡ log_steps (log_at x) start =
     sym h.log_is
@@ -161,7 +135,7 @@ inlined_replays x y new other site offset start beyond replies given h k n sound
     (subst (λ (t : Log). t.first ≡ Some h.first) at_call h.is_started)
     (subst (λ (t : Log). t.now.settings ≡ in_force h.first.settings t.inputs) at_call h.still_in_force) new other
     (λ faultless. (inlines x.setup site offset h.first (log_steps (log_at x) start).inputs
-    (added (log_steps (log_at x) start).now.settings beyond) h.requests h.unlimited h.stands h.inlinable
+    (log_steps (record (log_steps (log_at x) start) { inputs = [] }) beyond).inputs h.requests h.unlimited h.stands h.inlinable
     (subst (λ (t : Log). LeadsToCall x.setup site offset h.first t.inputs h.requests) at_call h.leads) faultless).ends)
     first_done sound second_done
 

@@ -19,7 +19,7 @@ use Rattle.dwarf_meaning.specs.Stores.{Store}
 use Rattle.dwarf_meaning.specs.Run.{located_act}
 use Rattle.dwarf_laws.specs.Agreement as agreeing
 use Rattle.dwarf_laws.specs.Agreement.{Both, AgreeingNumbers, AgreeingAnswers, AgreeingLocations, same, AgreeingPieces}
-use Rattle.dwarf_laws.proofs.Pairs.{Pairwise, none, more, get_both, if_pair, top_pair, some_pair, answer_pair, read_pair, answers_agree}
+use Rattle.dwarf_laws.proofs.Pairs.{Pairwise, none, more, paired_refl, get_both, if_pair, top_pair, some_pair, answer_pair, read_pair, answers_agree}
 
 pub data AgreeingActs (w : ℕ) : Act → Act → Type 0 where
   pushes : {rest rest' pushed pushed' : List Value} → Pairwise (Agree w) rest rest'
@@ -70,7 +70,9 @@ module _ (w : ℕ) where
       → ((x x' : Value) (rest rest' : List Value) → Agree w x x' → Pairwise (Agree w) rest rest'
       → AgreeingActs w (go x rest) (go' x' rest'))
       → AgreeingActs w (on_top values underflow go) (on_top others underflow go')
-  top_acts values others go go' h g = top_pair (AgreeingActs w) w values others underflow underflow go go' h refuses g
+  top_acts values others go go' h g =
+      top_pair (AgreeingActs w) ⊥ w values others underflow underflow go go' h (λ e. absurd e) refuses
+      (λ x x' rest rest' a b e. g x x' rest rest' a b)
 
   unary_acts : (call : Value → Result Value Error) (values others : List Value)
       → ((x x' : Value) → Agree w x x' → call x ≡ call x') → Pairwise (Agree w) values others
@@ -96,13 +98,10 @@ module _ (w : ℕ) where
   act_both object object' (operation.Pick index) values others o h =
       some_pair (AgreeingActs w) (Agree w) _ _ _ _ _ _ (get_both (Agree w) index h) refuses
       (λ x x' a. pushes_one values others x x' h a)
-  act_both object object' operation.Swap values others o none = refuses
-  act_both object object' operation.Swap values others o (more a none) = refuses
   act_both object object' operation.Swap values others o (more a (more c d)) = pushes d (more a (more c none))
-  act_both object object' operation.Rot values others o none = refuses
-  act_both object object' operation.Rot values others o (more a none) = refuses
-  act_both object object' operation.Rot values others o (more a (more c none)) = refuses
+  act_both object object' operation.Swap values others o _ = refuses
   act_both object object' operation.Rot values others o (more a (more c (more e f))) = pushes f (more a (more e (more c none)))
+  act_both object object' operation.Rot values others o _ = refuses
   act_both object object' (operation.Unary op) values others o h = unary_acts (unary_of op w) values others (unary_of-Agree op w) h
   act_both object object' (operation.Binary op) values others o h = binary_acts (binary_of op w) values others (binary_of-Agree op w) h
   act_both object object' (operation.PlusConstant value) values others o h =
@@ -128,32 +127,18 @@ module _ (w : ℕ) where
       (top_acts values others _ _ h (λ x x' below below' a b. top_acts below below' _ _ b (λ y y' rest rest' c d.
       let p = to_u64_of-Agree w x x' a in let q = to_u64_of-Agree w y y' c in
       asks_equal rest rest' _ _ Push (cc) d)))
-  act_both object object' (operation.RegisterOffset register offset base_type) values others o h = asks h
-  act_both object object' (operation.FrameOffset offset) values others o h = asks h
   act_both object object' operation.TLS values others o h =
       top_acts values others _ _ h (λ x x' rest rest' a b. asks_equal rest rest' _ _ Push
       (ap RequiresTls (to_u64_of-Agree w x x' a)) b)
-  act_both object object' operation.CallFrameCFA values others o h = asks h
-  act_both object object' (operation.Call offset) values others o h = asks h
-  act_both object object' (operation.EntryValue expression) values others o h = asks h
-  act_both object object' (operation.ParameterRef offset) values others o h = asks h
-  act_both object object' (operation.Address address) values others o h = asks h
-  act_both object object' (operation.AddressIndex index) values others o h = asks h
-  act_both object object' (operation.ConstantIndex index) values others o h = asks h
-  act_both object object' (operation.TypedLiteral base_type value) values others o h = asks h
-  act_both object object' (operation.Convert base_type) values others o h = asks h
-  act_both object object' (operation.Reinterpret base_type) values others o h = asks h
-  act_both object object' (operation.WasmLocal index) values others o h = asks h
-  act_both object object' (operation.WasmGlobal index) values others o h = asks h
-  act_both object object' (operation.WasmStack index) values others o h = asks h
   act_both object object' (operation.Register register) values others o h = locates h same
   act_both object object' (operation.ImplicitValue bytes) values others o h = locates h same
   act_both object object' operation.StackValue values others o h =
       top_acts values others _ _ h (λ x x' rest rest' a b. locates b (agreeing.values a))
   act_both object object' (operation.ImplicitPointer value byte_offset) values others o h = locates h same
   act_both object object' (operation.Piece size_in_bits bit_offset) values others o h =
-      top_pair (AgreeingActs w) w values others _ _ _ _ h (ends none (record { sizes = refl; offsets = refl; locations = same }))
-      (λ x x' rest rest' a b. ends b (record { sizes = refl; offsets = refl; locations = same_addresses w x x' a }))
+      top_pair (AgreeingActs w) ⊥ w values others _ _ _ _ h (λ e. absurd e) (ends none (record { sizes = refl; offsets = refl; locations = same }))
+      (λ x x' rest rest' a b e. ends b (record { sizes = refl; offsets = refl; locations = same_addresses w x x' a }))
+  act_both object object' _ values others o h = asks h
 
 -- ---- answers
 
@@ -183,8 +168,13 @@ module _ (w : ℕ) (width : IsWidth w) where
       read_pair (AgreeingUses w) _ FaultUse FaultUse (PushesAnswer values) (PushesAnswer others)
       (λ fault. denies) (λ v. gives h (Agree-refl w v))
   use_both Convert x y values others agreeing.base_type h =
-      top_pair (AgreeingUses w) w values others _ _ _ _ h denies (λ v v' rest rest' a b.
+      top_pair (AgreeingUses w) ⊥ w values others _ _ _ _ h (λ e. absurd e) denies (λ v v' rest rest' a b e.
       answer_uses _ _ rest rest' (answers_agree w _ _ (convert_of-Agree _ w v v' a)) b)
   use_both _ x y values others agreeing.base_type h =
-      top_pair (AgreeingUses w) w values others _ _ _ _ h denies (λ v v' rest rest' a b.
+      top_pair (AgreeingUses w) ⊥ w values others _ _ _ _ h (λ e. absurd e) denies (λ v v' rest rest' a b e.
       answer_uses _ _ rest rest' (reinterpret_of-Agree w _ v v' width a) b)
+
+pub uses_refl : (w : ℕ) (u : Use) → AgreeingUses w u u
+uses_refl w (PushesAnswer rest value) = gives (paired_refl (Agree-refl w) rest) (Agree-refl w value)
+uses_refl w (Calls text) = calls
+uses_refl w (FaultUse fault) = denies

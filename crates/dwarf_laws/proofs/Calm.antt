@@ -37,17 +37,13 @@ module _ (encoding : Encoding) (bits : ℕ) where
   abbrev S : Setup
   S = free encoding bits
 
-  pub piles_calm : (pushed : List Value) (t : Store)
-      → push_values S pushed (calm t) ≡ Ok (calm (record t { values = piled pushed t.values }))
+  -- with any count
+  piles : (count : ℕ) (pushed : List Value) (t : Store)
+      → push_values S pushed (record t { count = count; refusal = Never })
+      ≡ Ok (record t { values = piled pushed t.values; count = count; refusal = Never })
   unfolding push_value
-  piles_calm [] t = refl
-  piles_calm (value ∷ more) t = piles_calm more (record t { values = value ∷ t.values })
-
-  piles_ahead : (n : ℕ) (pushed : List Value) (t : Store)
-      → push_values S pushed (ahead n t) ≡ Ok (ahead n (record t { values = piled pushed t.values }))
-  unfolding push_value
-  piles_ahead n [] t = refl
-  piles_ahead n (value ∷ more) t = piles_ahead n more (record t { values = value ∷ t.values })
+  piles count [] t = refl
+  piles count (value ∷ more) t = piles count more (record t { values = value ∷ t.values })
 
   -- what two operations lead to, at places that are related; the settings stay
   pub data NextBoth (n : ℕ) (Al : ℕ → ℕ → Type 0) (settings : Settings) : Next → Next → Type 0 where
@@ -87,9 +83,9 @@ module _ (encoding : Encoding) (bits : ℕ) where
         let u : Store = record t { values = rest; last = Plain } in
         let v : Store = record u { values = piled pushed rest } in
         subst (λ (r : Result Store Fault). NextBoth n Al t.settings (next_at place r)
-        (next_at place' (push_values S pushed (calm u)))) (sym (piles_ahead n pushed u))
+        (next_at place' (push_values S pushed (calm u)))) (sym (piles (t.count + n) pushed u))
         (subst (λ (r : Result Store Fault). NextBoth n Al t.settings (Goes place (ahead n v))
-        (next_at place' r)) (sym (piles_calm pushed u)) (goes_both v al refl))
+        (next_at place' r)) (sym (piles t.count pushed u)) (goes_both v al refl))
     done_both (Branches rest target) t al (branches h) = branch_both target (record t { values = rest; last = Plain }) h
     done_both (Locates rest location) t al locates = goes_both (record t { values = rest; last = Located location }) al refl
     done_both (EndsPiece rest piece) t al ends =

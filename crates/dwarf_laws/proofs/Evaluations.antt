@@ -12,48 +12,40 @@ use Rattle.dwarf_meaning.specs.Meaning.{IsOver, Outcome, FaultOutcome, First, co
 use Rattle.std.specs.Option.{unwrap_or}
 use Rattle.std.specs.Option.{IfSome}
 use Rattle.dwarf_meaning.proofs.OutcomeByInputs.{outcome_from}
-use Rattle.dwarf_meaning.specs.Steps.{Step, InitialValue, ObjectAddress, MaxIterations, Evaluate, Resume, Log, outcome_of, Awaits, Allows, inputs_after, after, Reply, reply, replies, step_replies, after_step, replies_of, empty_log}
+use Rattle.dwarf_meaning.specs.Steps.{Step, Evaluate, Resume, Log, outcome_of, Awaits, Allows, inputs_after, after, Reply, reply, replies, step_replies, after_step, replies_of, empty_log}
 use Rattle.dwarf_meaning.specs.Refusals.{Limits, Refusal}
-use Rattle.dwarf_laws.specs.Agreement.{Both, nothing, something, AgreeingAnswers, AgreeingSteps, initial_value, object_address, max_iterations, evaluate, resume, AgreeingFirsts, AgreeingInputs, AgreeingLogs, AgreeingOutcomes, requests, faults, completions}
+use Rattle.dwarf_laws.specs.Agreement.{Both, nothing, something, AgreeingAnswers, AgreeingSteps, initial_value, object_address, max_iterations, evaluate, resume, AgreeingFirsts, AgreeingInputs, AgreeingLogs, AgreeingOutcomes, requests}
 use Rattle.dwarf_laws.specs.TwoRuns.{NoneIsFull, StandAlike, AreAlike, TwoRuns}
 use Rattle.dwarf_laws.proofs.Pairs.{Pairwise, none, more, pairs}
 use Rattle.dwarf_laws.proofs.Actions.{same_kinds}
-use Rattle.dwarf_laws.proofs.Meanings.{meaning_both, path_both}
+use Rattle.dwarf_laws.proofs.Holdings.{either, pushing_either}
+use Rattle.dwarf_laws.proofs.Meanings.{meaning_both}
 
 -- ---- which step may come next
 
-none_both : {A : Type 0} (R : A → A → Type 0) (x y : Option A) → Both R x y → x ≡ None → y ≡ None
-none_both R x y nothing e = refl
-none_both R x y (something r) e = cc
-
-none_back : {A : Type 0} (R : A → A → Type 0) (x y : Option A) → Both R x y → y ≡ None → x ≡ None
-none_back R x y nothing e = refl
-none_back R x y (something r) e = cc
+none_alike : {A : Type 0} {R : A → A → Type 0} {x y : Option A} → Both R x y → (x ≡ None) ↔ (y ≡ None)
+none_alike nothing = (λ e. refl, λ e. refl)
+none_alike (something r) = (λ e. cc, λ e. cc)
 
 module _ (w : ℕ) where
   evaluable_both : (o o' : Option Outcome) → Both (AgreeingOutcomes w) o o' → IfSome o IsOver ↔ IfSome o' IsOver
-  evaluable_both o o' nothing = (λ h. h, λ h. h)
   evaluable_both o o' (something requests) = (λ h. h, λ h. h)
-  evaluable_both o o' (something faults) = (λ h. h, λ h. h)
-  evaluable_both o o' (something (completions p v)) = (λ h. h, λ h. h)
+  evaluable_both o o' _ = (λ h. h, λ h. h)
 
   awaits_both : (a b : Answer) (o o' : Option Outcome) → AgreeingAnswers w a b → Both (AgreeingOutcomes w) o o'
       → Awaits a o ↔ Awaits b o'
-  awaits_both a b o o' k nothing = (λ h. h, λ h. h)
   awaits_both a b o o' k (something requests) = (λ h. h ∙ same_kinds w a b k, λ h. h ∙ sym (same_kinds w a b k))
-  awaits_both a b o o' k (something faults) = (λ h. h, λ h. h)
-  awaits_both a b o o' k (something (completions p v)) = (λ h. h, λ h. h)
+  awaits_both a b o o' k _ = (λ h. h, λ h. h)
 
   allows_both : (log log' : Log) (o o' : Option Outcome) (x y : Step) → AgreeingLogs w log log'
       → Both (AgreeingOutcomes w) o o' → AgreeingSteps w x y → Allows log o x ↔ Allows log' o' y
   allows_both log log' o o' x y t h (initial_value e) = (
-    λ i. (none_both _ _ _ t.first i.0, none_both _ _ _ t.now.initial_value i.1),
-    λ i. (none_back _ _ _ t.first i.0, none_back _ _ _ t.now.initial_value i.1),
+    λ i. ((none_alike t.first).0 i.0, (none_alike t.now.initial_value).0 i.1),
+    λ i. ((none_alike t.first).1 i.0, (none_alike t.now.initial_value).1 i.1),
   )
-  allows_both log log' o o' x y t h (object_address e) = (λ i. i, λ i. i)
-  allows_both log log' o o' x y t h max_iterations = (λ i. i, λ i. i)
   allows_both log log' o o' x y t h evaluate = evaluable_both o o' h
   allows_both log log' o o' x y t h (resume k) = awaits_both _ _ o o' k h
+  allows_both log log' o o' x y t h _ = (λ i. i, λ i. i)
 
   -- ---- the log after a step
 
@@ -65,38 +57,28 @@ module _ (w : ℕ) where
   inputs_after_both : (x y : First) (inputs inputs' : List Input) (a b : Answer) (o o' : Option Outcome)
       → AgreeingFirsts w x y → AllZip (AgreeingInputs w) inputs inputs' → AgreeingAnswers w a b
       → Both (AgreeingOutcomes w) o o' → AllZip (AgreeingInputs w) (inputs_after x inputs a o) (inputs_after y inputs' b o')
-  inputs_after_both x y inputs inputs' a b o o' f i k nothing = i
   inputs_after_both x y inputs inputs' a b o o' f i k (something requests) =
       AllZip-push (AgreeingInputs w) _ _ _ _ i (record { settings = f.settings; answer = k })
-  inputs_after_both x y inputs inputs' a b o o' f i k (something faults) = i
-  inputs_after_both x y inputs inputs' a b o o' f i k (something (completions p v)) = i
+  inputs_after_both x y inputs inputs' a b o o' f i k _ = i
+
+  with_now : {log log' : Log} {x y : First} → AgreeingLogs w log log' → AgreeingFirsts w x y
+      → AgreeingLogs w (record log { now = x }) (record log' { now = y })
+  with_now t a = record { now = a; first = t.first; inputs = t.inputs }
 
   after_both : (log log' : Log) (o o' : Option Outcome) (x y : Step) → AgreeingLogs w log log'
       → Both (AgreeingOutcomes w) o o' → AgreeingSteps w x y → AgreeingLogs w (after log o x) (after log' o' y)
   after_both log log' o o' x y t h (initial_value e) =
-      record {
-        now = record { initial_value = something e; settings = t.now.settings };
-        first = t.first;
-        inputs = t.inputs;
-      }
+      with_now t (record { initial_value = something e; settings = t.now.settings })
   after_both log log' o o' x y t h (object_address e) =
-      record {
-        now = record {
-          initial_value = t.now.initial_value;
-          settings = record { object_address = something e; maximum = t.now.settings.maximum };
-        };
-        first = t.first;
-        inputs = t.inputs;
-      }
+      with_now t (record {
+        initial_value = t.now.initial_value;
+        settings = record { object_address = something e; maximum = t.now.settings.maximum };
+      })
   after_both log log' o o' x y t h max_iterations =
-      record {
-        now = record {
-          initial_value = t.now.initial_value;
-          settings = record { object_address = t.now.settings.object_address; maximum = refl };
-        };
-        first = t.first;
-        inputs = t.inputs;
-      }
+      with_now t (record {
+        initial_value = t.now.initial_value;
+        settings = record { object_address = t.now.settings.object_address; maximum = refl };
+      })
   after_both log log' o o' x y t h evaluate =
       record { now = t.now; first = something (begun_both _ _ _ _ t.now t.first); inputs = t.inputs }
   after_both log log' o o' x y t h (resume k) =
@@ -105,18 +87,14 @@ module _ (w : ℕ) where
   -- ---- what a step answers
 
   same_reply : (o o' : Option Outcome) → Both (AgreeingOutcomes w) o o' → replies o ≡ replies o'
-  same_reply o o' nothing = refl
   same_reply o o' (something requests) = refl
-  same_reply o o' (something faults) = refl
-  same_reply o o' (something (completions p v)) = refl
+  same_reply o o' _ = refl
 
   same_step_replies : (o o' : Option Outcome) (x y : Step) → Both (AgreeingOutcomes w) o o' → AgreeingSteps w x y
       → step_replies x o ≡ step_replies y o'
-  same_step_replies o o' x y h (initial_value e) = refl
-  same_step_replies o o' x y h (object_address e) = refl
-  same_step_replies o o' x y h max_iterations = refl
   same_step_replies o o' x y h evaluate = same_reply o o' h
   same_step_replies o o' x y h (resume k) = same_reply o o' h
+  same_step_replies o o' x y h _ = refl
 
 pub none_full_beyond : (xs ys : List Reply) → NoneIsFull (xs ++ ys) → NoneIsFull ys
 none_full_beyond [] ys h = h
@@ -138,11 +116,9 @@ module _ (Free : Type 0) where
       → (Free → NoneIsFull (step_replies x (outcome_of setup refusal text
       (after_step setup refusal text log x)) ++ rest))
       → IsClearSoFar (outcome_of setup refusal text (after_step setup refusal text log x))
-  clear_after setup refusal text log (InitialValue number) rest c h = c
-  clear_after setup refusal text log (ObjectAddress address) rest c h = c
-  clear_after setup refusal text log (MaxIterations maximum) rest c h = c
   clear_after setup refusal text log Evaluate rest c h = clear_reply _ rest h
   clear_after setup refusal text log (Resume answer) rest c h = clear_reply _ rest h
+  clear_after setup refusal text log step rest c h = c
 
 module _ (Free : Type 0) (setup : Setup) (limits : Limits) (premise : Free ⊎ (setup.limits ≡ limits))
     (width : IsWidth (address_bits setup)) (refusal another : Refusal) (same_refusal : Free ⊎ (refusal ≡ another))
@@ -158,21 +134,14 @@ module _ (Free : Type 0) (setup : Setup) (limits : Limits) (premise : Free ⊎ (
       → IsClearSoFar Free (outcome_from setup refusal text inputs f)
       → IsClearSoFar Free (outcome_from other another text inputs' g)
       → Both (AgreeingOutcomes w) (outcome_from setup refusal text inputs f) (outcome_from other another text inputs' g)
-  outcomes_from f g inputs inputs' nothing i h k = nothing
+      × (option_map (λ (first : First). (course_of setup refusal text first inputs).path) f
+      ≡ option_map (λ (first : First). (course_of other another text first inputs').path) g)
+  outcomes_from f g inputs inputs' nothing i h k = (nothing, refl)
   outcomes_from f g inputs inputs' (something a) i h k =
-      something (meaning_both Free setup limits premise width refusal another same_refusal text _ _ inputs inputs' a i
-      (λ free e. h free (ap Some e)) (λ free e. k free (ap Some e)))
-
-  paths_from : (f g : Option First) (inputs inputs' : List Input) → Both (AgreeingFirsts w) f g
-      → AllZip (AgreeingInputs w) inputs inputs'
-      → IsClearSoFar Free (outcome_from setup refusal text inputs f)
-      → IsClearSoFar Free (outcome_from other another text inputs' g)
-      → option_map (λ (first : First). (course_of setup refusal text first inputs).path) f
-      ≡ option_map (λ (first : First). (course_of other another text first inputs').path) g
-  paths_from f g inputs inputs' nothing i h k = refl
-  paths_from f g inputs inputs' (something a) i h k =
-      ap Some (path_both Free setup limits premise width refusal another same_refusal text _ _ inputs inputs' a i
-      (λ free e. h free (ap Some e)) (λ free e. k free (ap Some e)))
+      let both = meaning_both (either Free) setup limits (pushing_either Free setup.limits limits premise) (inl width)
+      refusal another same_refusal text _ _ inputs inputs' a (λ e. absurd e) (record { each = pairs _ _ i; same = λ e. absurd e })
+      (λ free e. h free (ap Some e)) (λ free e. k free (ap Some e)) in
+      (something both.0, ap Some both.1)
 
   -- what agreeing logs lead to, if no push was refused
   stand_alike : (log log' : Log) → AgreeingLogs w log log'
@@ -182,9 +151,9 @@ module _ (Free : Type 0) (setup : Setup) (limits : Limits) (premise : Free ⊎ (
       let o = outcomes_from log.first log'.first log.inputs log'.inputs t.first t.inputs c d in
       record {
         agreeing = t;
-        outcomes = o;
-        paths = paths_from log.first log'.first log.inputs log'.inputs t.first t.inputs c d;
-        next = λ x y a. allows_both w log log' _ _ x y t o a;
+        outcomes = o.0;
+        paths = o.1;
+        next = λ x y a. allows_both w log log' _ _ x y t o.0 a;
       }
 
   pub alike_steps : (steps others : List Step) (log log' : Log) → Pairwise (AgreeingSteps w) steps others
@@ -207,7 +176,7 @@ module _ (Free : Type 0) (setup : Setup) (limits : Limits) (premise : Free ⊎ (
       let allows = now.next x y a in
       let rest = alike_steps xs ys log_now log_now' as' t_now c_now d_now
       (λ free. none_full_beyond _ _ (h free)) (λ free. none_full_beyond _ _ (k free)) in
-      let reply_now = same_step_replies w _ _ x y o_now a in
+      let reply_now = same_step_replies w _ _ x y o_now.0 a in
       let replies_beyond = rest.replies in
       record {
         allowed = (λ i. (allows.0 i.0, rest.allowed.0 i.1), λ i. (allows.1 i.0, rest.allowed.1 i.1));
@@ -216,18 +185,13 @@ module _ (Free : Type 0) (setup : Setup) (limits : Limits) (premise : Free ⊎ (
         stand = rest.stand;
       }
 
-clear_start : (setup : Setup) (refusal : Refusal) (text : Text) (log : Log) (rest : List Reply)
-    → NoneIsFull (replies (outcome_of setup refusal text log) ++ rest)
-    → IsClearSoFar (Unit {0}) (outcome_of setup refusal text log)
-clear_start setup refusal text log rest h = clear_reply (Unit {0}) _ rest (λ free. h)
-
 pub two_runs : TwoRuns
 two_runs setup limits refusal another text log second steps others width t p (inl e) =
     alike_steps ⊥ setup limits (inr e.0) width refusal another (inr e.1) text steps others log second (pairs _ _ p) t
     (λ free. absurd free) (λ free. absurd free) (λ free. absurd free) (λ free. absurd free)
 two_runs setup limits refusal another text log second steps others width t p (inr e) =
     alike_steps (Unit {0}) setup limits (inl tt) width refusal another (inl tt) text steps others log second (pairs _ _ p) t
-    (clear_start setup refusal text log _ e.0) (clear_start (record setup { limits = limits }) another text second _ e.1)
+    (clear_reply (Unit {0}) _ _ (λ free. e.0)) (clear_reply (Unit {0}) _ _ (λ free. e.1))
     (λ free. none_full_beyond _ _ e.0) (λ free. none_full_beyond _ _ e.1)
 
 -- with empty logs the premise holds

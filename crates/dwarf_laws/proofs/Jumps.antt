@@ -8,8 +8,6 @@ use Rattle.dwarf_meaning.specs.Requests.{Request, OnAnswer}
 use Rattle.dwarf_meaning.specs.DecodeLaws.{IsNear, BranchesNear}
 use Rattle.dwarf_laws.specs.Inlining.{IsStraight}
 use Rattle.dwarf_meaning.specs.Acts.{Act, Pushes, Branches, Locates, EndsPiece, RequestAct, FaultAct, act}
-use Rattle.dwarf_meaning.specs.Stores.{Store}
-use Rattle.dwarf_meaning.specs.Run.{located_act}
 use Rattle.dwarf_meaning.proofs.Effects.{IsActOf, act_is}
 use Rattle.dwarf_meaning.specs.Operations as operation
 use Rattle.dwarf_meaning.proofs.Effects as effect
@@ -20,20 +18,17 @@ AllJumps P (operation.Bra target) = P target
 AllJumps P (operation.Skip target) = P target
 AllJumps P _ = Unit {0}
 
-pub every_jump : (P : ℤ → Type 0) → ((target : ℤ) → P target) → (op : Operation) → AllJumps P op
-every_jump P h (operation.Bra target) = h target
-every_jump P h (operation.Skip target) = h target
-every_jump P h _ = tt
+pub jumps_by : (Q : Operation → Type 0) (P : ℤ → Type 0) → ((target : ℤ) → Q (operation.Bra target) → P target)
+    → ((target : ℤ) → Q (operation.Skip target) → P target) → (op : Operation) → Q op → AllJumps P op
+jumps_by Q P h k (operation.Bra target) q = h target q
+jumps_by Q P h k (operation.Skip target) q = k target q
+jumps_by Q P h k _ q = tt
 
 pub near_jumps : (P : ℤ → Type 0) → ((target : ℤ) → IsNear target → P target) → (op : Operation) → BranchesNear op → AllJumps P op
-near_jumps P h (operation.Bra target) n = h target n
-near_jumps P h (operation.Skip target) n = h target n
-near_jumps P h _ n = tt
+near_jumps P h = jumps_by BranchesNear P h h
 
 pub straight_jumps : (P : ℤ → Type 0) (op : Operation) → IsStraight op → AllJumps P op
-straight_jumps P (operation.Bra target) h = absurd h
-straight_jumps P (operation.Skip target) h = absurd h
-straight_jumps P _ h = tt
+straight_jumps P = jumps_by IsStraight P (λ target no. absurd no) (λ target no. absurd no)
 
 pub data Jumping (P : ℤ → Type 0) : Act → Type 0 where
   pushes : {rest pushed : List Value} → Jumping P (Pushes rest pushed)
@@ -56,8 +51,3 @@ jumping P op (FaultAct fault) d j = refuses
 pub act_jumps : (P : ℤ → Type 0) (bits : ℕ) (object : Option ℕ) (op : Operation) (values : List Value) → AllJumps P op
     → Jumping P (act bits object op values)
 act_jumps P bits object op values j = jumping P op (act bits object op values) (act_is bits object op values) j
-
-pub located_jumps : (P : ℤ → Type 0) (location : Location) (s : Store) (place : ℕ) (op : Operation)
-    → Jumping P (located_act location s place op)
-located_jumps P location s place (operation.Piece size_in_bits bit_offset) = ends
-located_jumps P location s place op = refuses

@@ -7,7 +7,6 @@ pub mod Jumps
 pub mod Calm
 pub mod Mirror
 pub mod TextPlaces
-pub mod Phase
 pub mod UpToCall
 pub mod InliningLaw
 pub mod Premises

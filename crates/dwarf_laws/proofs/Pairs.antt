@@ -1,5 +1,5 @@
 -- Two lists, options and choices that are related.
-use Rattle.std.proofs.Common.{ℕ, zero, suc, ◌≡◌, ap, refl, subst, Bool, true, false, List, [], ◌∷◌, ◌++◌, length, Option, Result, Ok, Err, cond}
+use Rattle.std.proofs.Common.{ℕ, zero, suc, ◌≡◌, subst, Bool, true, false, List, [], ◌∷◌, ◌++◌, Option, Result, Ok, Err, cond}
 use Rattle.std.specs.Prelude.{slice_get}
 use Rattle.std.specs.List.{AllZip}
 use Rattle.std.specs.Option.{option_map_or}
@@ -30,9 +30,9 @@ pairs [] (y ∷ ys) h = absurd h
 pairs (x ∷ xs) [] h = absurd h
 pairs (x ∷ xs) (y ∷ ys) h = more h.0 (pairs xs ys h.1)
 
-pub same_length : {A : Type 0} {R : A → A → Type 0} {xs ys : List A} → Pairwise R xs ys → length xs ≡ length ys
-same_length none = refl
-same_length (more r rs) = ap suc (same_length rs)
+pub paired_refl : {A : Type 0} {R : A → A → Type 0} → ((x : A) → R x x) → (xs : List A) → Pairwise R xs xs
+paired_refl h [] = none
+paired_refl h (x ∷ xs) = more (h x) (paired_refl h xs)
 
 pub snoc_both : {A : Type 0} {R : A → A → Type 0} {xs ys : List A} {x y : A} → Pairwise R xs ys → R x y
     → Pairwise R (xs ++ x ∷ []) (ys ++ y ∷ [])
@@ -55,12 +55,14 @@ module _ {A : Type 0} (R : A → A → Type 0) where
       at true = h
       at false = g
 
-  pub top_pair : (w : ℕ) (vs ws : List Value) (x x' : A) (go go' : Value → List Value → A) → Pairwise (Agree w) vs ws → R x x'
-      → ((v v' : Value) (rest rest' : List Value) → Agree w v v' → Pairwise (Agree w) rest rest' → R (go v rest) (go' v' rest'))
+  pub top_pair : (Same : Type 0) (w : ℕ) (vs ws : List Value) (x x' : A) (go go' : Value → List Value → A)
+      → Pairwise (Agree w) vs ws → (Same → vs ≡ ws) → R x x'
+      → ((v v' : Value) (rest rest' : List Value) → Agree w v v' → Pairwise (Agree w) rest rest'
+      → (Same → (v ∷ rest) ≡ (v' ∷ rest')) → R (go v rest) (go' v' rest'))
       → R (on_top vs x go) (on_top ws x' go')
   unfolding on_top
-  top_pair w vs ws x x' go go' none h g = h
-  top_pair w vs ws x x' go go' (more a bs) h g = g _ _ _ _ a bs
+  top_pair Same w vs ws x x' go go' none e h g = h
+  top_pair Same w vs ws x x' go go' (more a bs) e h g = g _ _ _ _ a bs e
 
   pub some_pair : {X : Type 0} (Q : X → X → Type 0) (o o' : Option X) (x x' : A) (go go' : X → A) → Both Q o o' → R x x'
       → ((v v' : X) → Q v v' → R (go v) (go' v')) → R (option_map_or go o x) (option_map_or go' o' x')

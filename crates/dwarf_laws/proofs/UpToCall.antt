@@ -1,181 +1,64 @@
 -- Up to the call: what is asked, and what is kept there.
-use Rattle.std.proofs.Common.{ℕ, zero, suc, ◌-◌, ◌≡◌, ◌≤◌, ◌<◌, List, [], ◌∷◌, ◌++◌, length, Result, Ok, Err, refl, sym, subst, ◌==◌, arith, ◌+◌, Bool, true, false, drop, ap, ◌∙◌, append_assoc, length-append}
-use Rattle.std.proofs.lemmas.Bool.{cond_both, cond-true, cond-false}
+use Rattle.std.proofs.Common.{ℕ, ◌-◌, ◌≡◌, ◌≤◌, ◌<◌, List, [], ◌∷◌, ◌++◌, length, Result, Ok, refl, sym, subst, ◌==◌, arith, ◌+◌, Bool, true, false, drop, ap, ◌∙◌, append_assoc, length-append, ◌⊎◌, inl, inr, cond}
+use Rattle.std.proofs.lemmas.Bool.{cond-true, cond-false}
+use Rattle.std.proofs.lemmas.Bool.Decides.{nat_tests}
+use Rattle.std.proofs.lemmas.List.{append-nil, drop-append-le, length-drop}
+use Rattle.std.proofs.Math.Seq.{drop-append_seam}
+use Rattle.std.specs.List.{AllByRecursion}
 use Rattle.dwarf_base.specs.declared.common.Encoding.{Encoding}
+use Rattle.dwarf_base.specs.declared.errors.Error.TheVariants.{TooManyIterations, InvalidExpressionTerminator}
 use Rattle.dwarf_base.specs.Faults.{Fault}
 use Rattle.dwarf_base.specs.Reads.{Text}
-use Rattle.dwarf_meaning.specs.Operations.{Operation, DieReference}
-use Rattle.dwarf_meaning.specs.Requests.{Request, OnAnswer, Input, RequiresAtLocation, Push, Settings}
-use Rattle.dwarf_meaning.specs.Kinds.{kind_of_request, kind_of_answer, is_same_kind}
-use Rattle.dwarf_meaning.specs.Acts.{Act, Pushes, Branches, Locates, EndsPiece, RequestAct, FaultAct, Use, PushesAnswer, Calls, FaultUse, use_of, act}
-use Rattle.dwarf_meaning.specs.Stores.{Setup, address_bits, Store, Last, Nothing, Plain, Pieced, Pushed, Called, Located, push_value, push_caller, Next, Goes, RequestNext, FaultNext, next_at, do_act}
-use Rattle.dwarf_meaning.specs.Run.{Position, End, CompleteEnd, RequestEnd, FaultEnd, Course, Continues, return_to_caller, after_push, enter_callee, run_callee, after_answer, with_input, await_answer, after_operation, read, can_count, count_one, do_operation, turn_counted, counted_act, located_act, turn_by, turn, out_of_turns, run_for, enough_turns, run, only_end, prepend}
-use Rattle.dwarf_laws.specs.Inlining.{IsStraight}
-use Rattle.dwarf_laws.proofs.Jumps.{Jumping, pushes, branches, locates, ends, asks, refuses, straight_jumps, act_jumps, located_jumps}
-use Rattle.dwarf_laws.proofs.Calm.{free, calm}
-use Rattle.dwarf_laws.proofs.TextPlaces.{stands, StraightFrom, straight_step}
-use Rattle.std.proofs.lemmas.Bool.Decides.{nat_tests}
-use Rattle.std.proofs.lemmas.List.{drop-append-le, length-drop}
-use Rattle.std.proofs.Math.Seq.{drop-append_seam}
-use Rattle.dwarf_base.specs.declared.errors.Error.TheVariants.{TooManyIterations, InvalidExpressionTerminator}
 use Rattle.dwarf_meaning.specs.Operations as operation
+use Rattle.dwarf_meaning.specs.Operations.{Operation, DieReference}
 use Rattle.dwarf_meaning.specs.Operands.{context_of}
 use Rattle.dwarf_meaning.specs.Locations.{Location}
 use Rattle.dwarf_meaning.specs.Spelling.{Spells}
 use Rattle.dwarf_meaning.specs.Splitting.{Joined}
 use Rattle.dwarf_meaning.specs.Splitting as splitting
+use Rattle.dwarf_meaning.specs.Requests.{Request, Input, RequiresAtLocation, Push, Settings}
+use Rattle.dwarf_meaning.specs.Acts.{act}
+use Rattle.dwarf_meaning.specs.Stores.{Setup, address_bits, Store, Last, Located, do_act}
+use Rattle.dwarf_meaning.specs.Run.{Position, End, CompleteEnd, RequestEnd, FaultEnd, Course, await_answer, after_operation, read, can_count, count_one, do_operation, turn_counted, counted_act, located_act, turn_by, run, only_end, prepend}
+use Rattle.dwarf_meaning.specs.RunLaws.{IsSettled, end_before, course_before}
 use Rattle.dwarf_meaning.proofs.Turns.{run_turn}
-use Rattle.dwarf_meaning.proofs.Callees.{EndOpen, run_open}
+use Rattle.dwarf_meaning.proofs.MoreInputs.{extends_run}
 use Rattle.dwarf_meaning.proofs.DecodingFacts.{spelled_operation, some_bytes}
-use Rattle.dwarf_laws.proofs.Phase as phase
-use Rattle.dwarf_laws.proofs.Phase.{last_place, last_snoc, positions_of, open_some, turn_leads}
+use Rattle.dwarf_laws.specs.Inlining.{IsStraight, in_force}
+use Rattle.dwarf_laws.proofs.Jumps.{straight_jumps}
+use Rattle.dwarf_laws.proofs.Calm.{free, calm, ahead}
+use Rattle.dwarf_laws.proofs.Mirror.{Fits, GoesOn, MayAsk, Rests, MirrorsAt, Mirrors, by_end, early, in_full, ReadsToo, Inside, Alignment, at_end, answered_mirror, mirror}
+use Rattle.dwarf_laws.proofs.TextPlaces.{stands, StraightFrom, straight_step, Beside, beyond_aligned}
 
--- it goes on at this place alone
-abbrev pub LeadsTo : ℕ → Next → Type 0
-LeadsTo place (Goes q s) = q ≡ place
-LeadsTo place (RequestNext request on_answer s) = Unit {0}
-LeadsTo place (FaultNext fault) = Unit {0}
+none_ahead : (t : Store) → ahead 0 t ≡ calm t
+none_ahead t = ap (λ (k : ℕ). record (calm t) { count = k }) (let e : t.count + 0 ≡ t.count = omega arith in e)
 
-leads_goes : (place : ℕ) (r : Result Store Fault) → LeadsTo place (next_at place r)
-leads_goes place (Ok s) = refl
-leads_goes place (Err fault) = tt
+same_read : (x y : Operation × List ℕ) (r : Result (Operation × List ℕ) Fault) → r ≡ Ok x → r ≡ Ok y → x ≡ y
+same_read x y r e f = cc
 
-pub leads_done : (setup : Setup) (place len : ℕ) (a : Act) (s : Store) → Jumping (λ z. ⊥) a
-    → LeadsTo place (do_act setup place len a s)
-leads_done setup place len (Pushes rest pushed) s pushes = leads_goes place _
-leads_done setup place len (Branches rest target) s (branches h) = absurd h
-leads_done setup place len (Locates rest location) s locates = refl
-leads_done setup place len (EndsPiece rest piece) s ends = leads_goes place _
-leads_done setup place len (RequestAct rest request on_answer) s asks = tt
-leads_done setup place len (FaultAct fault) s refuses = tt
-
--- the outermost open text stands at a later place
-pub record OpenBeyond (T : Text) (q : ℕ) (positions : List Position) : Type 0 where
-  pub inner : List Position
-  pub place : ℕ
-  pub is : positions ≡ inner ++ record { text = T; place = place } ∷ []
-  pub later : q < place
-
-abbrev pub AsksBeyond : Text → ℕ → End → Type 0
-AsksBeyond T q (CompleteEnd s inputs) = Unit {0}
-AsksBeyond T q (RequestEnd request positions inputs) = OpenBeyond T q positions
-AsksBeyond T q (FaultEnd fault) = Unit {0}
-
-module _ (encoding : Encoding) (bits : ℕ) (T : Text) (q : ℕ) where
-  abbrev Free : Setup
-  Free = free encoding bits
-
-  abbrev pub Later : Continues → Type 0
-  Later go =
-      (p d : ℕ) (s : Store) (inputs : List Input) → q ≤ p → StraightFrom encoding bits T p
-      → AsksBeyond T q (go T p d s inputs).end
-
-  module _ (go : Continues) (H : Later go) (p : ℕ) (after : q < p) (straight : StraightFrom encoding bits T p) (d : ℕ) where
-    abbrev here : Position
-    here = record { text = T; place = p }
-
-    goes_later : (s : Store) (inputs : List Input) → AsksBeyond T q (go T p d s inputs).end
-    goes_later s inputs = H p d s inputs (omega (arith, after)) straight
-
-    back_later : (c : Course) (end : End) → AsksBeyond T q (return_to_caller go here d c end).end
-    back_later c (CompleteEnd s inputs) = goes_later s inputs
-    back_later c (RequestEnd request positions inputs) = record { inner = positions; place = p; is = refl; later = after }
-    back_later c (FaultEnd fault) = tt
-
-    resumed_later : (inputs : List Input) (r : Result Store Fault) → AsksBeyond T q (after_push go here d inputs r).end
-    resumed_later inputs (Ok s) = goes_later s inputs
-    resumed_later inputs (Err fault) = tt
-
-    entered_later : (callee : Text) (inputs : List Input) (r : Result Store Fault)
-        → AsksBeyond T q (enter_callee go here d callee inputs r).end
-    entered_later callee inputs (Ok s) = let course = go callee 0 (suc d) s inputs in back_later course course.end
-    entered_later callee inputs (Err fault) = tt
-
-    called_later : (callee : Text) (bytes : List ℕ) (s : Store) (inputs : List Input)
-        → AsksBeyond T q (run_callee go Free here d callee bytes s inputs).end
-    called_later callee [] s inputs = goes_later (record s { last = Called }) inputs
-    called_later callee (byte ∷ bytes) s inputs = entered_later callee inputs (push_caller Free d s)
-
-    used_later : (u : Use) (s : Store) (inputs : List Input) → AsksBeyond T q (after_answer go Free here d u s inputs).end
-    used_later (PushesAnswer rest value) s inputs =
-        resumed_later inputs (push_value Free value (record s { values = rest; last = Pushed }))
-    used_later (Calls callee) s inputs = called_later callee callee.bytes s inputs
-    used_later (FaultUse fault) s inputs = tt
-
-    asked_later : (request : Request) (on_answer : OnAnswer) (s : Store) (inputs : List Input)
-        → AsksBeyond T q (await_answer go Free here d request on_answer s inputs).end
-    asked_later request on_answer s [] = record { inner = []; place = p; is = refl; later = after }
-    asked_later request on_answer s (input ∷ inputs) =
-        cond_both (is_same_kind (kind_of_request request) (kind_of_answer input.answer)) _ _
-        (λ (c : Course). AsksBeyond T q c.end)
-        (λ fits. used_later (use_of (address_bits Free) on_answer input.answer s.values) (with_input input s) inputs)
-        (λ other. record { inner = []; place = p; is = refl; later = after })
-
-    after_operation_later : (inputs : List Input) (next : Next) → LeadsTo p next → AsksBeyond T q (after_operation go Free T d p inputs next).end
-    after_operation_later inputs (Goes to s) e = subst (λ (k : ℕ). AsksBeyond T q (go T k d s inputs).end) (sym e) (goes_later s inputs)
-    after_operation_later inputs (RequestNext request on_answer s) e = asked_later request on_answer s inputs
-    after_operation_later inputs (FaultNext fault) e = tt
-
-  module _ (go : Continues) (H : Later go) (p d : ℕ) (s : Store) (inputs : List Input) (from : q ≤ p)
-      (straight : StraightFrom encoding bits T p) where
-    does_later : (u : Store) (act_at : ℕ → Operation → Act) (r : Result (Operation × List ℕ) Fault)
-        → ((place : ℕ) (op : Operation) → IsStraight op → Jumping (λ z. ⊥) (act_at place op)) → read Free T p ≡ r
-        → AsksBeyond T q (do_operation go Free T d u inputs act_at r).end
-    does_later u act_at (Err fault) jumps e = tt
-    does_later u act_at (Ok x) jumps e =
-        let st = stands encoding bits T p x.0 x.1 e in
-        let step = straight_step encoding bits T p x.0 x.1 e straight in
-        after_operation_later go H (length T.bytes - length x.1) (let a = st.place in let b = st.some in
-        omega (arith, a, b, from)) step.1 d inputs _
-        (leads_done Free _ _ _ u (jumps _ x.0 step.0))
-
-    counts_later : AsksBeyond T q (turn_counted go Free T p d s inputs).end
-    counts_later =
-        cond_both (can_count s) _ _ (λ (c : Course). AsksBeyond T q c.end)
-        (λ e. does_later (count_one s) (counted_act Free s) (read Free T p)
-        (λ place op straight. act_jumps (λ z. ⊥) (address_bits Free) s.settings.object_address op s.values
-        (straight_jumps (λ z. ⊥) op straight)) refl) (λ e. tt)
-
-    by_later : (last : Last) → AsksBeyond T q (turn_by go Free T p d s inputs last).end
-    by_later (Located location) =
-        does_later s (located_act location s) (read Free T p) (λ place op straight. located_jumps (λ z. ⊥) location s place op) refl
-    by_later Nothing = counts_later
-    by_later Plain = counts_later
-    by_later Pieced = counts_later
-    by_later Pushed = counts_later
-    by_later Called = counts_later
-
-    turn_later : AsksBeyond T q (turn go Free T p d s inputs).end
-    turn_later = cond_both (p == length T.bytes) _ _ (λ (c : Course). AsksBeyond T q c.end) (λ e. tt) (λ e. by_later s.last)
-
-  later_for : (turns : ℕ) → Later (run_for turns Free)
-  unfolding run_for
-  later_for zero p d s inputs = turn_later out_of_turns (λ p d s inputs from straight. tt) p d s inputs
-  later_for (suc turns) p d s inputs = turn_later (run_for turns Free) (later_for turns) p d s inputs
-
-  pub run_later : Later (run Free)
-  run_later = later_for enough_turns
-
-abbrev inputs_of : End → List Input
-inputs_of (CompleteEnd s inputs) = inputs
-inputs_of (RequestEnd request positions inputs) = inputs
-inputs_of (FaultEnd fault) = []
+abbrev first_place : List Position → ℕ
+first_place [] = 0
+first_place (x ∷ positions) = x.place
 
 module _ (encoding : Encoding) (bits : ℕ) (A K B : List ℕ) (big : Bool) (offset : DieReference)
     (spelled : Spells (context_of encoding bits big) K (operation.Call offset)) where
   abbrev S : Setup
   S = free encoding bits
 
-  abbrev outer : Text
-  outer = record { bytes = A ++ (K ++ B); is_big = big }
+  -- a text that begins with the bytes before the call
+  abbrev pub text : List ℕ → Text
+  text X = record { bytes = A ++ X; is_big = big }
 
-  abbrev call : Request
+  abbrev pub outer : Text
+  outer = text (K ++ B)
+
+  abbrev pub call : Request
   call = RequiresAtLocation offset
 
-  abbrev after_call : Position
+  abbrev pub after_call : Position
   after_call = record { text = outer; place = length A + length K }
 
-  abbrev AtCall : End → Type 0
+  abbrev pub AtCall : End → Type 0
   AtCall end = end ≡ RequestEnd call (after_call ∷ []) []
 
   some_call : 0 < length K
@@ -204,21 +87,15 @@ module _ (encoding : Encoding) (bits : ℕ) (A K B : List ℕ) (big : Bool) (off
       (do_act S k (length (A ++ (K ++ B))) (act (address_bits S) s.settings.object_address (operation.Call offset) s.values)
       s)) call_place
 
+  may_count : (b : Bool) (c : Course) → AtCall (cond b c (only_end (FaultEnd TooManyIterations))).end → b ≡ true
+  may_count true c at_call = refl
+  may_count false c at_call = let x : FaultEnd TooManyIterations ≡ RequestEnd call (after_call ∷ []) [] = at_call in absurd cc
+
   counts_call : (t : Store) (before : List Input) → AtCall (turn_counted (run S) S outer (length A) 0 (calm t) before).end
       → (inputs : List Input) → turn_counted (run S) S outer (length A) 0 (calm t) inputs ≡ call_course t inputs
-  counts_call t before at_call inputs = by_test (can_count (calm t)) refl
-    where
-      by_test : (b : Bool) → can_count (calm t) ≡ b → turn_counted (run S) S outer (length A) 0 (calm t) inputs ≡ call_course t inputs
-      by_test true e =
-          cond-true (can_count (calm t)) _ _ e ∙ ap (prepend (record { text = outer; place = length A } ∷ []) [])
-          (does_call (count_one (calm t)) inputs)
-      by_test false e =
-          let x : FaultEnd TooManyIterations ≡ RequestEnd call (after_call ∷ []) [] = sym
-          (ap (λ (c : Course). c.end) (cond-false (can_count (calm t))
-          (prepend (record { text = outer; place = length A } ∷ []) []
-          (do_operation (run S) S outer 0 (count_one (calm t)) before (counted_act S t) (read S outer (length A))))
-          (only_end (FaultEnd TooManyIterations)) e)) ∙ at_call in
-          absurd cc
+  counts_call t before at_call inputs =
+      cond-true (can_count (calm t)) _ _ (may_count (can_count (calm t)) _ at_call)
+      ∙ ap (prepend (record { text = outer; place = length A } ∷ []) []) (does_call (count_one (calm t)) inputs)
 
   held_call : (location : Location) (s : Store) (inputs : List Input)
       → AtCall (do_operation (run S) S outer 0 s inputs (located_act location s) (read S outer (length A))).end → ⊥
@@ -230,11 +107,7 @@ module _ (encoding : Encoding) (bits : ℕ) (A K B : List ℕ) (big : Bool) (off
       → AtCall (turn_by (run S) S outer (length A) 0 (calm t) before last).end → (inputs : List Input)
       → turn_by (run S) S outer (length A) 0 (calm t) inputs last ≡ call_course t inputs
   by_call (Located location) t before at_call inputs = absurd (held_call location (calm t) before at_call)
-  by_call Nothing t before at_call inputs = counts_call t before at_call inputs
-  by_call Plain t before at_call inputs = counts_call t before at_call inputs
-  by_call Pieced t before at_call inputs = counts_call t before at_call inputs
-  by_call Pushed t before at_call inputs = counts_call t before at_call inputs
-  by_call Called t before at_call inputs = counts_call t before at_call inputs
+  by_call _ t before at_call inputs = counts_call t before at_call inputs
 
   opened : (t : Store) (inputs : List Input) → run S outer (length A) 0 (calm t) inputs ≡ turn_by (run S) S outer
       (length A) 0 (calm t) inputs t.last
@@ -256,89 +129,193 @@ module _ (encoding : Encoding) (bits : ℕ) (A K B : List ℕ) (big : Bool) (off
 
   -- ---- the call is not asked again
 
-  module _ (straight : StraightFrom encoding bits outer (length A + length K)) where
-    later_not : (s : Store) (inputs : List Input) → AtCall (run S outer (length A + length K) 0 s inputs).end → ⊥
-    later_not s inputs at_call =
-        let o : OpenBeyond outer (length A + length K) (after_call ∷ []) = subst
-        (AsksBeyond outer (length A + length K)) at_call
-        (run_later encoding bits outer (length A + length K) (length A + length K) 0 s inputs (omega arith) straight) in
-        let e : length A + length K ≡ o.place = ap last_place o.is ∙ last_snoc o.inner
-        (record { text = outer; place = o.place }) in
-        omega (arith, e, o.later)
+  abbrev NotAtCall : List Position → List Input → Type 0
+  NotAtCall positions left = positions ≡ after_call ∷ [] → left ≡ [] → ⊥
 
-    back_not : (callee : Text) (s : Store) (inputs : List Input) (c : Course) (end : End) → EndOpen inputs callee end
-        → AtCall (return_to_caller (run S) after_call 0 c end).end → ⊥
-    back_not callee s inputs c (CompleteEnd u left) o at_call = later_not u left at_call
-    back_not callee s inputs c (RequestEnd request positions left) o at_call =
-        let e : length (positions ++ after_call ∷ []) ≡ 1 = ap (λ (end : End). length (positions_of end)) at_call in
-        let some : 0 < length positions = open_some inputs callee positions o in
-        omega (arith, e, some, length-append positions (after_call ∷ []))
-    back_not callee s inputs c (FaultEnd fault) o at_call = let x : FaultEnd fault ≡ RequestEnd call (after_call ∷ []) [] = at_call in cc
+  not_at_call : (T : Text) (enough place : ℕ) → (place ≡ length A + length K → 0 < enough) → MayAsk NotAtCall T enough place
+  not_at_call T enough place h [] left some e none =
+      let here = h (ap first_place e) in
+      let empty : length left ≡ 0 = ap (λ (xs : List Input). length xs) none in
+      omega (arith, here, empty, some)
+  not_at_call T enough place h (x ∷ inner) left some e none =
+      let one : length (x ∷ (inner ++ record { text = T; place = place } ∷ [])) ≡ 1 = ap (λ (xs : List Position). length xs) e in
+      omega (arith, one, length-append inner (record { text = T; place = place } ∷ []))
 
-    called_not : (callee : Text) (bytes : List ℕ) (s : Store) (inputs : List Input)
-        → AtCall (run_callee (run S) S after_call 0 callee bytes (calm s) inputs).end → ⊥
-    unfolding push_caller
-    called_not callee [] s inputs at_call = later_not _ inputs at_call
-    called_not callee (byte ∷ bytes) s inputs at_call =
-        back_not callee s inputs (run S callee 0 1 (calm s) inputs) (run S callee 0 1 (calm s) inputs).end
-        (run_open S callee 0 1 (calm s) inputs) at_call
+  asked_not : StraightFrom encoding bits outer (length A + length K) → (t : Store) (input : Input) (inputs : List Input)
+      → AtCall (await_answer (run S) S after_call 0 call Push (count_one (calm t)) (input ∷ inputs)).end → ⊥
+  asked_not straight t input inputs at_call =
+      let u : Store = record t { count = t.count + 1 } in
+      let target : Settings = in_force t.settings (input ∷ inputs) in
+      let at : ℕ = length A + length K in
+      let c : Store → Course = λ s. await_answer (run S) S after_call 0 call Push s (input ∷ inputs) in
+      let b : Beside encoding bits A K K B big at at = record { beyond = 0; first = omega arith; second = omega arith; straight = straight } in
+      let m = answered_mirror encoding bits target 0 (run S) (mirror encoding bits target 0) outer outer ⊥ NotAtCall
+      (Beside encoding bits A K K B big) (length outer.bytes)
+      (beyond_aligned encoding bits A K K B big target 0 NotAtCall (λ place later. not_at_call outer 0 place
+      (λ e. absurd (omega (arith, e, later))))) 0 0 at at call Push u input inputs b
+      (not_at_call outer 1 at (λ e. omega arith)) refl in
+      (subst (λ (e : End). MirrorsAt encoding bits target 0 NotAtCall outer (length outer.bytes) 0
+      (c (ahead 0 u)).requests e (c (calm u)).requests (c (calm u)).end)
+      (ap (λ (s : Store). (c s).end) (none_ahead u) ∙ at_call)
+      (in_full encoding bits target 0 NotAtCall outer (length outer.bytes) 0 (c (ahead 0 u)) (c (calm u)) m)).0 refl refl
 
-    used_not : (u : Use) (s : Store) (inputs : List Input)
-        → AtCall (after_answer (run S) S after_call 0 u (calm s) inputs).end → ⊥
-    unfolding push_value
-    used_not (PushesAnswer rest value) s inputs at_call = later_not _ inputs at_call
-    used_not (Calls callee) s inputs at_call = called_not callee callee.bytes s inputs at_call
-    used_not (FaultUse fault) s inputs at_call = let x : FaultEnd fault ≡ RequestEnd call (after_call ∷ []) [] = at_call in cc
+  -- ---- texts that begin with the same bytes
 
-    asked_not : (t : Store) (input : Input) (inputs : List Input)
-        → AtCall (await_answer (run S) S after_call 0 call Push (count_one (calm t)) (input ∷ inputs)).end → ⊥
-    asked_not t input inputs =
-        cond_both (is_same_kind (kind_of_request call) (kind_of_answer input.answer)) _ _ (λ (c : Course). AtCall c.end → ⊥)
-        (λ fits. used_not (use_of (address_bits S) Push input.answer t.values) (record t
-        { count = t.count + 1; settings = input.settings }) inputs)
-        (λ other at_call. let x : input ∷ inputs ≡ [] = ap inputs_of at_call in cc)
+  -- the operations that are still to come before the call
+  record InFront (p p' : ℕ) : Type 0 where
+    same : p' ≡ p
+    within : p ≤ length A
+    todo : List ℕ
+    ops : List Operation
+    is : drop p A ≡ todo
+    joined : Joined (context_of encoding bits big) todo ops
+    straight : AllByRecursion IsStraight ops
 
-  module _ (target : Settings) where
-    abbrev From : ℕ → Type 0
-    From p = phase.From encoding bits A K B big offset spelled target p
-
-    from_call : StraightFrom encoding bits outer (length A + length K) → From (length A)
-    from_call straight t [] f =
-        λ at_call. record {
-          front = [];
-          store = t;
-          fits = f;
-          at_call = at_call;
-          goes_on = λ X more. record
-              { requests = refl; end = refl };
-        }
-    from_call straight t (input ∷ inputs) f =
-        λ at_call. absurd (asked_not straight t input inputs
-        (sym (ap (λ (c : Course). c.end) (call_turn t (input ∷ inputs) at_call (input ∷ inputs))) ∙ at_call))
-
-    pub from : (todo : List ℕ) (ops : List Operation) → Joined (context_of encoding bits big) todo ops → (p : ℕ) → drop p A ≡ todo
-        → p ≤ length A → StraightFrom encoding bits outer p → From p
-    from todo ops splitting.none p e le straight =
-        let x : length (drop p A) ≡ 0 = ap length e in
-        let l : p ≡ length A = omega (arith, x, length-drop p A, le) in
-        subst From (sym l) (from_call (straight_beyond (subst (λ (k : ℕ). StraightFrom encoding bits outer k) l straight)))
-    from todo ops (splitting.one_more front rest op ops' s more) p e le straight =
-        let reads : (X : List ℕ) → read S (record { bytes = A ++ X; is_big = big }) p ≡ Ok (op, rest ++ X) = λ X.
+  module _ (target : Settings) (X X' : List ℕ) where
+    inside_front : (p p' : ℕ) (todo : List ℕ) (ops : List Operation) → p' ≡ p → p ≤ length A → drop p A ≡ todo
+        → Joined (context_of encoding bits big) todo ops → AllByRecursion IsStraight ops → (p == length (A ++ X)) ≡ false
+        → Inside encoding bits target 0 (text X) (text X') NotAtCall InFront p p' ⊎ ((0 < length X) × (p' ≡ length A))
+    inside_front p p' todo ops same within e splitting.none straight not_over =
+        let x : length (drop p A) ≡ 0 = ap (λ (xs : List ℕ). length xs) e in
+        let l = length-drop p A in let k = length-append A X in
+        inr (grind (arith, nat_tests), omega (arith, x, l))
+    inside_front p p' todo ops same within e (splitting.one_more front rest op ops' s more) straight not_over =
+        let reads : (Y : List ℕ) → read S (text Y) p ≡ Ok (op, rest ++ Y) = λ Y.
         ap (λ (xs : List ℕ). read S (record { bytes = xs; is_big = big }) 0)
-        (drop-append-le p A X le ∙ (ap (λ (xs : List ℕ). xs ++ X) e ∙ append_assoc front rest X))
-        ∙ spelled_operation encoding bits big front op (rest ++ X) s in
+        (drop-append-le p A Y within ∙ (ap (λ (xs : List ℕ). xs ++ Y) e ∙ append_assoc front rest Y))
+        ∙ spelled_operation encoding bits big front op (rest ++ Y) s in
         let alone : read S (record { bytes = A; is_big = big }) p ≡ Ok (op, rest) = ap
         (λ (xs : List ℕ). read S (record { bytes = xs; is_big = big }) 0) e ∙ spelled_operation encoding bits big
         front op rest s in
         let st = stands encoding bits (record { bytes = A; is_big = big }) p op rest alone in
-        let step = straight_step encoding bits outer p op (rest ++ (K ++ B)) (reads (K ++ B)) straight in
         let few : length rest ≤ length A = let a = st.left in let b = length-drop p A in omega (arith, a, b) in
-        let place : (X : List ℕ) → length (A ++ X) - length (rest ++ X) ≡ length A - length rest = λ X. omega
-        (arith, length-append A X, length-append rest X, few) in
-        let p' = length A - length rest in
-        turn_leads encoding bits A K B big offset spelled target p' (omega (arith, some_call))
-        (from rest ops' more p' st.beyond (omega arith)
-        (subst (λ (k : ℕ). StraightFrom encoding bits outer k) (place (K ++ B)) step.1))
-        p op rest reads (let a = st.within in let b = st.some in
-        omega (arith, a, b)) place (λ bits' object values. act_jumps (λ z. ⊥) bits' object op values
-        (straight_jumps (λ z. ⊥) op step.0))
+        let place : (Y : List ℕ) → length (A ++ Y) - length (rest ++ Y) ≡ length A - length rest = λ Y. omega
+        (arith, length-append A Y, length-append rest Y, few) in
+        inl (record {
+          not_over = let a = st.within in let b = st.some in let k = length-append A X' in grind (arith, nat_tests);
+          reads = λ op' rest' read_it.
+              subst (λ (x : Operation × List ℕ). ReadsToo encoding bits target 0 (text X) (text X') NotAtCall InFront p' x.0 x.1)
+              (same_read (op, rest ++ X) (op', rest') _ (reads X) read_it)
+              (record {
+                rest' = rest ++ X';
+                same = ap (λ (k : ℕ). read S (text X') k) same ∙ reads X';
+                next = record {
+                  same = place X' ∙ sym (place X);
+                  within = omega (arith, place X);
+                  todo = rest;
+                  ops = ops';
+                  is = ap (λ (k : ℕ). drop k A) (place X) ∙ st.beyond;
+                  joined = more;
+                  straight = straight.1;
+                };
+                asks = not_at_call (text X) 0 _ (λ at. absurd (omega (arith, at, place X, some_call)));
+                jumps = straight_jumps _ op straight.0;
+              });
+        })
+
+    front_aligned : Alignment encoding bits target 0 (text X) (text X') (0 < length X) NotAtCall InFront (length A)
+    front_aligned = record {
+      ends = λ p p' h e. let s = h.same in let w = h.within in omega (arith, e, s, w, length-append A X);
+      inside = λ p p' h not_over.
+          inside_front p p' h.todo h.ops h.same h.within h.is h.joined h.straight not_over;
+    }
+
+  -- ---- up to the call
+
+  -- with this much asked, each run comes to the call's place, whatever stands there
+  pub record Reached (t : Store) (earlier : List Input) : Type 0 where
+    pub front : List Request
+    pub store : Store
+    pub fits : store.settings ≡ in_force t.settings earlier
+    pub at_call : AtCall (run S outer (length A) 0 (calm store) []).end
+    pub goes_on : (X : List ℕ) (more : List Input) → let c = run S (text X) 0 0 (calm t) (earlier ++ more) in
+        GoesOn front c.requests c.end (run S (text X) (length A) 0 (calm store) more)
+
+  module _ (ops : List Operation) (joined : Joined (context_of encoding bits big) A ops)
+      (straight : AllByRecursion IsStraight ops) (beyond : StraightFrom encoding bits outer (length A + length K))
+      (t : Store) (earlier : List Input) (at_call : AtCall (run S outer 0 0 (calm t) earlier).end) where
+    begins : InFront 0 0
+    begins = record { same = refl; within = omega arith; todo = A; ops = ops; is = refl; joined = joined; straight = straight }
+
+    abbrev alone : List Input → Course
+    alone inputs = run S (text []) 0 0 (calm t) inputs
+
+    -- the bytes before the call are run to their end
+    record Ended : Type 0 where
+      store : Store
+      left : List Input
+      fits : Fits (in_force t.settings earlier) left store.settings
+      end : (alone earlier).end ≡ CompleteEnd (calm store) left
+
+    ended_by : Mirrors encoding bits (in_force t.settings earlier) 0 (0 < length (K ++ B)) NotAtCall (text []) (length A) 0
+        (run S outer 0 0 (ahead 0 t) earlier) (alone earlier) → Ended
+    ended_by (by_end h) =
+        absurd ((subst (λ (e : End). MirrorsAt encoding bits (in_force t.settings earlier) 0 NotAtCall (text []) (length A) 0
+        (run S outer 0 0 (ahead 0 t) earlier).requests e (alone earlier).requests (alone earlier).end)
+        (ap (λ (s : Store). (run S outer 0 0 s earlier).end) (none_ahead t) ∙ at_call) h).0 refl refl)
+    ended_by (early some front s left r) =
+        let whole : length A ≡ length (A ++ []) = omega (arith, length-append A []) in
+        record {
+          store = r.store;
+          left = left;
+          fits = r.fits;
+          end = r.goes_on.end ∙ ap (λ (c : Course). c.end) (ap (λ (k : ℕ). run S (text []) k 0 (calm r.store) left) whole
+              ∙ at_end encoding bits (in_force t.settings earlier) 0 (text []) 0 (calm r.store) left);
+        }
+
+    ended : Ended
+    ended =
+        ended_by (mirror encoding bits (in_force t.settings earlier) 0 outer (text []) (0 < length (K ++ B)) NotAtCall InFront
+        (length A) (front_aligned (in_force t.settings earlier) (K ++ B) []) 0 0 0 0 t earlier begins refl)
+
+    module _ (X : List ℕ) (more : List Input) where
+      abbrev target : Settings
+      target = in_force t.settings (earlier ++ more)
+
+      abbrev long : Course
+      long = run S (text X) 0 0 (calm t) (earlier ++ more)
+
+      goes_by : Mirrors encoding bits target 0 (0 < 0) NotAtCall (text X) (length A) 0
+          (run S (text []) 0 0 (ahead 0 t) (earlier ++ more)) long
+          → GoesOn (alone earlier).requests long.requests long.end
+          (run S (text X) (length A) 0 (calm ended.store) (ended.left ++ more))
+      goes_by (early some front s left r) = absurd (omega (arith, some))
+      goes_by (by_end h) =
+          let same : run S (text []) 0 0 (ahead 0 t) (earlier ++ more) ≡ course_before more (alone earlier) =
+          ap (λ (s : Store). run S (text []) 0 0 s (earlier ++ more)) (none_ahead t)
+          ∙ extends_run S (text []) 0 0 (calm t) earlier more (subst IsSettled (sym ended.end) tt) in
+          let r : Rests encoding bits target 0 (text X) (length A) 0 (alone earlier).requests (calm ended.store)
+          (ended.left ++ more) long.requests long.end = subst (λ (e : End). MirrorsAt encoding bits target 0 NotAtCall (text X) (length A) 0 (alone earlier).requests e
+          long.requests long.end) (ap (end_before more) ended.end)
+          (subst (λ (x : Course). MirrorsAt encoding bits target 0 NotAtCall (text X) (length A) 0 x.requests x.end
+          long.requests long.end) same h) in
+          subst (λ (s : Store). GoesOn (alone earlier).requests long.requests long.end
+          (run S (text X) (length A) 0 s (ended.left ++ more))) (sym (r.is ∙ none_ahead r.store)) r.goes_on
+
+      goes : GoesOn (alone earlier).requests long.requests long.end
+          (run S (text X) (length A) 0 (calm ended.store) (ended.left ++ more))
+      goes =
+          goes_by (mirror encoding bits target 0 (text []) (text X) (0 < 0) NotAtCall InFront (length A)
+          (front_aligned target [] X) 0 0 0 0 t (earlier ++ more) begins refl)
+
+    none_left : (left : List Input) → AtCall (run S outer (length A) 0 (calm ended.store) left).end → left ≡ []
+    none_left [] a = refl
+    none_left (input ∷ inputs) a =
+        absurd (asked_not beyond ended.store input inputs
+        (sym (ap (λ (c : Course). c.end) (call_turn ended.store (input ∷ inputs) a (input ∷ inputs))) ∙ a))
+
+    pub reached : Reached t earlier
+    reached =
+        let a : AtCall (run S outer (length A) 0 (calm ended.store) ended.left).end =
+        subst (λ (l : List Input). AtCall (run S outer (length A) 0 (calm ended.store) l).end) (append-nil ended.left)
+        (sym (goes (K ++ B) []).end ∙ (ap (λ (l : List Input). (run S outer 0 0 (calm t) l).end) (append-nil earlier) ∙ at_call)) in
+        let none = none_left ended.left a in
+        record {
+          front = (alone earlier).requests;
+          store = ended.store;
+          fits = subst (λ (l : List Input). Fits (in_force t.settings earlier) l ended.store.settings) none ended.fits;
+          at_call = subst (λ (l : List Input). AtCall (run S outer (length A) 0 (calm ended.store) l).end) none a;
+          goes_on = λ X more. let c = run S (text X) 0 0 (calm t) (earlier ++ more) in
+              subst (λ (l : List Input). GoesOn (alone earlier).requests c.requests c.end
+              (run S (text X) (length A) 0 (calm ended.store) (l ++ more))) none (goes X more);
+        }

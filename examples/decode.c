@@ -43,10 +43,8 @@ int main(int argc, char **argv)
         fprintf(stderr, "usage: %s ADDRESS_SIZE OFFSET_SIZE VERSION le|be HEX\n", argv[0]);
         return 2;
     }
-    encoding.address_size = (uint8_t)atoi(argv[1]);
-    encoding.offset_size = (uint8_t)atoi(argv[2]);
-    encoding.version = (uint8_t)atoi(argv[3]);
-    encoding.big_endian = !strcmp(argv[4], "be");
+    encoding = (dwexpr_encoding){(uint8_t)atoi(argv[1]), (uint8_t)atoi(argv[2]), !strcmp(argv[4], "be"),
+                                 (uint8_t)atoi(argv[3])};
     for (digits = argv[5]; digits[0] && digits[1] && length < sizeof bytes; digits += 2) {
         char two[3] = {digits[0], digits[1], 0};
         bytes[length++] = (uint8_t)strtoul(two, NULL, 16);

@@ -118,11 +118,6 @@ static void compare_list(Dwarf_Attribute *attribute)
 
 /* ---- files */
 
-static int is_block(unsigned form)
-{
-    return form == DW_FORM_block || form == DW_FORM_block1 || form == DW_FORM_block2 || form == DW_FORM_block4;
-}
-
 static int is_list(unsigned form, unsigned name)
 {
     int old = encoding.version < 4 && (form == DW_FORM_data4 || form == DW_FORM_data8);
@@ -134,12 +129,12 @@ static int is_list(unsigned form, unsigned name)
 static int on_attribute(Dwarf_Attribute *attribute, void *unused)
 {
     unsigned form = dwarf_whatform(attribute), name = dwarf_whatattr(attribute);
+    Dwarf_Block block;
     (void)unused;
-    if (form == DW_FORM_exprloc || (encoding.version < 4 && is_block(form) && name != DW_AT_const_value)) {
-        Dwarf_Block block;
+    if (!dwarf_formblock(attribute, &block)) {
         Dwarf_Op *theirs = NULL;
         size_t count = 0;
-        if (!dwarf_formblock(attribute, &block)) {
+        if (form == DW_FORM_exprloc || (encoding.version < 4 && name != DW_AT_const_value)) {
             int refused = dwarf_getlocation(attribute, &theirs, &count);
             compare(block.data, block.length, theirs, count, refused);
         }

@@ -2,8 +2,9 @@
 #include "private.h"
 
 /* Goes to the next call site of a function, in its blocks and in what is inlined into it. */
-static int next_call_site(struct dwexpr_libdw_walk *walk, int enters, Dwarf_Die *site)
+static int next_call_site(struct dwexpr_libdw_walk *walk, Dwarf_Die *site)
 {
+    int enters = walk->depth == walk->floor; /* where it began */
     while (dwexpr_libdw_next_entry(walk, enters) > 0) {
         const int tag = dwarf_tag(&walk->path[walk->depth - 1]);
         *site = walk->path[walk->depth - 1];
@@ -39,11 +40,11 @@ int dwexpr_libdw_find_call_site(dwexpr_libdw_frame *frame, Dwarf_Die *site)
 {
     dwexpr_libdw_frame *caller = frame->source.caller;
     struct dwexpr_libdw_walk walk;
-    int enters = 1, found = 0;
+    int found = 0;
     if (!caller || dwexpr_libdw_find_place(frame) || dwexpr_libdw_find_place(caller) || !frame->place.function.addr ||
         !caller->place.function.addr || dwexpr_libdw_begin_walk(&walk, &caller->place.function))
         return 0;
-    for (; !found && next_call_site(&walk, enters, site); enters = 0) {
+    while (!found && next_call_site(&walk, site)) {
         Dwarf_Attribute attribute;
         Dwarf_Addr address;
         found = !dwarf_formaddr(attribute_of(site, DW_AT_call_return_pc, DW_AT_low_pc, &attribute), &address) &&
@@ -154,10 +155,10 @@ int dwexpr_libdw_find_tail_call(const dwexpr_libdw_frame *between, const dwexpr_
 {
     struct dwexpr_libdw_walk walk;
     Dwarf_Die other;
-    int enters = 1, count = 0;
+    int count = 0;
     if (dwexpr_libdw_begin_walk(&walk, &between->place.function))
         return 0;
-    for (; next_call_site(&walk, enters, &other); enters = 0)
+    while (next_call_site(&walk, &other))
         if (is_tail_call(&other)) {
             *site = other;
             count++;
@@ -174,10 +175,10 @@ static int add_tail_calls(dwexpr_libdw_frame *functions, int at, int *count)
 {
     struct dwexpr_libdw_walk walk;
     Dwarf_Die site;
-    int enters = 1, found = dwexpr_libdw_begin_walk(&walk, &functions[at].place.function) != 0, i;
+    int found = dwexpr_libdw_begin_walk(&walk, &functions[at].place.function) != 0, i;
     if (found)
         return 1;
-    for (; !found && next_call_site(&walk, enters, &site); enters = 0) {
+    while (!found && next_call_site(&walk, &site)) {
         if (!is_tail_call(&site))
             continue;
         found = dwexpr_libdw_names(&site, &functions[at], &functions[0]) != 0 || *count == MOST_FUNCTIONS;

@@ -12,9 +12,9 @@ int dwexpr_libdw_next_sibling(Dwarf_Die *entry)
 
 uint32_t dwexpr_libdw_begin_walk(struct dwexpr_libdw_walk *walk, const Dwarf_Die *first)
 {
-    walk->room = 32;
+    walk->room = 0;
     walk->depth = walk->floor = 1;
-    walk->path = (Dwarf_Die *)malloc(walk->room * sizeof *walk->path);
+    walk->path = (Dwarf_Die *)dwexpr_libdw_with_room(NULL, 0, &walk->room, sizeof *walk->path);
     if (!walk->path)
         return DWEXPR_LIBDW_NO_MEMORY;
     walk->path[0] = *first;
@@ -34,13 +34,10 @@ static int is_new(struct dwexpr_libdw_walk *walk, const Dwarf_Die *entry)
 int dwexpr_libdw_next_entry(struct dwexpr_libdw_walk *walk, int enters)
 {
     if (enters) {
-        if (walk->depth == walk->room) {
-            Dwarf_Die *path = (Dwarf_Die *)realloc(walk->path, 2 * walk->room * sizeof *path);
-            if (!path)
-                return -1;
-            walk->path = path;
-            walk->room *= 2;
-        }
+        Dwarf_Die *path = (Dwarf_Die *)dwexpr_libdw_with_room(walk->path, walk->depth, &walk->room, sizeof *path);
+        if (!path)
+            return -1;
+        walk->path = path;
         if (dwarf_child(&walk->path[walk->depth - 1], &walk->path[walk->depth]) == 0 &&
             is_new(walk, &walk->path[walk->depth])) {
             walk->depth++;

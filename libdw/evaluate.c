@@ -130,10 +130,7 @@ static uint32_t find_cfa(dwexpr_libdw_frame *frame, uint32_t *left)
 /* The entry that an operation names. */
 static int entry_of(Dwarf_Attribute *unit, uint8_t opcode, uint64_t offset, Dwarf_Die *entry)
 {
-    Dwarf_Op operation;
-    memset(&operation, 0, sizeof operation);
-    operation.atom = opcode;
-    operation.number = offset;
+    Dwarf_Op operation = {opcode, offset, 0, 0};
     return !unit->cu || dwarf_getlocation_die(unit, &operation, entry);
 }
 
@@ -173,11 +170,8 @@ static uint32_t location_of(struct job *job, size_t *index)
 
 static int indexed_address(struct job *job, uint64_t *address)
 {
-    Dwarf_Op operation;
+    Dwarf_Op operation = {DW_OP_addrx, job->value->outcome.number, 0, 0};
     Dwarf_Attribute attribute;
-    memset(&operation, 0, sizeof operation);
-    operation.atom = DW_OP_addrx;
-    operation.number = job->value->outcome.number;
     if (!job->unit.cu || dwarf_getlocation_attr(&job->unit, &operation, &attribute) ||
         dwarf_formaddr(&attribute, address))
         return 1;
@@ -628,9 +622,7 @@ uint32_t dwexpr_libdw_on_entry(dwexpr_libdw_frame *frame, Dwarf_Die *parameter, 
 
 uint32_t dwexpr_libdw_points_into(const dwexpr_libdw_value *value, const dwexpr_piece *piece, Dwarf_Die *variable)
 {
-    Dwarf_Attribute unit;
-    memset(&unit, 0, sizeof unit);
-    unit.cu = value->unit;
+    Dwarf_Attribute unit = {.cu = value->unit};
     return piece->kind != DWEXPR_POINTS_INTO || entry_of(&unit, DW_OP_implicit_pointer, piece->number, variable)
                ? DWEXPR_LIBDW_FAILED
                : 0;

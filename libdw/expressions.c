@@ -1,6 +1,16 @@
 /* Where libdw has an expression: in an attribute, a list of locations, and the rules of call frame information. */
 #include "private.h"
 
+void *dwexpr_libdw_with_room(void *items, size_t length, size_t *room, size_t size)
+{
+    void *more = items;
+    if (length == *room) {
+        more = realloc(items, (2 * *room + 32) * size);
+        *room = more ? 2 * *room + 32 : *room;
+    }
+    return more;
+}
+
 void dwexpr_libdw_free_memory(void *first)
 {
     struct dwexpr_libdw_memory *memory = (struct dwexpr_libdw_memory *)first;

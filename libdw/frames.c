@@ -220,14 +220,11 @@ struct entries {
 
 static uint32_t add_entry(struct entries *entries, const Dwarf_Die *entry, unsigned level)
 {
-    if (entries->length == entries->room) {
-        const size_t room = 2 * entries->room + 16;
-        dwexpr_libdw_entry *items = (dwexpr_libdw_entry *)realloc(entries->items, room * sizeof *items);
-        if (!items)
-            return DWEXPR_LIBDW_NO_MEMORY;
-        entries->items = items;
-        entries->room = room;
-    }
+    dwexpr_libdw_entry *items = (dwexpr_libdw_entry *)dwexpr_libdw_with_room(entries->items, entries->length,
+                                                                             &entries->room, sizeof *items);
+    if (!items)
+        return DWEXPR_LIBDW_NO_MEMORY;
+    entries->items = items;
     entries->items[entries->length].entry = *entry;
     entries->items[entries->length++].level = level;
     return 0;

@@ -33,6 +33,9 @@ void dwexpr_libdw_bytes_of(uint64_t number, size_t size, int big_endian, uint8_t
 
 /* ---- expressions.c */
 
+/* Makes room for one more item. Gives back the items, or NULL if there is no memory. */
+void *dwexpr_libdw_with_room(void *items, size_t length, size_t *room, size_t size);
+
 /* A list of memory. */
 struct dwexpr_libdw_memory {
     struct dwexpr_libdw_memory *next;

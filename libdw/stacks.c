@@ -215,17 +215,6 @@ static int find_tls(void *context, Dwfl_Module *module, uint64_t offset, uint64_
 
 /* ---- the way through the frames */
 
-/* Makes room for one more item. Gives back the items, or NULL if there is no memory. */
-static void *with_room(void *items, size_t length, size_t *room, size_t size)
-{
-    void *more = items;
-    if (length == *room) {
-        more = realloc(items, (2 * *room + 32) * size);
-        *room = more ? 2 * *room + 32 : *room;
-    }
-    return more;
-}
-
 /* The sets of a process's thread, which is stopped on the way. */
 static uint32_t trace_sets(dwexpr_libdw_stack *stack)
 {
@@ -234,9 +223,7 @@ static uint32_t trace_sets(dwexpr_libdw_stack *stack)
     uint32_t code = bytes ? 0 : DWEXPR_LIBDW_NO_MEMORY;
     int set;
     for (set = GENERAL; set < SETS && !code; set++) {
-        struct iovec part;
-        part.iov_base = bytes;
-        part.iov_len = room;
+        struct iovec part = {bytes, room};
         if (!ptrace(PTRACE_GETREGSET, stack->thread, (void *)(uintptr_t)dwexpr_libdw_note_types[set], &part))
             code = dwexpr_libdw_keep_set(&stack->sets, (enum set)set, bytes, part.iov_len);
     }
@@ -253,8 +240,8 @@ static uint32_t add_registers(dwexpr_libdw_stack *stack, Dwfl_Frame *state, stru
         struct known_register *registers;
         if (dwfl_frame_reg(state, number, &content))
             continue;
-        registers = (struct known_register *)with_room(stack->registers, stack->register_length,
-                                                       &stack->register_room, sizeof *registers);
+        registers = (struct known_register *)dwexpr_libdw_with_room(stack->registers, stack->register_length,
+                                                                    &stack->register_room, sizeof *registers);
         if (!registers)
             return DWEXPR_LIBDW_NO_MEMORY;
         stack->registers = registers;
@@ -269,9 +256,9 @@ static int on_frame(Dwfl_Frame *state, void *given)
 {
     dwexpr_libdw_stack *stack = (dwexpr_libdw_stack *)given;
     struct stack_frame *frames;
-    dwexpr_libdw_source source;
+    dwexpr_libdw_source source = {.dwfl = stack->target->dwfl, .read_register = read_register,
+                                  .read_memory = read_memory, .find_tls = find_tls};
     bool is_activation;
-    memset(&source, 0, sizeof source);
     if (stack->length == stack->most) {
         stack->code = DWEXPR_LIBDW_TOO_MANY_FRAMES;
         return DWARF_CB_ABORT;
@@ -280,7 +267,8 @@ static int on_frame(Dwfl_Frame *state, void *given)
         return DWARF_CB_ABORT;
     if (!stack->length && !stack->target->core)
         stack->code = trace_sets(stack);
-    frames = (struct stack_frame *)with_room(stack->frames, stack->length, &stack->room, sizeof *frames);
+    frames = (struct stack_frame *)dwexpr_libdw_with_room(stack->frames, stack->length, &stack->room,
+                                                          sizeof *frames);
     if (!frames || stack->code) {
         stack->code = DWEXPR_LIBDW_NO_MEMORY;
         return DWARF_CB_ABORT;
@@ -289,11 +277,7 @@ static int on_frame(Dwfl_Frame *state, void *given)
     frames += stack->length++;
     memset(frames, 0, sizeof *frames);
     frames->stack = stack;
-    source.dwfl = stack->target->dwfl;
     source.is_activation = is_activation;
-    source.read_register = read_register;
-    source.read_memory = read_memory;
-    source.find_tls = find_tls;
     dwexpr_libdw_begin_frame(&frames->frame, &source);
     stack->code = add_registers(stack, state, frames);
     return stack->code ? DWARF_CB_ABORT : DWARF_CB_OK;

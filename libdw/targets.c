@@ -235,14 +235,11 @@ static void read_process_header(dwexpr_libdw_target *target)
 static int on_thread(Dwfl_Thread *thread, void *given)
 {
     dwexpr_libdw_target *target = (dwexpr_libdw_target *)given;
-    if (target->thread_count == target->thread_room) {
-        const size_t room = 2 * target->thread_room + 16;
-        pid_t *threads = (pid_t *)realloc(target->threads, room * sizeof *threads);
-        if (!threads)
-            return DWARF_CB_ABORT;
-        target->threads = threads;
-        target->thread_room = room;
-    }
+    pid_t *threads = (pid_t *)dwexpr_libdw_with_room(target->threads, target->thread_count, &target->thread_room,
+                                                     sizeof *threads);
+    if (!threads)
+        return DWARF_CB_ABORT;
+    target->threads = threads;
     target->threads[target->thread_count++] = dwfl_thread_tid(thread);
     return DWARF_CB_OK;
 }

@@ -2,9 +2,8 @@
 
 use dwexpr::EvaluationResult::*;
 use dwexpr::{
-    Encoding, EndianSlice, Error, Evaluation, Format, LittleEndian, Location, Piece, SliceVec, StoreInSlices,
+    Encoding, EndianSlice, Error, Evaluation, Format, LittleEndian, Location, Piece, SliceVec, StoreInSlices, Value,
 };
-use dwexpr::{Register, Value};
 
 const ENCODING: Encoding = Encoding { address_size: 8, format: Format::Dwarf32, version: 5 };
 
@@ -30,12 +29,6 @@ fn expressions_are_evaluated_without_a_heap() {
     assert_eq!(evaluation.resume_with_at_location(little(&[0x31])), Ok(Complete));
     assert_eq!(evaluation.value_result(), Some(Value::Generic(0x2ff1)));
     assert_eq!(evaluation.as_result()[0].location, Location::Address { address: 0x2ff1 });
-    // DW_OP_reg1 with 4 bytes, and DW_OP_reg2 with 8.
-    evaluation.restart(little(&[0x51, 0x93, 4, 0x52, 0x93, 8]), ENCODING);
-    assert_eq!(evaluation.evaluate(), Ok(Complete));
-    let [first, second] = evaluation.as_result() else { panic!() };
-    assert_eq!((first.location, first.size_in_bits), (Location::Register { register: Register(1) }, Some(32)));
-    assert_eq!((second.location, second.size_in_bits), (Location::Register { register: Register(2) }, Some(64)));
     // DW_OP_lit1, four times.
     evaluation.restart(little(&[0x31; 4]), ENCODING);
     assert_eq!(evaluation.evaluate(), Err(Error::StackFull));

@@ -1,6 +1,7 @@
 //! Expressions with settings and answers, and the lines that say them, in the words and steps of the program `dwexpr`.
 
 use crate::archive::{Encoding, Step};
+use crate::shown::value_of;
 use std::fmt;
 
 /// The name and the operand of each step, by its kind from 1 on.
@@ -180,16 +181,7 @@ impl fmt::Display for Case {
 }
 
 /// The number of a value in the range of its type.
-fn in_type(step: &Step) -> i128 {
-    let number = step.number;
-    match step.value_type {
-        2 => (number as i8).into(),
-        3 => (number as u8).into(),
-        4 => (number as i16).into(),
-        5 => (number as u16).into(),
-        6 => (number as i32).into(),
-        7 => (number as u32).into(),
-        8 => (number as i64).into(),
-        _ => number.into(),
-    }
+fn in_type(step: &Step) -> String {
+    let value = format!("{:?}", value_of(step.value_type, step.number));
+    value.split(['(', ')']).nth(1).expect("a value shows its number").to_owned()
 }

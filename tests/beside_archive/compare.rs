@@ -8,7 +8,7 @@ use crate::numbers::Numbers;
 use crate::shown::{self, Text, number_within, once, type_of, value_of};
 use dwexpr::{
     Encoding, Evaluation, EvaluationResult, EvaluationStorage, Expression, Format, Operation, Piece, RunTimeEndian,
-    SliceVec, StoreInSlices, StoreOnHeap, Value, ValueType,
+    SliceVec, Status, StoreInSlices, StoreOnHeap, Value, ValueType, WaitingKind,
 };
 use std::fmt::Debug;
 use std::panic::{AssertUnwindSafe, catch_unwind};
@@ -70,20 +70,14 @@ fn decode(case: &Case, index: usize, met: &mut Met) -> Compared {
         let archive = archive::decode(text, case.encoding, offset);
         met.operation(&archive);
         let mut rest = Text::new(&text[offset..], whole.endian());
-        let parsed = match Operation::parse(&mut rest, encoding_of(case)) {
-            Ok(operation) => shown::operation(operation, text, offset, text.len() - offset - rest.slice().len()),
-            Err(error) => shown::undecoded(error, text, offset),
-        };
-        same("an operation", &archive, &parsed)?;
+        let parsed = Operation::parse(&mut rest, encoding_of(case));
+        let shown = shown::operation(parsed, text, offset, text.len() - offset - rest.slice().len());
+        same("an operation", &archive, &shown)?;
         if offset == next {
             let item = operations.next();
             next = operations.offset_from(&Expression(whole));
-            let parsed = match item {
-                Ok(Some(operation)) => shown::operation(operation, text, offset, next - offset),
-                Ok(None) => archive::Operation::default(),
-                Err(error) => shown::undecoded(error, text, offset),
-            };
-            same("an operation of the iterator", &archive, &parsed)?;
+            let shown = item.transpose().map(|parsed| shown::operation(parsed, text, offset, next - offset));
+            same("an operation of the iterator", &Some(archive), &shown)?;
             let after = if archive.fault == 0 { offset + archive.size } else { text.len() };
             same("the place of the iterator", &after, &next)?;
         }
@@ -98,28 +92,21 @@ trait Argument<'a> {
     fn of(step: &Step, case: &'a Case) -> Self;
 }
 
-impl Argument<'_> for u64 {
-    fn of(step: &Step, _: &Case) -> Self {
-        step.number
-    }
+macro_rules! arguments {
+    ($($type:ty: |$step:ident, $case:ident| $argument:expr;)+) => {
+        $(impl<'a> Argument<'a> for $type {
+            fn of($step: &Step, $case: &'a Case) -> Self {
+                $argument
+            }
+        })+
+    };
 }
 
-impl Argument<'_> for Value {
-    fn of(step: &Step, _: &Case) -> Self {
-        value_of(step.value_type, step.number)
-    }
-}
-
-impl Argument<'_> for ValueType {
-    fn of(step: &Step, _: &Case) -> Self {
-        type_of(step.value_type)
-    }
-}
-
-impl<'a> Argument<'a> for Text<'a> {
-    fn of(step: &Step, case: &'a Case) -> Self {
-        text_of(case, step.text)
-    }
+arguments! {
+    u64: |step, _case| step.number;
+    Value: |step, _case| value_of(step.value_type, step.number);
+    ValueType: |step, _case| type_of(step.value_type);
+    Text<'a>: |step, case| text_of(case, step.text);
 }
 
 macro_rules! resume {
@@ -130,8 +117,12 @@ macro_rules! resume {
             case: &'a Case,
             step: &Step,
         ) -> Answered<'a> {
+            let status = evaluation.status();
             $(if step.kind == once!(number_within("DWEXPR_ANSWER_", stringify!($name))) {
-                return evaluation.$name(Argument::of(step, case));
+                let answered = evaluation.$name(Argument::of(step, case));
+                // The call was in turn, since it didn't panic.
+                assert!(matches!(status, Status::Waiting(WaitingKind::$kind) | Status::Failed(_)), "{status:?}");
+                return answered;
             })+
             unreachable!("there is no step of kind {}", step.kind)
         }

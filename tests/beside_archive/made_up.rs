@@ -3,6 +3,7 @@
 use crate::archive::{COMPLETE, Encoding, Outcome, Step};
 use crate::cases::{Answers, Case, EVALUATE, INITIAL_VALUE, LAST_ANSWER, MAXIMUM, OBJECT_ADDRESS};
 use crate::numbers::Numbers;
+use std::sync::LazyLock;
 
 /// A kind of cases.
 pub struct Kind {
@@ -22,63 +23,12 @@ pub const KINDS: [Kind; 9] = [
     Kind { name: "settings and answers out of turn", make: Maker::out_of_turn },
 ];
 
-/// The opcodes of DWARF 5, section 7.7.1, and those of GNU and WebAssembly: the first and the last of some, and a sign
-/// for each operand. `1`, `2`, `4` and `8` are as many bytes, `a` an address, `o` an offset, `p` an offset that is an
-/// address in version 2, `u` and `s` LEB128 numbers without and with a sign, `r` a register, `t` a base type, `b` a
-/// block, `l` a literal of the type before it, and `w` a kind of WebAssembly and its index.
-const OPERANDS: [(u8, u8, &str); 51] = [
-    (0x03, 0x03, "a"),
-    (0x06, 0x06, ""),
-    (0x08, 0x09, "1"),
-    (0x0a, 0x0b, "2"),
-    (0x0c, 0x0d, "4"),
-    (0x0e, 0x0f, "8"),
-    (0x10, 0x10, "u"),
-    (0x11, 0x11, "s"),
-    (0x12, 0x14, ""),
-    (0x15, 0x15, "1"),
-    (0x16, 0x22, ""),
-    (0x23, 0x23, "u"),
-    (0x24, 0x27, ""),
-    (0x28, 0x28, "2"),
-    (0x29, 0x2e, ""),
-    (0x2f, 0x2f, "2"),
-    (0x30, 0x6f, ""),
-    (0x70, 0x8f, "s"),
-    (0x90, 0x90, "r"),
-    (0x91, 0x91, "s"),
-    (0x92, 0x92, "rs"),
-    (0x93, 0x93, "u"),
-    (0x94, 0x95, "1"),
-    (0x96, 0x97, ""),
-    (0x98, 0x98, "2"),
-    (0x99, 0x99, "4"),
-    (0x9a, 0x9a, "o"),
-    (0x9b, 0x9c, ""),
-    (0x9d, 0x9d, "uu"),
-    (0x9e, 0x9e, "b"),
-    (0x9f, 0x9f, ""),
-    (0xa0, 0xa0, "ps"),
-    (0xa1, 0xa2, "u"),
-    (0xa3, 0xa3, "b"),
-    (0xa4, 0xa4, "tl"),
-    (0xa5, 0xa5, "rt"),
-    (0xa6, 0xa7, "1t"),
-    (0xa8, 0xa9, "t"),
-    (0xe0, 0xe0, ""),
-    (0xed, 0xed, "w"),
-    (0xf0, 0xf0, ""),
-    (0xf2, 0xf2, "ps"),
-    (0xf3, 0xf3, "b"),
-    (0xf4, 0xf4, "tl"),
-    (0xf5, 0xf5, "rt"),
-    (0xf6, 0xf6, "1t"),
-    (0xf7, 0xf7, "t"),
-    (0xf9, 0xf9, "t"),
-    (0xfa, 0xfa, "4"),
-    (0xfb, 0xfc, "u"),
-    (0xfd, 0xfd, "o"),
-];
+/// The form of the operands of each opcode, as the header has it.
+static FORMS: LazyLock<Vec<u8>> = LazyLock::new(|| {
+    let header = include_str!("../../include/dwexpr_names.h");
+    let table = header.split_once("char forms[] =").and_then(|(_, rest)| rest.split_once(';'));
+    table.expect("the header has a table of forms").0.split('"').skip(1).step_by(2).flat_map(str::bytes).collect()
+});
 
 /// `lit0`, `lit1`, `lit31`, all constants, `dup`, `over`, `pick`.
 const CONSTANTS: [u8; 15] = [0x30, 0x31, 0x4f, 0x08, 0x09, 0x0a, 0x0b, 0x0c, 0x0d, 0x0e, 0x0f, 0x10, 0x11, 0x12, 0x14];
@@ -287,11 +237,7 @@ impl Maker {
             let near = self.numbers.below(48) as i64 - 24;
             let start = self.numbers.one_of(&starts) as i64;
             let target = if self.numbers.one_in(16) { near } else { start - (branch as i64 + 3) };
-            let bytes = if self.encoding.big_endian == 1 {
-                (target as i16).to_be_bytes()
-            } else {
-                (target as i16).to_le_bytes()
-            };
+            let bytes = self.in_order(target as u64, 2);
             self.bytes[branch + 1..branch + 3].copy_from_slice(&bytes);
         }
     }
@@ -485,52 +431,71 @@ impl Maker {
         }
     }
 
+    /// An opcode that is known. Those of literals and registers are many.
     fn any_opcode(&mut self) -> u8 {
-        let (first, last, _) = self.numbers.one_of(&OPERANDS);
-        first + self.numbers.below(usize::from(last - first) + 1) as u8
+        loop {
+            let opcode = self.numbers.byte();
+            let is_rare = matches!(opcode, 0x30..0x90) && !self.numbers.one_in(16);
+            if FORMS[usize::from(opcode)] != b'.' && !is_rare {
+                return opcode;
+            }
+        }
     }
 
     /// An operation with made-up operands.
     fn operation(&mut self, opcode: u8) {
         self.bytes.push(opcode);
-        let known = OPERANDS.iter().find(|(first, last, _)| (*first..=*last).contains(&opcode));
-        let mut type_size = 0;
-        for operand in known.expect("each opcode that is asked for has a line").2.bytes() {
-            match operand {
-                b'1' => self.byte_operand(opcode),
-                b'2' => self.fixed(2),
-                b'4' => self.fixed(4),
-                b'8' => self.fixed(8),
-                b'a' => self.fixed(self.encoding.address_size.into()),
-                b'o' => self.fixed(self.encoding.offset_size.into()),
-                b'p' if self.encoding.version == 2 => self.fixed(self.encoding.address_size.into()),
-                b'p' => self.fixed(self.encoding.offset_size.into()),
-                b'u' => {
-                    let number = self.numbers.edge();
-                    self.unsigned(number);
-                }
-                b's' => {
-                    let number = self.numbers.edge().cast_signed();
-                    self.signed(number);
-                }
-                b'r' => {
-                    let register = self.numbers.edge() & if self.numbers.one_in(16) { u64::MAX } else { 0xffff };
-                    self.unsigned(register);
-                }
-                b't' => type_size = self.base_type(),
-                b'b' => {
-                    let length = self.numbers.below(6);
-                    self.unsigned(length as u64);
-                    self.any_of(length);
-                }
-                b'l' => {
-                    let length = if self.numbers.one_in(8) { self.numbers.below(10) } else { type_size };
-                    self.bytes.push(length as u8);
-                    self.any_of(length);
-                }
-                _ => self.wasm_index(),
+        self.operands(opcode, &[FORMS[usize::from(opcode)]]);
+    }
+
+    fn operands(&mut self, opcode: u8, forms: &[u8]) {
+        forms.iter().for_each(|form| self.operand(opcode, *form));
+    }
+
+    fn operand(&mut self, opcode: u8, form: u8) {
+        let Encoding { address_size, offset_size, version, .. } = self.encoding;
+        match form {
+            b'a' => self.fixed(address_size),
+            b'B' | b'b' | b'D' => self.byte_operand(opcode),
+            b'H' | b'h' | b'w' => self.fixed(2),
+            b'I' | b'i' | b'x' => self.fixed(4),
+            b'Q' | b'q' => self.fixed(8),
+            b'r' => self.fixed(offset_size),
+            b'u' | b'P' => self.any_unsigned(u64::MAX),
+            b's' => {
+                let number = self.numbers.edge().cast_signed();
+                self.signed(number);
             }
+            b'R' => {
+                let mask = if self.numbers.one_in(16) { u64::MAX } else { 0xffff };
+                self.any_unsigned(mask);
+            }
+            b'T' => _ = self.base_type(),
+            b'k' => {
+                let length = self.numbers.below(6);
+                self.unsigned(length as u64);
+                self.any_of(length);
+            }
+            b'L' => {
+                let size = self.base_type();
+                let length = if self.numbers.one_in(8) { self.numbers.below(10) } else { size };
+                self.bytes.push(length as u8);
+                self.any_of(length);
+            }
+            b'W' => self.wasm_index(),
+            b'O' => self.operands(opcode, b"Rs"),
+            b'V' => self.operands(opcode, b"RT"),
+            b'K' => self.operands(opcode, b"uu"),
+            b'E' => self.operands(opcode, b"DT"),
+            // An offset that is an address in version 2.
+            b'p' => self.operands(opcode, if version == 2 { b"as" } else { b"rs" }),
+            _ => {}
         }
+    }
+
+    fn any_unsigned(&mut self, mask: u64) {
+        let number = self.numbers.edge() & mask;
+        self.unsigned(number);
     }
 
     /// A byte. An index of `pick` and a size of a read are mostly small.
@@ -540,13 +505,16 @@ impl Maker {
         self.bytes.push(self.numbers.below(usize::from(most) + 1) as u8);
     }
 
-    fn fixed(&mut self, size: usize) {
+    fn fixed(&mut self, size: u8) {
         let number = self.numbers.edge();
-        if self.encoding.big_endian == 1 {
-            self.bytes.extend(&number.to_be_bytes()[8 - size..]);
-        } else {
-            self.bytes.extend(&number.to_le_bytes()[..size]);
-        }
+        let bytes = self.in_order(number, size.into());
+        self.bytes.extend(bytes);
+    }
+
+    /// The lowest bytes of a number, in the byte order.
+    fn in_order(&self, number: u64, size: usize) -> Vec<u8> {
+        let is_big_endian = self.encoding.big_endian == 1;
+        if is_big_endian { number.to_be_bytes()[8 - size..].to_vec() } else { number.to_le_bytes()[..size].to_vec() }
     }
 
     fn any_of(&mut self, length: usize) {
@@ -570,8 +538,8 @@ impl Maker {
         if kind == 3 {
             self.fixed(4);
         } else {
-            let index = self.numbers.edge() & if self.numbers.one_in(16) { u64::MAX } else { 0xffff_ffff };
-            self.unsigned(index);
+            let mask = if self.numbers.one_in(16) { u64::MAX } else { 0xffff_ffff };
+            self.any_unsigned(mask);
         }
     }
 

@@ -3,74 +3,61 @@
 use crate::archive::{COMPLETE, Operation, STACK_FULL, Shown};
 use std::fmt;
 
-/// How often each thing came up, by the archive's numbers.
-pub struct Met {
-    operations: [u64; 56],
-    undecoded: [u64; 9],
-    requests: [u64; 16],
-    codes: [u64; 72],
-    pieces: [u64; 7],
-    types: [u64; 10],
-}
+/// What comes up, by the archive's numbers, and how many numbers there are.
+const LISTS: [(&str, usize); 6] =
+    [("operation", 56), ("fault of decoding", 9), ("request", 16), ("code", 72), ("piece", 7), ("type", 10)];
+const OPERATIONS: usize = 0;
+const UNDECODED: usize = 1;
+const REQUESTS: usize = 2;
+const CODES: usize = 3;
+const PIECES: usize = 4;
+const TYPES: usize = 5;
+
+/// How often each thing came up, by its list.
+pub struct Met([[u64; 72]; 6]);
 
 impl Default for Met {
     fn default() -> Self {
-        Met {
-            operations: [0; 56],
-            undecoded: [0; 9],
-            requests: [0; 16],
-            codes: [0; 72],
-            pieces: [0; 7],
-            types: [0; 10],
-        }
+        Met([[0; 72]; 6])
     }
 }
 
 impl Met {
+    fn count(&mut self, list: usize, number: u32) {
+        self.0[list][number as usize] += 1;
+    }
+
     pub fn operation(&mut self, operation: &Operation) {
-        self.operations[operation.kind as usize] += 1;
-        self.undecoded[operation.fault as usize] += 1;
+        self.count(OPERATIONS, operation.kind);
+        self.count(UNDECODED, operation.fault);
     }
 
     pub fn shown(&mut self, shown: &Shown) {
-        self.codes[shown.outcome.code as usize] += 1;
-        self.requests[shown.outcome.request as usize] += 1;
-        self.types[shown.outcome.value_type as usize] += 1;
+        self.count(CODES, shown.outcome.code);
+        self.count(REQUESTS, shown.outcome.request);
+        self.count(TYPES, shown.outcome.value_type);
         for piece in shown.pieces() {
-            self.pieces[piece.kind as usize] += 1;
+            self.count(PIECES, piece.kind);
         }
     }
 
-    fn lists(&mut self) -> [(&'static str, &mut [u64]); 6] {
-        [
-            ("operation", &mut self.operations),
-            ("fault of decoding", &mut self.undecoded),
-            ("request", &mut self.requests),
-            ("code", &mut self.codes),
-            ("piece", &mut self.pieces),
-            ("type", &mut self.types),
-        ]
-    }
-
-    pub fn add(&mut self, mut other: Met) {
-        for ((_, sums), (_, counts)) in self.lists().into_iter().zip(other.lists()) {
-            sums.iter_mut().zip(counts).for_each(|(sum, count)| *sum += *count);
-        }
+    pub fn add(&mut self, other: Met) {
+        self.0.iter_mut().flatten().zip(other.0.iter().flatten()).for_each(|(sum, count)| *sum += count);
     }
 
     /// The names of all that can come up and never did. No offset has more than 64 bits, each piece has a kind, and the
     /// archive is given allowed arguments alone.
-    pub fn missing(&mut self) -> Vec<String> {
-        let can_be = |list: &str, number: usize| match list {
-            "fault of decoding" => number != 5,
-            "code" => matches!(number, 0..=4 | 6..=21 | 68),
-            "piece" => number != 0,
+    pub fn missing(&self) -> Vec<String> {
+        let can_be = |list: usize, number: usize| match list {
+            UNDECODED => number != 5,
+            CODES => matches!(number, 0..=4 | 6..=21 | 68),
+            PIECES => number != 0,
             _ => true,
         };
         let mut missing = Vec::new();
-        for (list, counts) in self.lists() {
-            let numbers = (0..counts.len()).filter(|number| counts[*number] == 0 && can_be(list, *number));
-            missing.extend(numbers.map(|number| format!("{list} {number}")));
+        for (list, (name, length)) in LISTS.iter().enumerate() {
+            let numbers = (0..*length).filter(|number| self.0[list][*number] == 0 && can_be(list, *number));
+            missing.extend(numbers.map(|number| format!("{name} {number}")));
         }
         missing
     }
@@ -78,11 +65,10 @@ impl Met {
 
 impl fmt::Display for Met {
     fn fmt(&self, f: &mut fmt::Formatter<'_>) -> fmt::Result {
-        let operations: u64 = self.operations[1..].iter().sum();
-        let requests: u64 = self.requests[COMPLETE as usize + 1..].iter().sum();
-        let complete = self.requests[COMPLETE as usize];
-        let faults: u64 = self.codes[1..=STACK_FULL as usize].iter().sum();
-        let pieces: u64 = self.pieces.iter().sum();
+        let sum = |list: usize, from: u32| self.0[list][from as usize..].iter().sum::<u64>();
+        let (operations, requests) = (sum(OPERATIONS, 1), sum(REQUESTS, COMPLETE + 1));
+        let complete = self.0[REQUESTS][COMPLETE as usize];
+        let (faults, pieces) = (sum(CODES, 1) - sum(CODES, STACK_FULL + 1), sum(PIECES, 0));
         write!(
             f,
             "{operations} operations, {requests} requests, {complete} completions, {pieces} pieces, {faults} faults"

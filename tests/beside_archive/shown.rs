@@ -30,21 +30,14 @@ pub fn value_of(code: u32, content: u64) -> Value {
     Value::from_u64(type_of(code), content).expect("each type of integers has such a value")
 }
 
+/// The code of a type.
+pub fn code_of_type(value_type: ValueType) -> u32 {
+    TYPES.iter().position(|it| *it == value_type).expect("the archive has the type") as u32 + 1
+}
+
 pub fn numbers_of(value: Value) -> archive::Value {
-    let (value_type, content) = match value {
-        Value::Generic(content) => (1, content),
-        Value::I8(number) => (2, number as u64),
-        Value::U8(number) => (3, number.into()),
-        Value::I16(number) => (4, number as u64),
-        Value::U16(number) => (5, number.into()),
-        Value::I32(number) => (6, number as u64),
-        Value::U32(number) => (7, number.into()),
-        Value::I64(number) => (8, number as u64),
-        Value::U64(number) => (9, number),
-        #[allow(unreachable_patterns)]
-        other => panic!("the archive has no {other:?}"),
-    };
-    archive::Value { value_type, content }
+    let content = value.to_u64(u64::MAX).expect("each value of integers has a number");
+    archive::Value { value_type: code_of_type(value.value_type()), content }
 }
 
 /// The number of the one constant of the header whose name begins so, and whose rest is accepted.
@@ -91,16 +84,10 @@ macro_rules! once {
 }
 pub(crate) use once;
 
-/// What operations, replies and errors carry, under the names of the archive's fields.
+/// What operations, replies and errors carry, in the archive's fields of an operation. A space is there as its detail.
 #[derive(Default)]
 struct Fields<'a> {
-    number: u64,
-    signed_number: i64,
-    base_type: u64,
-    register_number: u32,
-    size: u32,
-    flag: u32,
-    bit_offset_or_space: u64,
+    of: archive::Operation,
     block: Option<Text<'a>>,
 }
 
@@ -121,24 +108,24 @@ macro_rules! parts {
 }
 
 parts! {
-    u8: |it, name, shown| if name == "size" { shown.size = it.into() } else { shown.number = it.into() };
-    u32: |it, _name, shown| shown.number = it.into();
-    u64: |it, _name, shown| shown.number = it;
-    i16: |it, _name, shown| shown.signed_number = it.into();
-    i64: |it, _name, shown| shown.signed_number = it;
-    bool: |it, _name, shown| shown.flag = it.into();
-    Option<u64>: |it, _name, shown| (shown.flag, shown.bit_offset_or_space) = option(it);
-    DwOp: |it, _name, shown| shown.number = it.0.into();
+    u8: |it, name, shown| if name == "size" { shown.of.deref_size = it.into() } else { shown.of.number = it.into() };
+    u32: |it, _name, shown| shown.of.number = it.into();
+    u64: |it, _name, shown| shown.of.number = it;
+    i16: |it, _name, shown| shown.of.signed_number = it.into();
+    i64: |it, _name, shown| shown.of.signed_number = it;
+    bool: |it, _name, shown| shown.of.flag = it.into();
+    Option<u64>: |it, _name, shown| (shown.of.flag, shown.of.detail) = option(it);
+    DwOp: |it, _name, shown| shown.of.number = it.0.into();
     ReaderOffsetId: |_it, _name, _shown| ();
-    Register: |it, _name, shown| shown.register_number = it.0.into();
-    DebugAddrIndex: |it, _name, shown| shown.number = it.0 as u64;
-    DebugInfoOffset: |it, _name, shown| shown.number = it.0 as u64;
+    Register: |it, _name, shown| shown.of.register_number = it.0.into();
+    DebugAddrIndex: |it, _name, shown| shown.of.number = it.0 as u64;
+    DebugInfoOffset: |it, _name, shown| shown.of.number = it.0 as u64;
     UnitOffset: |it, name, shown| if matches!(name, "base_type" | "RequiresBaseType") {
-        shown.base_type = it.0 as u64;
+        shown.of.base_type = it.0 as u64;
     } else {
-        shown.number = it.0 as u64;
+        shown.of.number = it.0 as u64;
     };
-    DieReference: |it, _name, shown| (shown.number, shown.flag) = match it {
+    DieReference: |it, _name, shown| (shown.of.number, shown.of.flag) = match it {
         DieReference::UnitRef(offset) => (offset.0 as u64, 0),
         DieReference::DebugInfoRef(offset) => (offset.0 as u64, 1),
     };
@@ -198,7 +185,7 @@ replies!(request_and_fields);
 /// The code of a fault, and the number that it carries.
 pub fn code_of(error: Error) -> (u32, u64) {
     let mut fields = Fields::default();
-    (code_and_fields(error, &mut fields), fields.number)
+    (code_and_fields(error, &mut fields), fields.of.number)
 }
 
 /// Where a part of a text begins in it.
@@ -213,33 +200,32 @@ fn place_among(texts: &[Vec<u8>], part: &[u8]) -> (usize, usize) {
     places.next().expect("each block is a part of a text")
 }
 
-/// An operation of `size` bytes at an offset of a text.
-pub fn operation(operation: Operation<Text<'_>>, text: &[u8], offset: usize, size: usize) -> archive::Operation {
+/// An operation of `size` bytes at an offset of a text, or the fault of the bytes there.
+pub fn operation(
+    parsed: dwexpr::Result<Operation<Text<'_>>>,
+    text: &[u8],
+    offset: usize,
+    size: usize,
+) -> archive::Operation {
     let mut fields = Fields::default();
-    let kind = kind_and_fields(operation, &mut fields);
+    let opcode = text[offset].into();
+    let kind = match parsed {
+        Ok(operation) => kind_and_fields(operation, &mut fields),
+        Err(error) => {
+            let (fault, detail) = code_of(error);
+            return archive::Operation { offset, opcode, fault, detail, ..archive::Operation::default() };
+        }
+    };
     let place = |block: Text<'_>| place_in(text, block.slice()).expect("a block is a part of its text");
     archive::Operation {
         offset,
         size,
-        opcode: text[offset].into(),
+        opcode,
         kind,
-        number: fields.number,
-        signed_number: fields.signed_number,
-        base_type: fields.base_type,
-        register_number: fields.register_number,
-        deref_size: fields.size,
-        flag: fields.flag,
-        fault: 0,
         block_offset: fields.block.map_or(0, place),
         block_length: fields.block.map_or(0, |block| block.len()),
-        detail: fields.bit_offset_or_space,
+        ..fields.of
     }
-}
-
-/// A fault of the bytes at an offset of a text.
-pub fn undecoded(error: Error, text: &[u8], offset: usize) -> archive::Operation {
-    let (fault, detail) = code_of(error);
-    archive::Operation { offset, opcode: text[offset].into(), fault, detail, ..archive::Operation::default() }
 }
 
 /// Whether there is a number, and the number or 0.
@@ -258,12 +244,12 @@ pub fn reply(reply: EvaluationResult<Text<'_>>, texts: &[Vec<u8>]) -> archive::O
     let (block_text, block_offset) = fields.block.map_or((0, 0), |block| place_among(texts, block.slice()));
     archive::Outcome {
         request,
-        number: fields.number,
-        base_type: fields.base_type,
-        space: fields.bit_offset_or_space,
-        register_number: fields.register_number,
-        size: fields.size,
-        flag: fields.flag,
+        number: fields.of.number,
+        base_type: fields.of.base_type,
+        space: fields.of.detail,
+        register_number: fields.of.register_number,
+        size: fields.of.deref_size,
+        flag: fields.of.flag,
         block_text,
         block_offset,
         block_length: fields.block.map_or(0, |block| block.len()),

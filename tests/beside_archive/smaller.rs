@@ -9,18 +9,7 @@ use crate::met::Met;
 const PLAIN: Encoding = Encoding { address_size: 8, offset_size: 4, big_endian: 0, version: 5 };
 
 /// A change that leaves less of a case.
-enum Change {
-    /// A plain encoding.
-    Plain,
-    /// Only this text.
-    Alone(usize),
-    /// Not this step.
-    Step(usize),
-    /// A plain number in this step.
-    Number(usize),
-    /// Not these bytes of a text: from a place, so many.
-    Bytes(usize, usize, usize),
-}
+type Change = Box<dyn Fn(&mut Case)>;
 
 /// The smallest case that the changes lead to and that differs still, and its difference. A case that differs only
 /// after others comes back as it is.
@@ -38,34 +27,37 @@ pub fn of(case: &Case, difference: Difference) -> (Case, Difference) {
     }
 }
 
+/// A plain encoding, a text alone, a step less, some bytes of a text less, and a plain number in a step.
 fn changes(case: &Case) -> Vec<Change> {
-    let mut changes = vec![Change::Plain];
-    changes.extend((0..case.texts.len()).map(Change::Alone));
-    changes.extend((0..case.steps.len()).rev().map(Change::Step));
+    let mut changes: Vec<Change> = vec![Box::new(|case| case.encoding = PLAIN)];
+    for text in 0..case.texts.len() {
+        changes.push(Box::new(move |case| {
+            case.texts = vec![case.texts.swap_remove(text)];
+            case.steps.iter_mut().for_each(|step| step.text = 0);
+        }));
+    }
+    for index in (0..case.steps.len()).rev() {
+        changes.push(Box::new(move |case| _ = case.steps.remove(index)));
+    }
     for (text, bytes) in case.texts.iter().enumerate() {
         let mut size = bytes.len();
         while size > 0 {
-            changes.extend((0..=bytes.len() - size).rev().step_by(size).map(|place| Change::Bytes(text, place, size)));
+            for place in (0..=bytes.len() - size).rev().step_by(size) {
+                changes.push(Box::new(move |case| _ = case.texts[text].drain(place..place + size)));
+            }
             size /= 2;
         }
     }
-    changes.extend((0..case.steps.len()).map(Change::Number));
+    for index in 0..case.steps.len() {
+        changes.push(Box::new(move |case| case.steps[index].number = case.steps[index].number.min(1)));
+    }
     changes
 }
 
 /// The changed case and its difference, if it is another case and differs still.
 fn changed(case: &Case, change: Change) -> Option<(Case, Difference)> {
     let mut smaller = case.clone();
-    match change {
-        Change::Plain => smaller.encoding = PLAIN,
-        Change::Alone(text) => {
-            smaller.texts = vec![smaller.texts.swap_remove(text)];
-            smaller.steps.iter_mut().for_each(|step| step.text = 0);
-        }
-        Change::Step(index) => _ = smaller.steps.remove(index),
-        Change::Number(index) => smaller.steps[index].number = smaller.steps[index].number.min(1),
-        Change::Bytes(text, place, size) => _ = smaller.texts[text].drain(place..place + size),
-    }
+    change(&mut smaller);
     if smaller == *case || !smaller.is_bounded() {
         return None;
     }

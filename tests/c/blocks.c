@@ -1,11 +1,10 @@
-/* Each block of an operation, of a request and of a piece is where it was decoded, though the same bytes may be
- * elsewhere too: in made-up evaluations of up to 24 texts of up to 600 bytes; at each place, in each text and after
- * each branch up to 70,000, and then about each power of two; and under as many callers as may wait. */
+/* Each block of a request and of a piece is where it was decoded, though the same bytes may be elsewhere too: in made-up
+ * evaluations of up to 24 texts of up to 600 bytes; at each place, in each text and after each branch up to 70,000, and
+ * then about each power of two; and under as many callers as may wait. */
 #define _DEFAULT_SOURCE
 #include <sys/mman.h>
 
 #include "check.h"
-#include "dwexpr_run.h"
 
 enum { ROUNDS = 20000, TEXTS = 24, BYTES = 600, MOST = DWEXPR_MAX_PIECES };
 
@@ -159,27 +158,6 @@ static void compare_pieces(const struct block *met, size_t count, const dwexpr_o
     bad += i != outcome->pieces;
 }
 
-/* Each block of a text, as it is decoded. */
-static void decode(size_t index)
-{
-    const struct text *text = &made[index];
-    dwexpr_operation operation;
-    size_t at, i = 0;
-    for (at = 0; at < text->length; at += operation.size) {
-        if (dwexpr_decode(text->bytes, text->length, encoding, at, &operation)) {
-            bad++;
-            return;
-        }
-        while (i < text->parts && text->part[i].length == SIZE_MAX)
-            i++;
-        if (operation.kind == DWEXPR_OP_IMPLICIT_VALUE || operation.kind == DWEXPR_OP_ENTRY_VALUE) {
-            const struct block *want = &text->part[i++];
-            bad += i > text->parts || want->is_piece != (operation.kind == DWEXPR_OP_IMPLICIT_VALUE) ||
-                   !is_at(want, index, operation.block_offset, operation.block_length);
-        }
-    }
-}
-
 /* By dwexpr_evaluate with all steps so far, and by an evaluation that is held. */
 static void evaluate(const struct block *met, size_t count, dwexpr_evaluation *held)
 {
@@ -216,62 +194,15 @@ static void evaluate(const struct block *met, size_t count, dwexpr_evaluation *h
     bad++;
 }
 
-/* The blocks that a run has still to ask for. */
-struct asked {
-    const struct block *met;
-    size_t count, at;
-};
-
-static int give_text(void *context, int in_debug_info, uint64_t offset, dwexpr_text *text)
-{
-    (void)context;
-    (void)in_debug_info;
-    *text = texts[offset];
-    return 0;
-}
-
-static int give_entry(void *context, const uint8_t *bytes, size_t length, uint64_t *content)
-{
-    struct asked *asked = context;
-    const struct block *want = next(asked->met, asked->count, &asked->at, 0);
-    *content = 0;
-    bad += !want || length != want->length || (length && bytes != made[want->text].bytes + want->offset);
-    return 0;
-}
-
-/* By callbacks: the table of texts is another. */
-static void run(const struct block *met, size_t count)
-{
-    static dwexpr_piece pieces[DWEXPR_MAX_PIECES];
-    const dwexpr_callbacks calls = {.location = give_text, .entry_value = give_entry};
-    struct asked asked = {met, count, 0};
-    dwexpr_text items[64];
-    dwexpr_texts table = {items, 64, 0};
-    dwexpr_outcome outcome;
-    const struct block *want;
-    size_t at = 0, i = 0;
-    bad += dwexpr_run(texts[0], encoding, &calls, &asked, NULL, &table, &outcome, pieces, DWEXPR_MAX_PIECES) != 0;
-    while ((want = next(met, count, &at, 1)) && i < DWEXPR_MAX_PIECES) {
-        dwexpr_text block = dwexpr_piece_block(&pieces[i], table.items, table.length);
-        bad += block.length != want->length;
-        bad += block.length && block.bytes != made[want->text].bytes + want->offset;
-        i++;
-    }
-    bad += i != outcome.pieces;
-}
-
 /* Evaluates the texts that were made. */
-static void try_made(size_t last, dwexpr_evaluation *held)
+static void try_made(dwexpr_evaluation *held)
 {
     static struct block met[MOST];
     size_t count = 0, i;
     flatten(0, met, &count);
-    for (i = 0; i < last; i++)
-        decode(i);
     for (i = 0; i < count; i++)
         count_seen(&met[i]);
     evaluate(met, count, held);
-    run(met, count);
 }
 
 static void make_up(dwexpr_evaluation *held)
@@ -284,7 +215,7 @@ static void make_up(dwexpr_evaluation *held)
         memset(texts, 0, sizeof texts);
         for (i = last; i--;)
             make(i, last);
-        try_made(last, held);
+        try_made(held);
     }
     check(bad == 0, name, "each block is where it was decoded");
     check(pieces_seen > ROUNDS && requests_seen > ROUNDS, name, "many pieces and requests");
@@ -310,7 +241,7 @@ static void make_deep(dwexpr_evaluation *held)
             put_block(&made[i], i, callers % 2 || !i, 2);
             texts[i].bytes = made[i].bytes, texts[i].length = made[i].length;
         }
-        try_made(last, held);
+        try_made(held);
     }
     check(bad == 0, "callers", "each block is where it was decoded");
 }
@@ -452,7 +383,7 @@ int main(void)
         perror("blocks");
         exit(2);
     }
-    encoding = encoding_of(8, 4, 5, 0);
+    encoding = LE8;
     table[0].bytes = room;
     try_places(&held);
     try_branches(&held);

@@ -8,6 +8,9 @@
 
 #include "dwexpr.h"
 
+#define COUNT(rows) (sizeof(rows) / sizeof *(rows))
+#define LE8 encoding_of(8, 4, 5, 0)
+
 static int passed, failed;
 
 static void check(int holds, const char *name, const char *what)
@@ -28,11 +31,8 @@ static int finish(void)
 
 static inline dwexpr_encoding encoding_of(int address_size, int offset_size, int version, int big_endian)
 {
-    dwexpr_encoding encoding;
-    encoding.address_size = (uint8_t)address_size;
-    encoding.offset_size = (uint8_t)offset_size;
-    encoding.big_endian = (uint8_t)big_endian;
-    encoding.version = (uint8_t)version;
+    const dwexpr_encoding encoding = {(uint8_t)address_size, (uint8_t)offset_size, (uint8_t)big_endian,
+                                      (uint8_t)version};
     return encoding;
 }
 
@@ -40,18 +40,18 @@ static inline dwexpr_encoding encoding_of(int address_size, int offset_size, int
 static inline size_t bytes_of(const char *digits, uint8_t *bytes)
 {
     size_t count = 0;
-    while (*digits) {
-        char two[3] = {0, 0, 0};
-        if (*digits == ' ') {
-            digits++;
-            continue;
-        }
-        two[0] = digits[0];
-        two[1] = digits[1];
-        bytes[count++] = (uint8_t)strtoul(two, NULL, 16);
-        digits += 2;
-    }
+    int read = 0;
+    for (; sscanf(digits, "%2hhx%n", &bytes[count], &read) == 1; digits += read)
+        count++;
     return count;
+}
+
+/* Whether an operation that a call decoded doesn't fit that call's code or the length of its text. */
+static inline int bad_operation(const dwexpr_operation *op, uint32_t code, size_t length)
+{
+    return code != op->fault || (code == 0) != (op->kind != DWEXPR_OP_NONE) || (code == 0) != (op->size != 0) ||
+           op->offset > length || op->size > length - op->offset ||
+           (op->block_length && op->block_offset + op->block_length != op->offset + op->size);
 }
 
 /* Whether two structs have the same fields. There may be room between them that nothing sets. */
@@ -84,6 +84,30 @@ static inline uint64_t any(void)
     state ^= state >> 7;
     state ^= state << 17;
     return state;
+}
+
+/* The step that answers a request; of none and of one that is complete the start. */
+static inline uint32_t answer_of(uint32_t request)
+{
+    static const uint32_t answers[] = {
+        [DWEXPR_NOTHING] = DWEXPR_EVALUATE,
+        [DWEXPR_COMPLETE] = DWEXPR_EVALUATE,
+        [DWEXPR_WANTS_MEMORY] = DWEXPR_ANSWER_MEMORY,
+        [DWEXPR_WANTS_REGISTER] = DWEXPR_ANSWER_REGISTER,
+        [DWEXPR_WANTS_FRAME_BASE] = DWEXPR_ANSWER_FRAME_BASE,
+        [DWEXPR_WANTS_TLS] = DWEXPR_ANSWER_TLS,
+        [DWEXPR_WANTS_CFA] = DWEXPR_ANSWER_CFA,
+        [DWEXPR_WANTS_LOCATION] = DWEXPR_ANSWER_LOCATION,
+        [DWEXPR_WANTS_ENTRY_VALUE] = DWEXPR_ANSWER_ENTRY_VALUE,
+        [DWEXPR_WANTS_PARAMETER] = DWEXPR_ANSWER_PARAMETER,
+        [DWEXPR_WANTS_RELOCATED] = DWEXPR_ANSWER_RELOCATED,
+        [DWEXPR_WANTS_INDEXED] = DWEXPR_ANSWER_INDEXED,
+        [DWEXPR_WANTS_BASE_TYPE] = DWEXPR_ANSWER_BASE_TYPE,
+        [DWEXPR_WANTS_WASM_LOCAL] = DWEXPR_ANSWER_WASM,
+        [DWEXPR_WANTS_WASM_GLOBAL] = DWEXPR_ANSWER_WASM,
+        [DWEXPR_WANTS_WASM_STACK] = DWEXPR_ANSWER_WASM,
+    };
+    return answers[request];
 }
 
 /* The steps that settings stand for, and how many they are. */

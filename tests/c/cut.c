@@ -5,29 +5,8 @@
 
 static const uint8_t nop[] = {0x96};
 
-/* answers what is asked by 0, by an expression that does nothing or by a type */
-static uint32_t answer_of(uint32_t request)
-{
-    static const uint32_t answers[] = {
-        [DWEXPR_WANTS_MEMORY] = DWEXPR_ANSWER_MEMORY,
-        [DWEXPR_WANTS_REGISTER] = DWEXPR_ANSWER_REGISTER,
-        [DWEXPR_WANTS_FRAME_BASE] = DWEXPR_ANSWER_FRAME_BASE,
-        [DWEXPR_WANTS_TLS] = DWEXPR_ANSWER_TLS,
-        [DWEXPR_WANTS_CFA] = DWEXPR_ANSWER_CFA,
-        [DWEXPR_WANTS_LOCATION] = DWEXPR_ANSWER_LOCATION,
-        [DWEXPR_WANTS_ENTRY_VALUE] = DWEXPR_ANSWER_ENTRY_VALUE,
-        [DWEXPR_WANTS_PARAMETER] = DWEXPR_ANSWER_PARAMETER,
-        [DWEXPR_WANTS_RELOCATED] = DWEXPR_ANSWER_RELOCATED,
-        [DWEXPR_WANTS_INDEXED] = DWEXPR_ANSWER_INDEXED,
-        [DWEXPR_WANTS_BASE_TYPE] = DWEXPR_ANSWER_BASE_TYPE,
-        [DWEXPR_WANTS_WASM_LOCAL] = DWEXPR_ANSWER_WASM,
-        [DWEXPR_WANTS_WASM_GLOBAL] = DWEXPR_ANSWER_WASM,
-        [DWEXPR_WANTS_WASM_STACK] = DWEXPR_ANSWER_WASM,
-    };
-    return answers[request];
-}
-
-/* whether the evaluation is complete or has a fault after at most 16 answers */
+/* whether the evaluation is complete or has a fault after at most 16 answers: 0, an expression that does nothing or a
+ * type */
 static int ends(const uint8_t *bytes, size_t length, dwexpr_encoding encoding)
 {
     dwexpr_text texts[2] = {{bytes, length}, {nop, 1}};
@@ -56,10 +35,10 @@ static int decodes(const uint8_t *bytes, size_t length, dwexpr_encoding encoding
     size_t at;
     for (at = 0; at < length; at += operation.size) {
         uint32_t code = dwexpr_decode(bytes, length, encoding, at, &operation);
+        if (bad_operation(&operation, code, length) || operation.opcode != bytes[at])
+            return 0;
         if (code)
             return code <= DWEXPR_INVALID_PIECE_SIZE;
-        if (operation.size == 0 || operation.size > length - at)
-            return 0;
     }
     return 1;
 }

@@ -1,56 +1,27 @@
-/* A million made-up expressions with made-up answers: an evaluation that is held answers in every field what
- * dwexpr_evaluate answers with all steps so far. */
-#include "check.h"
+/* A million made-up expressions with made-up answers, steps and places, each right before memory that can't be touched:
+ * an evaluation that is held answers in every field what dwexpr_evaluate answers with all steps so far, and each
+ * operation and each block lies within its text. */
+#define _DEFAULT_SOURCE
+#include <sys/mman.h>
 
-enum { ROUNDS = 1000000, STEPS = 8, PLACES = 4 };
+#include "made_up.h"
 
-/* Bytes of an operation: of those that push, of those that change what was pushed, or of those that end a piece. In a
- * few of them a byte is any. */
-static size_t any_operation(uint8_t *bytes, size_t *depth)
+enum { PAGE = 4096, ROUNDS = 1000000, BYTES = 160, STEPS = 8, ROOM = 4 };
+
+/* the end of two pages, before one that can't be touched */
+static uint8_t *guarded(void)
 {
-    static const char *const pushes[] = {"31", "08ff", "38", "7001", "9100", "9c", "97", "a302357f", "a50302", "ed0002",
-                                         "fa01000000", "a103", "a203", "980100", "a4020107", "12"};
-    static const char *const changes[] = {"06", "a60102", "20", "1f", "19", "2302", "9b", "a802", "a802", "96"};
-    static const char *const joins[] = {"22", "1e", "1a", "1c", "1b", "16", "2d", "24"};
-    static const char *const pieces[] = {"9301", "509302", "9e0201029302", "9d0301", "9f9301", "9304", "2801009301"};
-    static const char *const ends[] = {"9f", "50", "9e020506", "a0010000000005"};
-    uint64_t sort = any() % 16;
-    size_t length, i;
-    const char *digits;
-    if (sort < 2 && any() % 2)
-        digits = sort ? ends[any() % 4] : pieces[any() % 7];
-    else if (*depth == 0 || sort < 9)
-        digits = pushes[any() % (*depth ? 16 : 15)], *depth += 1;
-    else if (*depth > 1 && sort < 13)
-        digits = joins[any() % 8], *depth -= 1;
-    else
-        digits = changes[any() % 10];
-    length = bytes_of(digits, bytes);
-    for (i = 0; i < length; i++)
-        if (any() % 256 == 0)
-            bytes[i] = (uint8_t)any();
-    return length;
+    uint8_t *pages = mmap(NULL, 4 * PAGE, PROT_READ | PROT_WRITE, MAP_PRIVATE | MAP_ANONYMOUS, -1, 0);
+    if (pages == MAP_FAILED || mprotect(pages, PAGE, PROT_NONE) || mprotect(pages + 3 * PAGE, PAGE, PROT_NONE)) {
+        perror("held");
+        exit(2);
+    }
+    return pages + 3 * PAGE;
 }
 
-/* Bytes of some operations. */
-static size_t any_expression(uint8_t *bytes)
+static int bad_block(const dwexpr_text *texts, size_t text, size_t offset, size_t length)
 {
-    size_t length = 0, depth = 0, count = any() % 5;
-    while (count--)
-        length += any_operation(bytes + length, &depth);
-    return any() % 32 || !length ? length : length - 1;
-}
-
-/* mostly what the request asks for, else any step */
-static dwexpr_step any_step(uint32_t request)
-{
-    static const uint8_t kinds[] = {4, 4, 5, 6, 9, 10, 11, 15, 8, 12, 13, 14, 16, 7, 7, 7};
-    dwexpr_step step;
-    step.kind = any() % 16 ? kinds[request] : (uint32_t)(any() % 19);
-    step.value_type = any() % 4 ? DWEXPR_GENERIC : (uint32_t)(any() % 11);
-    step.number = any() % 2 ? any() % 16 : any();
-    step.text = any() % 3;
-    return step;
+    return length && (text > 1 || offset + length > texts[text].length);
 }
 
 static int is_setting(uint32_t kind)
@@ -60,58 +31,85 @@ static int is_setting(uint32_t kind)
 
 int main(void)
 {
-    static uint64_t memory[DWEXPR_EVALUATION_SIZE / 8];
-    static uint8_t bytes[3][64];
-    dwexpr_evaluation evaluation = {memory};
-    dwexpr_outcome outcome, held;
-    dwexpr_piece pieces[PLACES], places[PLACES];
+    uint8_t *text_end = guarded(), *operation_end = guarded(), *pieces_end = guarded(), *steps_end = guarded();
+    uint8_t *texts_end = guarded(), *outcome_end = guarded();
+    dwexpr_operation *op = (dwexpr_operation *)(void *)(operation_end - sizeof *op);
+    dwexpr_outcome *outcome = (dwexpr_outcome *)(void *)(outcome_end - sizeof *outcome), held;
+    dwexpr_text *texts = (dwexpr_text *)(void *)(texts_end - 2 * sizeof *texts);
+    dwexpr_evaluation evaluation = {guarded() - dwexpr_evaluation_size()};
+    dwexpr_piece places[ROOM];
     dwexpr_step steps[STEPS];
-    size_t round, i, differ = 0, complete = 0, faults = 0, answers = 0;
+    size_t round, i, bad = 0, differ = 0, complete = 0, faults = 0, answers = 0;
+    static size_t requests[DWEXPR_WANTS_WASM_STACK + 1], codes[DWEXPR_MISPLACED + 1];
     dwexpr_evaluation_begin(&evaluation);
     for (round = 0; round < ROUNDS; round++) {
-        dwexpr_text texts[3];
-        dwexpr_encoding encoding = encoding_of(any() % 64 ? 1 << any() % 4 : 3, any() % 2 ? 4 : 8, 5, any() % 4 == 0);
-        size_t count = any() % 4 ? 1 : 2;
-        for (i = 0; i < 3; i++) {
-            texts[i].bytes = bytes[i];
-            texts[i].length = any_expression(bytes[i]);
+        const dwexpr_encoding encoding = any_encoding();
+        const size_t length = put_operations(text_end - BYTES, BYTES, 1 + below(6), encoding), room = below(ROOM + 1);
+        uint8_t *bytes = memmove(text_end - length, text_end - BYTES, length);
+        dwexpr_piece *pieces = (dwexpr_piece *)(void *)(pieces_end - room * sizeof *pieces);
+        size_t count = 2 + below(2), at;
+        for (at = 0; at <= length; at += op->size) {
+            const uint32_t code = dwexpr_decode(bytes, length, encoding, at, op);
+            bad += bad_operation(op, code, length);
+            if (code)
+                break;
         }
-        memset(steps, 0, sizeof *steps);
-        steps[0].kind = 1 + (uint32_t)(any() % 3), steps[0].number = any() % 32;
-        steps[count - 1] = any_step(DWEXPR_NOTHING), steps[count - 1].kind = DWEXPR_EVALUATE;
-        memset(places, 0xa5, sizeof places);
-        if (any() % 2) {
-            dwexpr_evaluation_start(&evaluation, texts, 3, encoding, steps, count, &held, places, PLACES);
+        texts[0].bytes = bytes, texts[0].length = length;
+        texts[1].bytes = bytes + length / 2, texts[1].length = length - length / 2;
+        for (i = 0; i < count; i++)
+            steps[i] = any_step((uint32_t)(i ? below(20) ? 1 + below(3) : below(19) : DWEXPR_SET_MAX_ITERATIONS), 2);
+        steps[count - 1].kind = DWEXPR_EVALUATE;
+        memset(pieces, 0xa5, room * sizeof *pieces);
+        if (below(2)) {
+            dwexpr_evaluation_start(&evaluation, texts, 2, encoding, steps, count, outcome, pieces, room);
         } else {
-            const dwexpr_settings settings = {(uint32_t)(any() % 32), any() % 4, any() % 2, any(), any()};
+            const dwexpr_settings settings = {(uint32_t)below(32), (uint16_t)below(4), (uint16_t)below(2), any(), any()};
             count = steps_of(&settings, steps);
-            dwexpr_evaluation_evaluate(&evaluation, texts, 3, encoding, &settings, &held, places, PLACES);
+            dwexpr_evaluation_evaluate(&evaluation, texts, 2, encoding, &settings, outcome, pieces, room);
         }
         for (;;) {
-            memset(pieces, 0xa5, sizeof pieces);
-            dwexpr_evaluate(texts, 3, encoding, steps, count, &outcome, pieces, PLACES);
+            dwexpr_step *given = (dwexpr_step *)(void *)(steps_end - count * sizeof *given);
+            size_t shown;
+            held = *outcome;
+            memcpy(places, pieces, room * sizeof *pieces);
+            memcpy(given, steps, count * sizeof *given);
+            memset(pieces, 0xa5, room * sizeof *pieces);
+            bad += dwexpr_evaluate(texts, 2, encoding, given, count, outcome, pieces, room) != outcome->code;
+            shown = outcome->pieces < room ? outcome->pieces : room;
             /* after a setting in a request the one that is held shows nothing */
-            if (!(outcome.request > DWEXPR_COMPLETE && is_setting(steps[count - 1].kind))) {
-                differ += !same_outcome(&held, &outcome);
-                differ += outcome.request == DWEXPR_COMPLETE &&
-                          !same_pieces(places, pieces, sizeof places / sizeof *places);
+            if (outcome->request <= DWEXPR_COMPLETE || !is_setting(steps[count - 1].kind)) {
+                differ += !same_outcome(&held, outcome);
+                differ += outcome->request == DWEXPR_COMPLETE && !same_pieces(places, pieces, room);
             }
-            complete += outcome.request == DWEXPR_COMPLETE;
-            faults += outcome.code != DWEXPR_OK;
-            if (outcome.code || count == STEPS || (outcome.request == DWEXPR_COMPLETE && any() % 4))
+            if (outcome->code > DWEXPR_MISPLACED || outcome->request > DWEXPR_WANTS_WASM_STACK)
+                bad++;
+            else
+                requests[outcome->request]++, codes[outcome->code]++;
+            bad += bad_block(texts, outcome->block_text, outcome->block_offset, outcome->block_length);
+            for (i = 0; i < shown; i++)
+                bad += bad_block(texts, pieces[i].block_text, pieces[i].block_offset, pieces[i].block_length);
+            complete += outcome->request == DWEXPR_COMPLETE;
+            faults += outcome->code != DWEXPR_OK;
+            if (outcome->code || count == STEPS || (outcome->request == DWEXPR_COMPLETE && below(4)))
                 break;
             answers++;
-            steps[count] = any_step(outcome.request);
-            held.step = 0;
-            if (dwexpr_evaluation_resume(&evaluation, texts, 3, steps[count], &held, places, PLACES))
-                held.step = count;
+            steps[count] = any_answer(outcome, 2);
+            memset(pieces, 0xa5, room * sizeof *pieces);
+            if (dwexpr_evaluation_resume(&evaluation, texts, 2, steps[count], outcome, pieces, room))
+                outcome->step = count;
             count++;
         }
     }
     check(differ == 0, "a million expressions", "held and not alike");
+    check(bad == 0, "a million expressions", "what is answered");
     check(complete > ROUNDS / 10, "a million expressions", "many are complete");
     check(faults > ROUNDS / 10, "a million expressions", "many meet a fault");
     check(answers > ROUNDS / 2, "a million expressions", "many answers");
+    for (i = 0; i < COUNT(requests); i++)
+        check(requests[i] > 0, "a million expressions", "each request");
+    for (i = 0; i < COUNT(codes); i++)
+        if (dwexpr_code_name((uint32_t)i) && i != DWEXPR_UNSUPPORTED_OFFSET && i != DWEXPR_BAD_OFFSET)
+            check(codes[i] > 0, dwexpr_code_name((uint32_t)i), "it comes up");
     printf("complete %zu, faults %zu, answers %zu\n", complete, faults, answers);
     return finish();
 }

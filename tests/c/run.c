@@ -17,8 +17,6 @@ static uint64_t context;
 static int refusal;
 static const char *name;
 
-#define LE8 encoding_of(8, 4, 5, 0)
-
 static int run(const char *row, const char *digits, const dwexpr_callbacks *calls)
 {
     dwexpr_text text = {bytes, bytes_of(digits, bytes)};

@@ -33,33 +33,22 @@ static int give_memory(void *context, uint64_t address, uint32_t size, const uin
 static void on_signal(int number)
 {
     static const uint8_t bytes[] = {0x77, 0x08, 0x06, 0x23, 0x04, 0x06, 0x93, 0x08, 0x51, 0x93, 0x08};
-    dwexpr_text text;
-    dwexpr_callbacks calls;
+    static const dwexpr_text text = {bytes, sizeof bytes};
+    static const dwexpr_callbacks calls = {.register_content = give_register, .memory = give_memory};
     (void)number;
-    memset(&calls, 0, sizeof calls);
-    calls.register_content = give_register;
-    calls.memory = give_memory;
-    text.bytes = bytes;
-    text.length = sizeof bytes;
-    result = dwexpr_run(text, encoding_of(8, 4, 5, 0), &calls, NULL, NULL, &texts, &outcome, pieces, 4);
+    result = dwexpr_run(text, LE8, &calls, NULL, NULL, &texts, &outcome, pieces, 4);
 }
 
 int main(void)
 {
     /* the page below the stack can't be touched */
     uint8_t *pages = mmap(NULL, STACK + 4096, PROT_READ | PROT_WRITE, MAP_PRIVATE | MAP_ANONYMOUS, -1, 0);
-    stack_t stack;
-    struct sigaction action;
+    const stack_t stack = {.ss_sp = pages + 4096, .ss_size = STACK};
+    const struct sigaction action = {.sa_handler = on_signal, .sa_flags = SA_ONSTACK};
     size_t i, used = STACK;
     if (pages == MAP_FAILED || mprotect(pages, 4096, PROT_NONE))
         return 2;
     memset(pages + 4096, 0xa5, STACK);
-    memset(&stack, 0, sizeof stack);
-    memset(&action, 0, sizeof action);
-    stack.ss_sp = pages + 4096;
-    stack.ss_size = STACK;
-    action.sa_handler = on_signal;
-    action.sa_flags = SA_ONSTACK;
     sigaltstack(&stack, NULL);
     sigaction(SIGUSR1, &action, NULL);
     raise(SIGUSR1);

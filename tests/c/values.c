@@ -1,16 +1,14 @@
-/* Each operation on values, by the results that gimli's own tests have and by hand, and each refused argument. */
+/* Each operation on values, once or more, and each refused argument. tests/rows/values.json has what each operation
+ * gives of values of each type. */
 #include "check.h"
 
 #define MASK 0xffffffffu
-#define COUNT(rows) (sizeof(rows) / sizeof *(rows))
 
 enum { NONE = DWEXPR_NO_TYPE, G = DWEXPR_GENERIC, I8 = DWEXPR_I8, U8, I16, U16, I32, U32, I64, U64 };
 
 static dwexpr_value of(uint32_t value_type, uint64_t content)
 {
-    dwexpr_value value;
-    value.value_type = value_type;
-    value.content = content;
+    const dwexpr_value value = {value_type, content};
     return value;
 }
 
@@ -30,96 +28,58 @@ static dwexpr_value garbage(void)
     return of(0xa5a5a5a5, 0xa5a5a5a5a5a5a5a5);
 }
 
-struct unary {
+/* What a call is made on: the second value of two, or the type of a conversion. */
+struct row {
     uint32_t operation, value_type;
-    uint64_t content, addr_mask;
+    uint64_t content;
+    uint32_t other_type;
+    uint64_t other, addr_mask;
     uint32_t code, wanted_type;
     uint64_t wanted;
 };
 
-static const struct unary unaries[] = {
-    {DWEXPR_OP_ABS, G, 0xffffffff, MASK, 0, G, 1},
-    {DWEXPR_OP_ABS, I8, 0xff, MASK, 0, I8, 1},
-    {DWEXPR_OP_ABS, U8, 1, MASK, 0, U8, 1},
-    {DWEXPR_OP_ABS, I16, 0xffff, MASK, 0, I16, 1},
-    {DWEXPR_OP_ABS, I32, 0xffffffff, MASK, 0, I32, 1},
-    {DWEXPR_OP_ABS, I64, UINT64_MAX, MASK, 0, I64, 1},
-    {DWEXPR_OP_ABS, I8, 0x80, MASK, 0, I8, 0xffffffffffffff80},
-    {DWEXPR_OP_NEG, G, 0xffffffff, MASK, 0, G, 1},
-    {DWEXPR_OP_NEG, I8, 1, MASK, 0, I8, UINT64_MAX},
-    {DWEXPR_OP_NEG, I16, 1, MASK, 0, I16, UINT64_MAX},
-    {DWEXPR_OP_NEG, I32, 1, MASK, 0, I32, UINT64_MAX},
-    {DWEXPR_OP_NEG, I64, 1, MASK, 0, I64, UINT64_MAX},
-    {DWEXPR_OP_NEG, U8, 1, MASK, DWEXPR_UNSUPPORTED_TYPE_OPERATION, NONE, 0},
-    {DWEXPR_OP_NEG, U64, 1, MASK, DWEXPR_UNSUPPORTED_TYPE_OPERATION, NONE, 0},
-    {DWEXPR_OP_NOT, G, 1, MASK, 0, G, 0xfffffffffffffffe},
-    {DWEXPR_OP_NOT, I8, 1, MASK, 0, I8, 0xfffffffffffffffe},
-    {DWEXPR_OP_NOT, U8, 1, MASK, 0, U8, 0xfe},
-    {DWEXPR_OP_NOT, U16, 1, MASK, 0, U16, 0xfffe},
-    {DWEXPR_OP_NOT, U32, 1, MASK, 0, U32, 0xfffffffe},
-    {DWEXPR_OP_NOT, U64, 1, MASK, 0, U64, 0xfffffffffffffffe},
+static const struct row unaries[] = {
+    {DWEXPR_OP_ABS, I8, 0xff, 0, 0, MASK, 0, I8, 1},
+    {DWEXPR_OP_ABS, I8, 0x80, 0, 0, MASK, 0, I8, 0xffffffffffffff80},
+    {DWEXPR_OP_NEG, G, 0xffffffff, 0, 0, MASK, 0, G, 1},
+    {DWEXPR_OP_NEG, U8, 1, 0, 0, MASK, DWEXPR_UNSUPPORTED_TYPE_OPERATION, NONE, 0},
+    {DWEXPR_OP_NOT, U16, 1, 0, 0, MASK, 0, U16, 0xfffe},
     /* No operation on one value; no type; no mask. */
-    {DWEXPR_OP_NONE, G, 1, MASK, DWEXPR_BAD_VALUE, NONE, 0},
-    {DWEXPR_OP_PLUS, G, 1, MASK, DWEXPR_BAD_VALUE, NONE, 0},
-    {DWEXPR_OP_CONVERT, G, 1, MASK, DWEXPR_BAD_VALUE, NONE, 0},
-    {DWEXPR_OP_ABS, NONE, 1, MASK, DWEXPR_BAD_VALUE, NONE, 0},
-    {DWEXPR_OP_ABS, 10, 1, MASK, DWEXPR_BAD_VALUE, NONE, 0},
-    {DWEXPR_OP_ABS, G, 1, 0, DWEXPR_BAD_VALUE, NONE, 0},
-    {DWEXPR_OP_ABS, G, 1, 6, DWEXPR_BAD_VALUE, NONE, 0},
-    {DWEXPR_OP_ABS, G, 1, 0xffff0000, DWEXPR_BAD_VALUE, NONE, 0},
+    {DWEXPR_OP_NONE, G, 1, 0, 0, MASK, DWEXPR_BAD_VALUE, NONE, 0},
+    {DWEXPR_OP_PLUS, G, 1, 0, 0, MASK, DWEXPR_BAD_VALUE, NONE, 0},
+    {DWEXPR_OP_CONVERT, G, 1, 0, 0, MASK, DWEXPR_BAD_VALUE, NONE, 0},
+    {DWEXPR_OP_ABS, NONE, 1, 0, 0, MASK, DWEXPR_BAD_VALUE, NONE, 0},
+    {DWEXPR_OP_ABS, 10, 1, 0, 0, MASK, DWEXPR_BAD_VALUE, NONE, 0},
+    {DWEXPR_OP_ABS, G, 1, 0, 0, 0, DWEXPR_BAD_VALUE, NONE, 0},
+    {DWEXPR_OP_ABS, G, 1, 0, 0, 6, DWEXPR_BAD_VALUE, NONE, 0},
+    {DWEXPR_OP_ABS, G, 1, 0, 0, 0xffff0000, DWEXPR_BAD_VALUE, NONE, 0},
 };
 
-struct binary {
-    uint32_t operation, left_type;
-    uint64_t left;
-    uint32_t right_type;
-    uint64_t right, addr_mask;
-    uint32_t code, wanted_type;
-    uint64_t wanted;
-};
-
-static const struct binary binaries[] = {
-    {DWEXPR_OP_PLUS, G, 1, G, 2, MASK, 0, G, 3},
+static const struct row binaries[] = {
     {DWEXPR_OP_PLUS, G, 0xffffffff, G, 1, MASK, 0, G, 0},
-    {DWEXPR_OP_PLUS, I8, 0xff, I8, 2, MASK, 0, I8, 1},
     {DWEXPR_OP_PLUS, U64, UINT64_MAX, U64, 2, MASK, 0, U64, 1},
     {DWEXPR_OP_PLUS, G, 3, U32, 2, MASK, DWEXPR_TYPE_MISMATCH, NONE, 0},
-    {DWEXPR_OP_MINUS, G, 3, G, 2, MASK, 0, G, 1},
     {DWEXPR_OP_MINUS, I16, 0xffff, I16, 2, MASK, 0, I16, 0xfffffffffffffffd},
-    {DWEXPR_OP_MUL, U32, 2, U32, 3, MASK, 0, U32, 6},
     {DWEXPR_OP_MUL, I32, 0xfffffffe, I32, 3, MASK, 0, I32, 0xfffffffffffffffa},
     {DWEXPR_OP_DIV, I64, (uint64_t)-6, I64, 3, MASK, 0, I64, (uint64_t)-2},
-    {DWEXPR_OP_DIV, G, 0x80000000, G, 0xffffffff, MASK, 0, G, 0x80000000},
     {DWEXPR_OP_DIV, G, 6, U32, 0, MASK, DWEXPR_DIVISION_BY_ZERO, NONE, 0},
-    {DWEXPR_OP_DIV, G, 6, U32, 3, MASK, DWEXPR_TYPE_MISMATCH, NONE, 0},
     {DWEXPR_OP_MOD, I8, 0xfd, I8, 2, MASK, 0, I8, UINT64_MAX},
-    {DWEXPR_OP_MOD, G, 3, G, 2, MASK, 0, G, 1},
-    {DWEXPR_OP_MOD, U16, 3, U16, 0, MASK, DWEXPR_DIVISION_BY_ZERO, NONE, 0},
     {DWEXPR_OP_AND, U8, 3, U8, 5, MASK, 0, U8, 1},
     {DWEXPR_OP_OR, G, 3, G, 5, MASK, 0, G, 7},
     {DWEXPR_OP_XOR, I64, 3, I64, 5, MASK, 0, I64, 6},
-    {DWEXPR_OP_SHL, G, 3, G, 5, MASK, 0, G, 96},
-    {DWEXPR_OP_SHL, G, 3, G, 32, MASK, 0, G, 0},
     {DWEXPR_OP_SHL, U32, 1, G, 0x100000001, MASK, 0, U32, 2},
     {DWEXPR_OP_SHL, U8, 3, I8, 0xfb, MASK, DWEXPR_INVALID_SHIFT_EXPRESSION, NONE, 0},
     {DWEXPR_OP_SHR, U64, 96, I64, 5, MASK, 0, U64, 3},
-    {DWEXPR_OP_SHR, I8, 96, U8, 5, MASK, DWEXPR_UNSUPPORTED_TYPE_OPERATION, NONE, 0},
     {DWEXPR_OP_SHRA, G, 0xffffffa0, G, 5, MASK, 0, G, 0xfffffffffffffffd},
-    {DWEXPR_OP_SHRA, I64, (uint64_t)-96, U64, 65, MASK, 0, I64, UINT64_MAX},
-    {DWEXPR_OP_SHRA, U8, 96, I8, 5, MASK, DWEXPR_UNSUPPORTED_TYPE_OPERATION, NONE, 0},
-    /* 3 and its complement: which is the greater depends on the sign. */
     {DWEXPR_OP_EQ, G, 3, G, 3, MASK, 0, G, 1},
     {DWEXPR_OP_EQ, G, 3, G, 0xfffffffffffffffc, MASK, 0, G, 0},
-    {DWEXPR_OP_GE, G, 3, G, 0xfffffffffffffffc, MASK, 0, G, 1},
+    /* 3 and its complement: which is the greater depends on the sign. */
     {DWEXPR_OP_GE, U8, 3, U8, 0xfc, MASK, 0, G, 0},
     {DWEXPR_OP_GT, I8, 3, I8, 0xfc, MASK, 0, G, 1},
     {DWEXPR_OP_GT, U16, 3, U16, 3, MASK, 0, G, 0},
-    {DWEXPR_OP_LE, I32, 0xfffffffc, I32, 3, MASK, 0, G, 1},
     {DWEXPR_OP_LE, U32, 0xfffffffc, U32, 3, MASK, 0, G, 0},
     {DWEXPR_OP_LT, U64, 3, U64, 0xfffffffffffffffc, MASK, 0, G, 1},
-    {DWEXPR_OP_LT, I64, 3, I64, 0xfffffffffffffffc, MASK, 0, G, 0},
     {DWEXPR_OP_NE, I16, 3, I16, 0xfffc, MASK, 0, G, 1},
-    {DWEXPR_OP_NE, G, 3, U32, 2, MASK, DWEXPR_TYPE_MISMATCH, NONE, 0},
     /* Of a typed value that is given, bits above its type don't count. */
     {DWEXPR_OP_PLUS, U8, 0x1234ff, U8, 2, MASK, 0, U8, 1},
     /* No operation on two values; no type; no mask. */
@@ -134,38 +94,45 @@ static const struct binary binaries[] = {
     {DWEXPR_OP_PLUS, G, 1, G, 2, 0xfffffffe, DWEXPR_BAD_VALUE, NONE, 0},
 };
 
-struct conversion {
-    uint32_t operation, value_type;
-    uint64_t content;
-    uint32_t to;
-    uint64_t addr_mask;
-    uint32_t code, wanted_type;
-    uint64_t wanted;
+static const struct row conversions[] = {
+    {DWEXPR_OP_CONVERT, U16, 0xff80, I8, 0, MASK, 0, I8, 0xffffffffffffff80},
+    {DWEXPR_OP_CONVERT, G, 0x100000001, U64, 0, MASK, 0, U64, 1},
+    {DWEXPR_OP_CONVERT, U64, 0x100000003, G, 0, MASK, 0, G, 0x100000003},
+    {DWEXPR_OP_REINTERPRET, I32, 0xffffffff, G, 0, MASK, 0, G, UINT64_MAX},
+    {DWEXPR_OP_REINTERPRET, G, 1, I64, 0, UINT64_MAX, 0, I64, 1},
+    {DWEXPR_OP_REINTERPRET, U64, 1, G, 0, MASK, DWEXPR_TYPE_MISMATCH, NONE, 0},
+    /* No conversion; no type; no mask. */
+    {DWEXPR_OP_NOT, G, 1, I8, 0, MASK, DWEXPR_BAD_VALUE, NONE, 0},
+    {DWEXPR_OP_UNINITIALIZED, G, 1, I8, 0, MASK, DWEXPR_BAD_VALUE, NONE, 0},
+    {DWEXPR_OP_CONVERT, NONE, 1, I8, 0, MASK, DWEXPR_BAD_VALUE, NONE, 0},
+    {DWEXPR_OP_CONVERT, G, 1, NONE, 0, MASK, DWEXPR_BAD_VALUE, NONE, 0},
+    {DWEXPR_OP_CONVERT, G, 1, 10, 0, MASK, DWEXPR_BAD_VALUE, NONE, 0},
+    {DWEXPR_OP_CONVERT, G, 1, I8, 0, 2, DWEXPR_BAD_VALUE, NONE, 0},
 };
 
-static const struct conversion conversions[] = {
-    {DWEXPR_OP_CONVERT, G, 1, I8, MASK, 0, I8, 1},
-    {DWEXPR_OP_CONVERT, I32, 1, U32, MASK, 0, U32, 1},
-    {DWEXPR_OP_CONVERT, I64, 1, U64, MASK, 0, U64, 1},
-    {DWEXPR_OP_CONVERT, G, 0x100000001, U64, MASK, 0, U64, 1},
-    {DWEXPR_OP_CONVERT, I8, 0xff, U32, MASK, 0, U32, 0xffffffff},
-    {DWEXPR_OP_CONVERT, U16, 0xff80, I8, MASK, 0, I8, 0xffffffffffffff80},
-    {DWEXPR_OP_CONVERT, U64, 0x100000003, G, MASK, 0, G, 0x100000003},
-    {DWEXPR_OP_REINTERPRET, I8, 0xff, U8, MASK, 0, U8, 0xff},
-    {DWEXPR_OP_REINTERPRET, U8, 0xff, I8, MASK, 0, I8, UINT64_MAX},
-    {DWEXPR_OP_REINTERPRET, G, 1, I32, MASK, 0, I32, 1},
-    {DWEXPR_OP_REINTERPRET, I32, 0xffffffff, G, MASK, 0, G, UINT64_MAX},
-    {DWEXPR_OP_REINTERPRET, G, 1, I64, UINT64_MAX, 0, I64, 1},
-    {DWEXPR_OP_REINTERPRET, G, 1, U8, MASK, DWEXPR_TYPE_MISMATCH, NONE, 0},
-    {DWEXPR_OP_REINTERPRET, U64, 1, G, MASK, DWEXPR_TYPE_MISMATCH, NONE, 0},
-    /* No conversion; no type; no mask. */
-    {DWEXPR_OP_NOT, G, 1, I8, MASK, DWEXPR_BAD_VALUE, NONE, 0},
-    {DWEXPR_OP_UNINITIALIZED, G, 1, I8, MASK, DWEXPR_BAD_VALUE, NONE, 0},
-    {DWEXPR_OP_CONVERT, NONE, 1, I8, MASK, DWEXPR_BAD_VALUE, NONE, 0},
-    {DWEXPR_OP_CONVERT, G, 1, NONE, MASK, DWEXPR_BAD_VALUE, NONE, 0},
-    {DWEXPR_OP_CONVERT, G, 1, 10, MASK, DWEXPR_BAD_VALUE, NONE, 0},
-    {DWEXPR_OP_CONVERT, G, 1, I8, 2, DWEXPR_BAD_VALUE, NONE, 0},
-};
+static uint32_t unary(uint32_t operation, dwexpr_value value, dwexpr_value unused, uint64_t mask, dwexpr_value *result)
+{
+    (void)unused;
+    return dwexpr_value_unary(operation, value, mask, result);
+}
+
+static uint32_t convert(uint32_t operation, dwexpr_value value, dwexpr_value to, uint64_t mask, dwexpr_value *result)
+{
+    return dwexpr_value_convert(operation, value, to.value_type, mask, result);
+}
+
+static void operations(const char *name, const struct row *rows, size_t count,
+                       uint32_t (*call)(uint32_t, dwexpr_value, dwexpr_value, uint64_t, dwexpr_value *))
+{
+    size_t i;
+    for (i = 0; i < count; i++) {
+        const struct row *row = &rows[i];
+        dwexpr_value result = garbage();
+        const uint32_t code = call(row->operation, of(row->value_type, row->content), of(row->other_type, row->other),
+                                   row->addr_mask, &result);
+        compare(code, result, row->code, of(row->wanted_type, row->wanted), name, i);
+    }
+}
 
 struct parsing {
     uint32_t value_type;
@@ -192,29 +159,6 @@ static const struct parsing parsings[] = {
     {10, "ff", 0, DWEXPR_BAD_VALUE, NONE, 0},
     {U8, "ff", 2, DWEXPR_BAD_VALUE, NONE, 0},
 };
-
-static void operations(void)
-{
-    size_t i;
-    for (i = 0; i < COUNT(unaries); i++) {
-        struct unary row = unaries[i];
-        dwexpr_value result = garbage();
-        uint32_t code = dwexpr_value_unary(row.operation, of(row.value_type, row.content), row.addr_mask, &result);
-        compare(code, result, row.code, of(row.wanted_type, row.wanted), "one value", i);
-    }
-    for (i = 0; i < COUNT(binaries); i++) {
-        struct binary row = binaries[i];
-        dwexpr_value left = of(row.left_type, row.left), right = of(row.right_type, row.right), result = garbage();
-        uint32_t code = dwexpr_value_binary(row.operation, left, right, row.addr_mask, &result);
-        compare(code, result, row.code, of(row.wanted_type, row.wanted), "two values", i);
-    }
-    for (i = 0; i < COUNT(conversions); i++) {
-        struct conversion row = conversions[i];
-        dwexpr_value value = of(row.value_type, row.content), result = garbage();
-        uint32_t code = dwexpr_value_convert(row.operation, value, row.to, row.addr_mask, &result);
-        compare(code, result, row.code, of(row.wanted_type, row.wanted), "conversion", i);
-    }
-}
 
 static void parse(void)
 {
@@ -249,7 +193,9 @@ static void types(void)
 
 int main(void)
 {
-    operations();
+    operations("one value", unaries, COUNT(unaries), unary);
+    operations("two values", binaries, COUNT(binaries), dwexpr_value_binary);
+    operations("conversion", conversions, COUNT(conversions), convert);
     parse();
     types();
     return finish();

@@ -39,17 +39,19 @@ static int read_memory(void *context, uint64_t address, uint8_t *content, size_t
     return 0;
 }
 
-/* It stands in no module; expressions have their units. */
-static dwexpr_libdw_frame *make_frame(int *big_endian)
+/* A frame of these callbacks. It stands in no module; expressions have their units. */
+static inline dwexpr_libdw_frame *frame_of(int (*registers)(void *, uint32_t, uint8_t *, size_t *),
+                                           int (*memory)(void *, uint64_t, uint8_t *, size_t), void *context)
 {
-    dwexpr_libdw_source source;
+    const dwexpr_libdw_source source = {.read_register = registers, .read_memory = memory, .context = context};
     dwexpr_libdw_frame *frame;
-    memset(&source, 0, sizeof source);
-    source.read_register = read_register;
-    source.read_memory = read_memory;
-    source.context = big_endian;
     dwexpr_libdw_make_frame(&source, &frame);
     return frame;
+}
+
+static inline dwexpr_libdw_frame *make_frame(int *big_endian)
+{
+    return frame_of(read_register, read_memory, big_endian);
 }
 
 #endif

@@ -55,13 +55,9 @@ static uint32_t variable_of(dwexpr_libdw_frame *frame, const char *name, uint64_
 /* The content of a register. */
 static uint32_t register_of(dwexpr_libdw_frame *frame, uint8_t number, uint64_t *content)
 {
-    uint8_t bytes[] = {DW_OP_regx, number};
-    dwexpr_libdw_text text;
+    const uint8_t bytes[] = {DW_OP_regx, number};
+    const dwexpr_libdw_text text = {.text = {bytes, sizeof bytes}, .encoding = LE8};
     dwexpr_libdw_value *value;
-    memset(&text, 0, sizeof text);
-    text.encoding = encoding_of(8, 4, 5, 0);
-    text.text.bytes = bytes;
-    text.text.length = sizeof bytes;
     return number_of(frame, value, dwexpr_libdw_evaluate(frame, &text, NULL, NULL, &value), content);
 }
 
@@ -157,12 +153,8 @@ static void check_readers(void)
     for (i = 0; i < 2; i++) {
         uint8_t bytes[9] = {DW_OP_addr};
         const uint64_t address = top + 8 * (uint64_t)(i + 1);
-        dwexpr_libdw_text text;
+        const dwexpr_libdw_text text = {.text = {bytes, sizeof bytes}, .encoding = LE8};
         memcpy(bytes + 1, &address, 8);
-        memset(&text, 0, sizeof text);
-        text.encoding = encoding_of(8, 4, 5, 0);
-        text.text.bytes = bytes;
-        text.text.length = sizeof bytes;
         readers[i].frame = dwexpr_libdw_frame_at(stack, 0);
         readers[i].wrong = 0;
         dwexpr_libdw_evaluate(readers[i].frame, &text, NULL, NULL, &readers[i].value);
@@ -376,7 +368,7 @@ int main(int argc, char **argv)
     if (!code && dwexpr_libdw_threads(target, &threads))
         code = dwexpr_libdw_unwind(target, threads[0], 1000, &stack);
     check(!code && stack, "the frames", dwexpr_libdw_code_name(code));
-    for (i = 0; stack && i < sizeof kinds / sizeof *kinds; i++)
+    for (i = 0; stack && i < COUNT(kinds); i++)
         if (!strcmp(argv[1], kinds[i].name))
             kinds[i].checks();
     dwexpr_libdw_free_stack(stack);

@@ -102,38 +102,17 @@ static Dwarf_Addr next_return(Dwarf_Addr first)
 static void read_frames(Dwfl *dwfl, Dwarf_Addr first)
 {
     dwexpr_libdw_frame *frames[4] = {NULL, NULL, NULL, NULL};
-    dwexpr_libdw_source source;
+    dwexpr_libdw_source source = {.dwfl = dwfl, .read_register = read_register, .read_memory = read_memory};
     int i;
-    memset(&source, 0, sizeof source);
     for (i = 2; i >= 0; i--) {
-        source.dwfl = dwfl;
         source.pc = i ? next_return(first) : next_address(first);
         source.is_activation = i == 0;
         source.caller = frames[i + 1];
-        source.read_register = read_register;
-        source.read_memory = read_memory;
         dwexpr_libdw_make_frame(&source, &frames[i]);
     }
     read_frame(frames[0]);
     for (i = 0; i < 3; i++)
         dwexpr_libdw_free_frame(frames[i]);
-}
-
-static void read_rules(Dwfl_Module *module, Dwarf_Addr first)
-{
-    Dwarf_Addr bias, address = next_address(first), bias_of_elf;
-    Dwarf_CFI *table = dwfl_module_eh_cfi(module, &bias);
-    Elf *elf = dwfl_module_getelf(module, &bias_of_elf);
-    Dwarf_Frame *rules;
-    dwexpr_libdw_text expression;
-    int number;
-    if (!table || !elf || dwarf_cfi_addrframe(table, address - bias, &rules))
-        return;
-    for (number = -1; number < 17; number++) {
-        dwexpr_libdw_rule(rules, elf, number, &expression);
-        dwexpr_libdw_free_text(&expression);
-    }
-    free(rules);
 }
 
 static void read_core(const char *path)
@@ -164,10 +143,8 @@ static void read_program(const char *path)
     int i;
     dwfl_report_end(dwfl, NULL, NULL);
     if (module && dwfl_module_info(module, NULL, &first, NULL, NULL, NULL, NULL, NULL))
-        for (i = 0; i < 40; i++) {
+        for (i = 0; i < 40; i++)
             read_frames(dwfl, first);
-            read_rules(module, first);
-        }
     dwfl_end(dwfl);
 }
 

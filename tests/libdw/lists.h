@@ -11,11 +11,6 @@
 
 #include "dwexpr.h"
 
-struct section {
-    const uint8_t *bytes;
-    size_t length;
-};
-
 static inline uint64_t read_number(const uint8_t *bytes, size_t size, int big_endian)
 {
     uint64_t number = 0;
@@ -28,30 +23,16 @@ static inline uint64_t read_number(const uint8_t *bytes, size_t size, int big_en
 static inline uint64_t read_leb(const uint8_t **at, const uint8_t *end)
 {
     uint64_t number = 0;
-    unsigned shift = 0;
-    while (*at < end) {
-        uint8_t byte = *(*at)++;
-        if (shift < 64)
-            number |= (uint64_t)(byte & 0x7f) << shift;
-        shift += 7;
-        if (!(byte & 0x80))
-            break;
+    unsigned shift, more = 0x80;
+    for (shift = 0; more && *at < end; shift += 7) {
+        number |= shift < 64 ? (uint64_t)(**at & 0x7f) << shift : 0;
+        more = *(*at)++ & 0x80;
     }
     return number;
 }
 
-static inline uint64_t read_leb_at(const uint8_t *bytes)
-{
-    return read_leb(&bytes, bytes + 10);
-}
-
-struct expression {
-    const uint8_t *bytes;
-    size_t length;
-};
-
 /* the expression of the next entry of a list; 0 at its end */
-static inline int next_of_4(dwexpr_encoding encoding, const uint8_t **at, const uint8_t *end, struct expression *found)
+static inline int next_of_4(dwexpr_encoding encoding, const uint8_t **at, const uint8_t *end, dwexpr_text *found)
 {
     size_t size = encoding.address_size;
     uint64_t most = size == 8 ? UINT64_MAX : 0xffffffff;
@@ -72,51 +53,45 @@ static inline int next_of_4(dwexpr_encoding encoding, const uint8_t **at, const 
     return 0;
 }
 
-static inline int next_of_5(size_t address_size, const uint8_t **at, const uint8_t *end, struct expression *found)
+/* The operands of each kind of entry: addresses, LEB128 numbers, and at the end the expression. */
+static const char *const lists_operands[] = {
+    [DW_LLE_base_addressx] = "u",   [DW_LLE_startx_endx] = "uux",    [DW_LLE_startx_length] = "uux",
+    [DW_LLE_offset_pair] = "uux",   [DW_LLE_default_location] = "x", [DW_LLE_base_address] = "a",
+    [DW_LLE_start_end] = "aax",     [DW_LLE_start_length] = "aux",   [DW_LLE_GNU_view_pair] = "uu",
+};
+
+static inline int next_of_5(size_t address_size, const uint8_t **at, const uint8_t *end, dwexpr_text *found)
 {
     while (*at < end) {
-        switch (*(*at)++) {
-        case DW_LLE_base_addressx:
-            read_leb(at, end);
-            continue;
-        case DW_LLE_base_address:
-            *at += address_size;
-            continue;
-        case DW_LLE_GNU_view_pair:
-            read_leb(at, end), read_leb(at, end);
-            continue;
-        case DW_LLE_startx_endx: case DW_LLE_startx_length: case DW_LLE_offset_pair:
-            read_leb(at, end), read_leb(at, end);
+        const uint8_t kind = *(*at)++;
+        const char *operand = kind <= DW_LLE_GNU_view_pair ? lists_operands[kind] : NULL;
+        if (!operand)
             break;
-        case DW_LLE_default_location:
-            break;
-        case DW_LLE_start_end:
-            *at += 2 * address_size;
-            break;
-        case DW_LLE_start_length:
-            *at += address_size, read_leb(at, end);
-            break;
-        default:
-            return 0;
+        for (; *operand; operand++)
+            if (*operand == 'a')
+                *at += address_size;
+            else
+                found->length = read_leb(at, end);
+        if (operand[-1] == 'x') {
+            found->bytes = *at;
+            *at += found->length;
+            return *at <= end;
         }
-        found->length = read_leb(at, end), found->bytes = *at;
-        *at += found->length;
-        return *at <= end;
     }
     return 0;
 }
 
 static inline int next_expression(dwexpr_encoding encoding, const uint8_t **at, const uint8_t *end,
-                                  struct expression *found)
+                                  dwexpr_text *found)
 {
     found->bytes = NULL, found->length = 0;
     return encoding.version >= 5 ? next_of_5(encoding.address_size, at, end, found)
                                  : next_of_4(encoding, at, end, found);
 }
 
-static inline struct section section_of(Elf *elf, const char *name)
+static inline dwexpr_text section_of(Elf *elf, const char *name)
 {
-    struct section found = {NULL, 0};
+    dwexpr_text found = {NULL, 0};
     Elf_Scn *next = NULL;
     size_t names;
     if (elf_getshdrstrndx(elf, &names))
@@ -136,22 +111,22 @@ static inline struct section section_of(Elf *elf, const char *name)
 }
 
 /* where an attribute's list begins: its offset, or an index into the unit's offsets */
-static inline int list_offset(Dwarf_Attribute *attribute, struct section lists, dwexpr_encoding encoding,
+static inline int list_offset(Dwarf_Attribute *attribute, dwexpr_text lists, dwexpr_encoding encoding,
                               Dwarf_Word *offset)
 {
     Dwarf_Die unit, part;
     Dwarf_Attribute base;
     Dwarf_Word start, at;
-    if (dwarf_whatform(attribute) != DW_FORM_loclistx)
-        return dwarf_formudata(attribute, offset);
+    if (dwarf_formudata(attribute, offset) || dwarf_whatform(attribute) != DW_FORM_loclistx)
+        return *offset >= lists.length;
     if (dwarf_cu_info(attribute->cu, NULL, NULL, &unit, &part, NULL, NULL, NULL) ||
         dwarf_formudata(dwarf_attr(&unit, DW_AT_loclists_base, &base), &start))
         return -1;
-    at = start + encoding.offset_size * read_leb_at(attribute->valp);
+    at = start + encoding.offset_size * *offset;
     if (at + encoding.offset_size > lists.length)
         return -1;
     *offset = start + read_number(lists.bytes + at, encoding.offset_size, encoding.big_endian);
-    return 0;
+    return *offset >= lists.length;
 }
 
 #endif

@@ -10,7 +10,7 @@
 
 static const char *file;
 static dwexpr_encoding encoding;
-static struct section lists_of_4, lists_of_5;
+static dwexpr_text lists_of_4, lists_of_5;
 static size_t same, differing, refused;
 
 static void compare(const uint8_t *bytes, size_t length, const Dwarf_Op *operations, size_t count)
@@ -31,15 +31,15 @@ static void compare(const uint8_t *bytes, size_t length, const Dwarf_Op *operati
 
 static void compare_list(Dwarf_Attribute *attribute)
 {
-    struct section section = encoding.version >= 5 ? lists_of_5 : lists_of_4;
+    const dwexpr_text section = encoding.version >= 5 ? lists_of_5 : lists_of_4;
     const uint8_t *at, *end = section.bytes + section.length;
-    struct expression found;
+    dwexpr_text found;
     Dwarf_Addr base, first, last;
     Dwarf_Word offset;
     Dwarf_Op *operations;
     size_t count;
     ptrdiff_t place = 0;
-    if (list_offset(attribute, section, encoding, &offset) || offset >= section.length)
+    if (list_offset(attribute, section, encoding, &offset))
         return;
     at = section.bytes + offset;
     while (next_expression(encoding, &at, end, &found) &&
@@ -49,14 +49,13 @@ static void compare_list(Dwarf_Attribute *attribute)
 
 static int on_attribute(Dwarf_Attribute *attribute, void *unused)
 {
-    const unsigned form = dwarf_whatform(attribute), name = dwarf_whatattr(attribute);
+    const unsigned name = dwarf_whatattr(attribute);
     Dwarf_Block block;
     Dwarf_Op *operations;
     size_t count;
     (void)unused;
-    if (form == DW_FORM_exprloc || form == DW_FORM_block1 || form == DW_FORM_block2) {
-        if (name != DW_AT_const_value && !dwarf_formblock(attribute, &block) &&
-            !dwarf_getlocation(attribute, &operations, &count))
+    if (!dwarf_formblock(attribute, &block)) {
+        if (name != DW_AT_const_value && !dwarf_getlocation(attribute, &operations, &count))
             compare(block.data, block.length, operations, count);
     } else if (name == DW_AT_location || name == DW_AT_frame_base) {
         compare_list(attribute);

@@ -57,28 +57,23 @@ static const struct {
     {0, "", 0, 0, DWEXPR_LIBDW_OPTIMIZED_AWAY, 0, 0},
 };
 
-static void write_number(uint64_t number, size_t size, uint8_t *bytes)
-{
-    size_t i;
-    for (i = 0; i < size; i++)
-        bytes[i] = (uint8_t)(number >> 8 * i);
-}
-
 /* register 7 has 0x1000, and memory at 0x1008 has 0x5000 */
 static int read_register(void *context, uint32_t number, uint8_t *bytes, size_t *size)
 {
+    static const uint64_t content = 0x1000;
     (void)context;
-    *size = 8;
-    write_number(0x1000, 8, bytes);
+    *size = sizeof content;
+    memcpy(bytes, &content, sizeof content);
     return number != 7;
 }
 
 static int read_memory(void *context, uint64_t address, uint8_t *bytes, size_t size)
 {
+    static const uint64_t content = 0x5000;
     (void)context;
-    if (address != 0x1008 || size > 8)
+    if (address != 0x1008 || size > sizeof content)
         return 1;
-    write_number(0x5000, size, bytes);
+    memcpy(bytes, &content, size);
     return 0;
 }
 
@@ -100,29 +95,37 @@ static void check_registers(dwexpr_libdw_frame *frame)
         {5, 0, DWEXPR_LIBDW_NOT_READABLE},
     };
     size_t i;
-    for (i = 0; i < sizeof wanted / sizeof *wanted; i++) {
-        uint8_t got[DWEXPR_LIBDW_REGISTER_SIZE], number[8];
+    for (i = 0; i < COUNT(wanted); i++) {
+        uint8_t got[DWEXPR_LIBDW_REGISTER_SIZE];
         char name[32];
         size_t size;
         const uint32_t code = dwexpr_libdw_caller_register(frame, wanted[i].number, got, &size);
         snprintf(name, sizeof name, "register %d of the caller", wanted[i].number);
-        write_number(wanted[i].value, sizeof number, number);
         check(code == wanted[i].code, name, dwexpr_libdw_code_name(code));
-        check(code || (size == 8 && !memcmp(got, number, 8)), name, "its value");
+        check(code || (size == 8 && !memcmp(got, &wanted[i].value, 8)), name, "its value");
     }
+}
+
+/* What call frame information says at an address, or NULL, and its file. */
+static Dwarf_Frame *rules_at(Dwfl *dwfl, void (*function)(void), Elf **elf)
+{
+    const Dwarf_Addr address = (Dwarf_Addr)(uintptr_t)function;
+    Dwfl_Module *module = dwfl_addrmodule(dwfl, address);
+    Dwarf_Addr bias, bias_of_elf;
+    Dwarf_CFI *table = dwfl_module_eh_cfi(module, &bias);
+    Dwarf_Frame *state = NULL;
+    *elf = dwfl_module_getelf(module, &bias_of_elf);
+    dwarf_cfi_addrframe(table, address - bias, &state);
+    return state;
 }
 
 /* What the ABI says of registers that no rule names: a call keeps rbx, and may change rax. */
 static void check_plain(Dwfl *dwfl)
 {
-    const Dwarf_Addr address = (Dwarf_Addr)(uintptr_t)plain;
-    Dwfl_Module *module = dwfl_addrmodule(dwfl, address);
-    Dwarf_Addr bias, bias_of_elf;
-    Dwarf_CFI *table = dwfl_module_eh_cfi(module, &bias);
-    Elf *elf = dwfl_module_getelf(module, &bias_of_elf);
-    Dwarf_Frame *state = NULL;
+    Elf *elf;
+    Dwarf_Frame *state = rules_at(dwfl, plain, &elf);
     dwexpr_libdw_text text;
-    check(!dwarf_cfi_addrframe(table, address - bias, &state), "no rules", "a state");
+    check(state != NULL, "no rules", "a state");
     check(dwexpr_libdw_rule(state, elf, 3, &text) == DWEXPR_LIBDW_SAME_VALUE, "rbx", "it is kept");
     check(dwexpr_libdw_rule(state, elf, 0, &text) == DWEXPR_LIBDW_OPTIMIZED_AWAY, "rax", "it isn't");
     free(state);
@@ -131,31 +134,19 @@ static void check_plain(Dwfl *dwfl)
 int main(void)
 {
     static const Dwfl_Callbacks finders = {dwfl_linux_proc_find_elf, dwfl_standard_find_debuginfo, NULL, NULL};
-    const Dwarf_Addr address = (Dwarf_Addr)(uintptr_t)rules;
     Dwfl *dwfl = dwfl_begin(&finders);
-    Dwfl_Module *module;
-    Dwarf_CFI *table;
-    Dwarf_Frame *state = NULL;
-    Dwarf_Addr bias, bias_of_elf;
-    dwexpr_libdw_source source;
+    const dwexpr_libdw_source source = {.dwfl = dwfl, .pc = (Dwarf_Addr)(uintptr_t)rules, .is_activation = 1,
+                                        .read_register = read_register, .read_memory = read_memory};
+    Dwarf_Frame *state;
     dwexpr_libdw_frame *frame;
     Elf *elf;
     size_t i;
     dwfl_linux_proc_report(dwfl, getpid());
     dwfl_report_end(dwfl, NULL, NULL);
-    module = dwfl_addrmodule(dwfl, address);
-    elf = dwfl_module_getelf(module, &bias_of_elf);
-    table = dwfl_module_eh_cfi(module, &bias);
-    dwarf_cfi_addrframe(table, address - bias, &state);
+    state = rules_at(dwfl, rules, &elf);
     check(state != NULL, "rules", "they are there");
-    memset(&source, 0, sizeof source);
-    source.dwfl = dwfl;
-    source.pc = address;
-    source.is_activation = 1;
-    source.read_register = read_register;
-    source.read_memory = read_memory;
     dwexpr_libdw_make_frame(&source, &frame);
-    for (i = 0; state && i < sizeof rows / sizeof *rows; i++) {
+    for (i = 0; state && i < COUNT(rows); i++) {
         uint8_t wanted[64];
         char name[32];
         const size_t length = bytes_of(rows[i].bytes, wanted);

@@ -1,9 +1,5 @@
 /* Many frames, and a parameter that goes through all of them. Its first word says where it stops. */
-#include <stdlib.h>
-
-static volatile int at;
-#define STOP(k) do { if (at == (k)) __asm__ volatile("ud2" : : : "memory"); } while (0)
-#define USE(x) __asm__ volatile("" : : "g"(x) : "memory")
+#include "../libdw/stop.h"
 
 __attribute__((noinline)) static long handed(int n, long given)
 {

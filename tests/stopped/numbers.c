@@ -1,9 +1,7 @@
 /* Variables of each integer type, in registers, in memory and as constants. Its first word says where it stops. */
 #include <stdint.h>
-#include <stdlib.h>
 
-static volatile int at;
-#define STOP(k) do { if (at == (k)) __asm__ volatile("ud2" : : : "memory"); } while (0)
+#include "../libdw/stop.h"
 
 enum color { RED, GREEN = 7, BLUE = -3 };
 struct point { int x, y; };

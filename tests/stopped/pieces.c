@@ -1,11 +1,8 @@
 /* Variables in several pieces, bit fields, vectors, thread-local storage, values on entry, and callers' variables. Its
  * first word says where it stops. */
 #include <stdint.h>
-#include <stdlib.h>
 
-static volatile int at;
-#define STOP(k) do { if (at == (k)) __asm__ volatile("ud2" : : : "memory"); } while (0)
-#define USE(x) __asm__ volatile("" : : "g"(x) : "memory")
+#include "../libdw/stop.h"
 
 struct flags {
     unsigned low : 3, middle : 7, high : 13;

@@ -1,11 +1,8 @@
 /* Variables in registers of each kind, atomic ones, characters, and thread-local storage with an alignment. Its first
  * word says where it stops. */
 #include <stdatomic.h>
-#include <stdlib.h>
 
-static volatile int at;
-#define STOP(k) do { if (at == (k)) __asm__ volatile("ud2" : : : "memory"); } while (0)
-#define USE(x) __asm__ volatile("" : : "g"(x) : "memory")
+#include "../libdw/stop.h"
 
 typedef long wide __attribute__((vector_size(32)));
 

@@ -3,9 +3,7 @@
 #include <cstdlib>
 #include <stdexcept>
 
-static volatile int at;
-#define STOP(k) do { if (at == (k)) __asm__ volatile("ud2" : : : "memory"); } while (0)
-#define USE(x) __asm__ volatile("" : : "g"(x) : "memory")
+#include "../libdw/stop.h"
 
 namespace outer {
 int shared = 9;

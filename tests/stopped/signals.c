@@ -1,12 +1,9 @@
 /* The frames of a signal's handler, of the system's call that it interrupts, of tail calls, and of a function with two
  * names. Its first word says where it stops. */
 #include <signal.h>
-#include <stdlib.h>
 #include <unistd.h>
 
-static volatile int at;
-#define STOP(k) do { if (at == (k)) __asm__ volatile("ud2" : : : "memory"); } while (0)
-#define USE(x) __asm__ volatile("" : : "g"(x) : "memory")
+#include "../libdw/stop.h"
 
 static void on_signal(int number)
 {

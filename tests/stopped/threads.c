@@ -1,11 +1,8 @@
 /* Threads that wait while the first one stops. Its first word says where it stops. */
 #include <pthread.h>
-#include <stdlib.h>
 #include <unistd.h>
 
-static volatile int at;
-#define STOP(k) do { if (at == (k)) __asm__ volatile("ud2" : : : "memory"); } while (0)
-#define USE(x) __asm__ volatile("" : : "g"(x) : "memory")
+#include "../libdw/stop.h"
 
 static _Thread_local long own = 11;
 

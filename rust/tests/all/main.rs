@@ -1,9 +1,4 @@
-//! What gimli's own tests don't show: calls out of turn, restarts, storages, readers of the user's, errors.
-
-#[macro_use]
-#[path = "../../src/lists.rs"]
-#[allow(unused_macros)]
-mod lists;
+//! What gimli's own tests don't show: calls out of turn, storages, readers of the user's, errors.
 
 mod evaluations;
 #[cfg(feature = "gimli")]

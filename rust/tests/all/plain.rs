@@ -109,10 +109,7 @@ fn orders_are_those_of_the_numbers() {
 }
 
 #[test]
-fn numbers_are_ordered_and_hashed() {
-    assert!(Register(1) < Register(2) && DW_OP_addr < DW_OP_deref && DW_ATE_address < DW_ATE_boolean);
-    assert!(UnitOffset(1) < UnitOffset(2) && DebugInfoOffset(1) < DebugInfoOffset(2));
-    assert_eq!(UnitOffset(2).max(UnitOffset(1)), UnitOffset(2));
+fn numbers_are_hashed() {
     let hashed: HashSet<_> = [Register(1), Register(2), Register(1)].into();
     assert_eq!(hashed.len(), 2);
     let encoding = |version, format| Encoding { address_size: 8, format, version };

@@ -1,39 +1,12 @@
 //! Operations and requests, which gimli 0.34 has too.
 
-use super::interop::{Bytes, ENCODING, Relocating, little};
-use dwexpr::{Evaluation, GimliReader, Operation, Value};
-use gimli::ReaderOffset as _;
+use super::interop::{Bytes, ENCODING, little};
+use dwexpr::{Evaluation, EvaluationResult, GimliReader, Operation};
 use std::collections::HashSet;
 
-/// gimli's bounds are enough, and its types come back: this is the loop of an unwinder over gimli's.
-fn unwind<R: gimli::Reader>(rule: gimli::Expression<R>, encoding: gimli::Encoding, cfa: u64) -> Option<u64> {
-    let mut evaluation = Evaluation::new(rule.0.into(), encoding.into());
-    evaluation.set_initial_value(cfa);
-    let mut result = evaluation.evaluate().ok()?;
-    loop {
-        result = match result.into() {
-            gimli::EvaluationResult::Complete => break,
-            gimli::EvaluationResult::RequiresRegister { register, base_type } if base_type.0.into_u64() == 0 => {
-                evaluation.resume_with_register(Value::Generic(register.0.into())).ok()?
-            }
-            gimli::EvaluationResult::RequiresMemory { address, size: 8, .. } => {
-                evaluation.resume_with_memory(Value::Generic(address / 2)).ok()?
-            }
-            _ => return None,
-        };
-    }
-    match evaluation.as_result()[0].clone().into() {
-        gimli::Piece { location: gimli::Location::Address { address }, .. } => Some(address),
-        _ => None,
-    }
-}
-
-#[test]
-fn the_bounds_are_gimlis() {
-    // DW_OP_drop, DW_OP_breg7 16, DW_OP_deref; DW_OP_plus_uconst 1; DW_OP_const_type.
-    assert_eq!(unwind(gimli::Expression(little(&[0x13, 0x77, 0x10, 0x06])), ENCODING, 0), Some((7 + 16) / 2));
-    assert_eq!(unwind(gimli::Expression(Relocating(little(&[0x23, 1]))), ENCODING, 0x3000), Some(0x3001));
-    assert_eq!(unwind(gimli::Expression(little(&[0xa4, 1, 1, 1])), ENCODING, 0), None);
+/// gimli's bounds are enough.
+fn theirs<R: gimli::Reader>(ours: EvaluationResult<GimliReader<R>>) -> gimli::EvaluationResult<R> {
+    ours.into()
 }
 
 /// Every operation of each opcode, with operands that differ, as gimli decodes it.
@@ -71,8 +44,8 @@ fn requests_convert() {
         let ours = Evaluation::new(GimliReader(bytes), ENCODING.into()).evaluate().unwrap();
         let shown = format!("{theirs:?}");
         assert_eq!(format!("{ours:?}"), shown);
-        assert_eq!(gimli::EvaluationResult::from(ours), theirs);
-        assert_eq!(dwexpr::EvaluationResult::from(theirs), ours);
+        assert_eq!(self::theirs(ours), theirs);
+        assert_eq!(EvaluationResult::from(theirs), ours);
         names.insert(shown.split([' ', '(']).next().unwrap().to_owned());
     }
     assert_eq!(names.len(), 15, "{names:?}");

@@ -1,0 +1,12 @@
+/* What the programs of tests/stopped share. */
+#ifndef STOP_H
+#define STOP_H
+
+#include <stdlib.h>
+
+/* The place where it stops, by an instruction that there isn't, and a use of a variable. */
+static volatile int at;
+#define STOP(k) do { if (at == (k)) __asm__ volatile("ud2" : : : "memory"); } while (0)
+#define USE(x) __asm__ volatile("" : : "g"(x) : "memory")
+
+#endif

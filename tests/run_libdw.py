@@ -57,12 +57,6 @@ NONE_DIFFERS = {"status": 0, "differing": 0, "refused": 0}
 LIBRARIES = {}
 
 
-def build_libraries(folder):
-    """Builds libdwexpr_libdw.a without a warning."""
-    for kind, words in [("plain", ["-O2"]), ("checked", ["-O1", *SANITIZERS])]:
-        LIBRARIES[kind] = libraries.build("libdw", folder / kind, *words)
-
-
 def built(source, program, *words, **more):
     """Builds a source of the repository over the library and the archive, without a warning: the program, or None."""
     kind = "checked" if SANITIZERS[-1] in words else "plain"
@@ -325,7 +319,8 @@ def main():
             return left_out("include/dwexpr_libdw.h and the examples over it", "libdw")
         with commands.alone():
             archive.build()
-        build_libraries(folder)
+        for kind, words in [("plain", ["-O2"]), ("checked", ["-O1", *SANITIZERS])]:
+            LIBRARIES[kind] = libraries.build("libdw", folder / kind, *words)
         check_headers("dwexpr_libdw.h", "dwexpr_names.h")
         for stage in [callers, expressions, examples, frames, texts, with_gdb, hostile]:
             stage(folder)

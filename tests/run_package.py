@@ -223,8 +223,6 @@ def main():
         expect(shutil.which("rt", path=env["PATH"]) is None, "no rt on PATH")
         if here := unpacked(folder):
             sources = by_all(here, folder, env, BY_KIT)
-            check("bin/package --prefix", [TOP / "bin/package", "--prefix", folder / "prefix"])
-            expect((folder / "prefix/lib/libdwexpr.a").exists(), "the prefix has the archive")
             for_arm(folder, env)
             (folder / "by rustc").mkdir()
             by_rustc(folder / "by rustc", env, sources)

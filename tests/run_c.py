@@ -34,7 +34,7 @@ def versions():
     for manifest in ("rust/Cargo.toml", "c/Cargo.toml"):
         expect(f'\nversion = "{version}"\n' in (TOP / manifest).read_text(), f"the version in {manifest}")
     number = int("".join(part.zfill(2) for part in version.split(".")))
-    expect(f"DWEXPR_VERSION_NUMBER {number}\n" in header, "the version's number", number)
+    expect(f"DWEXPR_VERSION_NUMBER {number} " in header, "the version's number", number)
 
 
 def numbers_of(encoding):

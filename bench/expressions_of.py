@@ -11,7 +11,6 @@ import re
 import sys
 import tempfile
 
-sys.dont_write_bytecode = True
 sys.path.insert(0, str(pathlib.Path(__file__).resolve().parent.parent / "bin"))
 import commands  # noqa: E402
 

@@ -113,9 +113,8 @@ def build(package, target):
         words = ["cargo", "rustc", "--quiet", "--release", "--offline", "--lib", "--crate-type", kind]
         commands.run(*words, "--target", target, cwd=package, env=env)
     built = package / "target" / target / "release"
-    static = next((built / name for name in ("libdwexpr.a", "dwexpr.lib") if (built / name).exists()), None)
-    names = ("libdwexpr.so", "libdwexpr.dylib", "dwexpr.dll")
-    shared = next((built / name for name in names if (built / name).exists()), None)
+    names = ("libdwexpr.a", "dwexpr.lib"), ("libdwexpr.so", "libdwexpr.dylib", "dwexpr.dll")
+    static, shared = (next(filter(pathlib.Path.exists, map(built.joinpath, some)), None) for some in names)
     if static and static.suffix == ".a":
         join(static, target)
     return static, shared

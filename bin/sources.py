@@ -1,9 +1,10 @@
 """How the repository's scripts read its sources: definitions, wrong bodies, and counts of checks."""
 
+import functools
 import re
 import typing
 
-from commands import Failure
+from commands import TOP, Failure
 
 # A definition that contracts can cite: `abbrev pub NAME`, `pub data NAME`, `pub NAME : ..` and their like. In a module
 # of a file they stand further in.
@@ -12,6 +13,27 @@ DEFINED = re.compile(
 )
 # The last line of each test.
 COUNTED = re.compile(r"^(\d+) passed, (\d+) failed\n\Z", re.MULTILINE)
+
+
+@functools.cache
+def read(path):
+    """The text of a file of the repository."""
+    return (TOP / path).read_text(encoding="utf-8")
+
+
+def opcodes():
+    """The number of each opcode that has a name, in hexadecimal digits."""
+    constants = read("crates/dwarf_base/src/constants.rt")
+    return dict(re.findall(r"^pub const (DW_OP_\w+): DwOp = DwOp\(0x(\w+)\);", constants, re.MULTILINE))
+
+
+def changes_in(path):
+    """The changes of a file, between empty lines: of each its first line, the text after `-`, and that after `+`, which
+    is to stand in its place. A line that begins with `# ` is a remark."""
+    text = re.sub(r"^# .*\n", "", path.read_text(encoding="utf-8"), flags=re.MULTILINE)
+    for change in text.strip().split("\n\n"):
+        head, *lines = change.split("\n")
+        yield head, *("\n".join(line[2:] for line in lines if line[0] == sign) for sign in "-+")
 
 
 class Edit(typing.NamedTuple):
@@ -57,6 +79,15 @@ def edits_in(path):
         return [Edit(path.stem, text)]
     blocks = (block.partition("\n") for block in text.split("\n\n") if block)
     return [Edit(first.removeprefix("name: "), rest) for first, _, rest in blocks]
+
+
+def difference(ours, theirs, around):
+    """Where two texts or two lists of tokens differ first, with so many tokens on both sides, or `None`."""
+    if ours == theirs:
+        return None
+    at = next((at for at, (one, other) in enumerate(zip(ours, theirs)) if one != other), min(len(ours), len(theirs)))
+    places = (it[max(at - around, 0) : at + around] for it in (ours, theirs))
+    return " | ".join(it if isinstance(it, str) else " ".join(it) for it in places)
 
 
 def counted(output):

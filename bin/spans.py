@@ -3,6 +3,8 @@ counts braces. `bin/crate` keeps no token, and deletes none, unless both readers
 
 import re
 
+import sources
+
 # What begins in a line and isn't Rust: a ghost item, a clause of a contract, a tactic, a derive of Rattle's own, or the
 # model of a type.
 BEGINS = re.compile(
@@ -46,8 +48,4 @@ def rust_in(text):
 
 def difference(text, kept):
     """Where the Rust in a source and the tokens that another reader kept differ first, or `None`."""
-    ours, theirs = rust_in(text), "".join(kept)
-    if ours == theirs:
-        return None
-    at = next((at for at, (one, other) in enumerate(zip(ours, theirs)) if one != other), min(len(ours), len(theirs)))
-    return f"{ours[max(at - 30, 0) : at + 30]} | {theirs[max(at - 30, 0) : at + 30]}"
+    return sources.difference(rust_in(text), "".join(kept), 30)

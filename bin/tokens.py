@@ -3,6 +3,7 @@
 import bisect
 import re
 
+import sources
 from commands import Failure
 
 # White space, a comment, a lifetime, the name of an ABI, a word or a number, or one sign.
@@ -17,10 +18,6 @@ KNOWN_ATTRIBUTE = re.compile(
 CLAUSES = ("requires", "ensures")
 KNOWN_MACROS = {"matches", "unreachable"}
 CLOSING = {"(": ")", "[": "]", "{": "}"}
-
-
-class Refused(Failure):
-    """Something in a source that isn't known."""
 
 
 def split(text):
@@ -82,7 +79,7 @@ class Source:
         if not holds:
             index = self.code[min(at, len(self.code) - 1)]
             line = 1 + "".join(self.tokens[:index]).count("\n")
-            raise Refused(f"{self.path}:{line}: {why}: `{self.tokens[index]}`")
+            raise Failure(f"{self.path}:{line}: {why}: `{self.tokens[index]}`")
 
     def replace(self, first, last, text):
         """Puts text in the place of code. Gives the place after it."""
@@ -241,8 +238,4 @@ def settled(tokens):
 
 def difference(texts, written):
     """Where the tokens of some texts and those of what was written differ first, or None."""
-    ours, theirs = settled([token for text in texts for token in split(text)]), settled(split(written))
-    for at, (one, other) in enumerate(zip(ours, theirs)):
-        if one != other:
-            return f"{' '.join(ours[max(at - 4, 0) : at + 4])} | {' '.join(theirs[max(at - 4, 0) : at + 4])}"
-    return None
+    return sources.difference(settled([it for text in texts for it in split(text)]), settled(split(written)), 4)

@@ -4,32 +4,23 @@
 - Each command after a `$` prints the lines that follow it. `bin/test` is the gate itself, and isn't run.
 - Each program in C, a fence with a `main`, is built from a package by the command in front of it, in which DIR is the
   package. It prints what the remarks after `printf` say. So does each program in Rust, with the crate of `bin/crate`.
-- What README.md says of gdb and libdw is so. gdb prints variables of a file that is made by hand, of two units, one
-  with addresses of 8 bytes and one of 4. The headers of libdw are searched for a call that evaluates.
 
-It wants the program and the archive built, cc, pkg-config, rustc, rustfmt, the gdb that README.md names, and the
-headers of libdw. What is missing is left out, and said so. The last line is `N passed, M failed`.
+It wants the program and the archive built, cc, pkg-config, rustc and rustfmt. What is missing is left out, and said so.
+The last line is `N passed, M failed`.
 """
 
-import pathlib
 import re
-import signal
-import subprocess
-import sys
+import textwrap
 
-sys.dont_write_bytecode = True
-import checks  # noqa: E402
-from checks import commands, expect, lacks, left_out, run  # noqa: E402
-from commands import TOP  # noqa: E402
+import checks
+from checks import check, commands, expect, lacks, left_out, prints, run
 
-sys.path.insert(0, str(TOP / "tests" / "libdw"))
-from unit import Unit  # noqa: E402
+import archive
+from commands import TOP
 
 PAGES = {name: (TOP / name).read_text(encoding="utf-8") for name in ("README.md", "docs/GUIDE.md")}
 # A command and what it prints, up to an empty line or the next command.
 SESSION = re.compile(r"^    \$ (.+)\n((?:    (?!\$).+\n)*)", re.MULTILINE)
-GATE = "bin/test"
-ARCHIVE = TOP / "crates/dwexpr_c/out/libdwexpr_c.a"
 # A fence that names no file, with all that is in it.
 FENCE = re.compile(r"^```(\w+)\n(.*?)^```$", re.MULTILINE | re.DOTALL)
 PRINTED = re.compile(r"print(?:f|ln!)\(.*;.*?(?:/\*|//) (.*?)(?: \*/)?$", re.MULTILINE)
@@ -37,37 +28,14 @@ PRINTED = re.compile(r"print(?:f|ln!)\(.*;.*?(?:/\*|//) (.*?)(?: \*/)?$", re.MUL
 BUILD = re.compile(r"((?:^    .+\n)*^    cc program\.c .+\n)", re.MULTILINE)
 checks.SECONDS = 600
 
-# By the size of an address: each variable's expression, and a pattern for what gdb prints, None if it doesn't end.
-VARIABLES = {
-    8: {
-        "sane": ("359f", r"\$1 = 5\n"),
-        # The operand has one byte of eight. The address that gdb makes has it lowest; the others are what follows.
-        "cut": ("0e01", r"Cannot access memory at address 0x[0-9a-f]{10,}01\n"),
-        "loop": ("2ffdff", None),
-    },
-    4: {
-        "high": ("0effffffff010000009f", r"\$1 = 4294967295\n"),
-        "shifted": ("310e0100000001000000249f", r"\$1 = 2\n"),
-    },
-}
-# How long an endless expression is waited for.
-PATIENCE = 5
-LIBDW = ["/usr/include/elfutils/libdw.h", "/usr/include/elfutils/libdwfl.h"]
-
-# A unit, a base type with its encoding and size, and a variable with its type and location (DWARF 4, section 7.5.3).
-ABBREVIATIONS = bytes([1, 0x11, 1, 0x03, 0x08, 0, 0, 2, 0x24, 0, 0x03, 0x08, 0x3E, 0x0B, 0x0B, 0x0B, 0, 0])
-ABBREVIATIONS += bytes([3, 0x34, 0, 0x03, 0x08, 0x49, 0x13, 0x02, 0x18, 0, 0, 0])
-
 
 def sessions():
     """Each command prints what the page says."""
     for page, text in PAGES.items():
         for command, wanted in SESSION.findall(text):
-            if command == GATE:
-                continue
-            said = run(["bash", "-c", command], cwd=TOP).stdout
-            good = said == re.sub(r"^    ", "", wanted, flags=re.MULTILINE)
-            yield None if good else f"{page}: `{command}` prints\n{said}"
+            if command != "bin/test":
+                said = run(["bash", "-c", command], cwd=TOP).stdout
+                expect(said == textwrap.dedent(wanted), f"{page}: `{command}`", said)
 
 
 def programs(language, entry):
@@ -82,17 +50,15 @@ def in_c():
     """Each program in C prints what it says, if it is built from a package as the page says."""
     if lacks("the programs in C", "cc", "pkg-config", "rt"):
         return
-    if not ARCHIVE.exists():
-        left_out("the programs in C", "archive that is built")
+    if not archive.is_built():
+        left_out("the programs in C", "archive of these sources")
         return
     with commands.temporary() as folder:
-        packed = run([TOP / "bin/package", "--prefix", f"{folder}/package"])
-        yield f"bin/package: {packed.stderr}" if packed.returncode else None
+        check("bin/package", [TOP / "bin/package", "--prefix", folder / "package"])
         for page, before, program, wanted in programs("c", "int main("):
             (folder / "program.c").write_text(program)
             command = BUILD.findall(before)[-1].replace("DIR", f"{folder}/package")
-            said = run(["bash", "-ec", f"{command}\n./a.out"], cwd=folder)
-            yield None if said.stdout == wanted else f"{page}: a program in C prints\n{said.stdout}{said.stderr}"
+            prints(f"{page}: a program in C", ["bash", "-ec", f"{command}\n./a.out"], wanted, cwd=folder)
 
 
 def in_rust():
@@ -100,78 +66,22 @@ def in_rust():
     if lacks("the programs in Rust", "rustc", "rustfmt"):
         return
     with commands.temporary() as folder:
-        made = run([TOP / "bin/crate", f"{folder}/crate"])
-        yield f"bin/crate: {made.stdout}{made.stderr}" if made.returncode else None
+        check("bin/crate", [TOP / "bin/crate", folder / "crate"])
         # Without Cargo, which would look for the crates of the features. It would turn on the default one.
         words = ["rustc", "--edition", "2024", "--cfg", 'feature="alloc"']
-        built = run([*words, "--crate-type", "lib", "--crate-name", "dwexpr", "crate/src/lib.rs"], cwd=folder)
-        yield f"the crate by rustc: {built.stderr}" if built.returncode else None
+        library = ["--crate-type", "lib", "--crate-name", "dwexpr", "crate/src/lib.rs"]
+        check("the crate by rustc", [*words, *library], cwd=folder)
         for page, _, program, wanted in programs("rust", "fn main("):
             (folder / "program.rs").write_text(program)
-            built = run([*words, "--extern", "dwexpr=libdwexpr.rlib", "program.rs"], cwd=folder)
-            said = built if built.returncode else run(["./program"], cwd=folder)
-            yield None if said.stdout == wanted else f"{page}: a program in Rust prints\n{said.stdout}{said.stderr}"
-
-
-def units():
-    """The object file for gdb."""
-    info = b""
-    for size, variables in VARIABLES.items():
-        unit, entries = Unit(size, 4, 4, "le"), b"\1unit\0"
-        kind = unit.pack("I", len(unit.length(0) + unit.header() + entries))
-        entries += b"\2number\0\5\10"
-        for name, (digits, _) in variables.items():
-            block = bytes.fromhex(digits)
-            entries += b"\3" + name.encode() + b"\0" + kind + bytes([len(block)]) + block
-        info += unit.info(entries + b"\0")
-    return Unit(8, 4, 4, "le").elf({".debug_abbrev": ABBREVIATIONS, ".debug_info": info})
-
-
-def is_printed(file, name, pattern):
-    """Whether gdb prints this of a variable, or with no pattern goes on until it is interrupted."""
-    words = ["gdb", "-q", "-nx", "-batch", "-ex", f"print {name}", file]
-    with subprocess.Popen(words, stdout=subprocess.PIPE, stderr=subprocess.STDOUT, text=True) as ran:
-        try:
-            said = ran.communicate(timeout=checks.SECONDS if pattern else PATIENCE)[0]
-            return bool(pattern) and bool(re.fullmatch(pattern, said))
-        except subprocess.TimeoutExpired:
-            ran.send_signal(signal.SIGINT)
-            return "Quit" in ran.communicate(timeout=checks.SECONDS)[0] and not pattern
-
-
-def of_gdb():
-    """gdb prints what the table says."""
-    if lacks("what gdb prints", "gdb"):
-        return
-    version = run(["gdb", "--version"]).stdout.split("\n")[0]
-    named = re.search(r"gdb (\d+\.\d+)", PAGES["README.md"])[1]
-    if not version.endswith(f" {named}"):
-        left_out(f"what gdb prints, since {version} is there", f"gdb {named}")
-        return
-    with commands.temporary() as folder:
-        made = folder / "units.o"
-        made.write_bytes(units())
-        for variables in VARIABLES.values():
-            for name, (digits, pattern) in variables.items():
-                yield None if is_printed(made, name, pattern) else f"gdb prints something else for {digits}"
-
-
-def of_libdw():
-    """No call of libdw evaluates."""
-    for header in LIBDW:
-        if not pathlib.Path(header).exists():
-            left_out("the calls of libdw", header)
-            continue
-        calls = re.findall(r"\b(?:dwarf|dwfl)_\w*eval\w*", pathlib.Path(header).read_text())
-        yield f"{header} declares {calls[0]}" if calls else None
+            if check(f"{page}: rustc", [*words, "--extern", "dwexpr=libdwexpr.rlib", "program.rs"], cwd=folder):
+                prints(f"{page}: a program in Rust", ["./program"], wanted, cwd=folder)
 
 
 def main():
-    commands.words_of(__doc__)
-    for part in (sessions, in_c, in_rust, of_gdb, of_libdw):
-        for line in part():
-            expect(not line, line)
+    sessions()
+    in_c()
+    in_rust()
 
 
 if __name__ == "__main__":
-    checks.end_with(main)
+    checks.end_with(main, __doc__)

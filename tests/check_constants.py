@@ -13,15 +13,12 @@ status is 1 if one failed.
 """
 
 import collections
-import pathlib
 import re
-import sys
 
-sys.dont_write_bytecode = True
-import checks  # noqa: E402
-from checks import commands, expect  # noqa: E402
+import checks
+from checks import expect
+from commands import TOP
 
-TOP = pathlib.Path(__file__).resolve().parent.parent
 CRATE = TOP / "crates" / "dwarf_base"
 CONSTANTS = CRATE / "src" / "constants.rt"
 LAW = CRATE / "src" / "laws.rt"
@@ -56,7 +53,6 @@ def read(file):
 
 
 def main():
-    commands.words_of(__doc__)
     lists = dict(LIST.findall(read(LISTS)))
     rows = collections.Counter(name for clause in CLAUSE.findall(read(LAW)) for name in ROW.findall(lists[clause]))
     for name in CONSTANT.findall(read(CONSTANTS)) or ["no constant"]:
@@ -70,4 +66,4 @@ def main():
 
 
 if __name__ == "__main__":
-    checks.end_with(main)
+    checks.end_with(main, __doc__)

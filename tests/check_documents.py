@@ -1,19 +1,18 @@
 #!/usr/bin/env python3
 """What the documents name is there, and what they have to name is named.
 
-- Each definition under `specs/` has a comment.
+- The first definition of each file under `specs/` has a comment right above it, which those after it may share.
 - Each name in docs/DEFINITIONS.md is one of the code, of the definitions or of a file of theirs.
 - Each path in README.md, CHANGELOG.md, CONTRIBUTING.md, SECURITY.md, bench/README.md and docs/ leads to a file or
   folder of the repository; what is built, gimli's files and the web aside. Each link to a part of a page finds its
-  heading. Each file in a crate's table in docs/PROOFS.md is one of that crate, or of the crate that is named after it.
+  heading.
 - docs/GUIDE.md names exactly the operations that are known and aren't the standard's. The number of faults, the limits
   of the archive's lists, the size of an evaluation there, the logic's sum and README.md's ratios are those of the
   sources and docs/SPEED.md.
 - The figures in CONTRIBUTING.md are those that `bin/figures` prints.
 - docs/ARCHITECTURE.md has a row for each crate.
 - No line of a page but a table's row has more than 120 columns.
-- Each block of README.md, docs/GUIDE.md and docs/PROOFS.md whose fence names a file is what stands in that file, byte
-  for byte. docs/GUIDE.md has the loop over requests and its proof.
+- Each block whose fence names a file is what stands in that file, byte for byte.
 - Each text that a wrong body takes away stands once in the file that it names. The gate tries few of them.
 
 It prints a line for each failure. The last line is `N passed, M failed`.
@@ -24,15 +23,14 @@ import functools
 import os
 import pathlib
 import re
-import sys
 
-sys.dont_write_bytecode = True
-import checks  # noqa: E402
-from checks import commands, expect, run  # noqa: E402
+import checks
+from checks import commands, expect
 
-import compiler  # noqa: E402
-import sources  # noqa: E402
-from commands import TOP  # noqa: E402
+import compiler
+import sources
+from commands import TOP
+from sources import read
 
 README = "README.md"
 DEFINITIONS = "docs/DEFINITIONS.md"
@@ -40,31 +38,15 @@ PROOFS = "docs/PROOFS.md"
 SPEED = "docs/SPEED.md"
 # Folders of what is built or kept beside the repository, and no part of it; and those of a package.
 BESIDE = {"out", "build", "target", "__pycache__", ".git", "dist", "lib", "share"}
-# The pages whose blocks are compared with the files that they name.
 GUIDE = "docs/GUIDE.md"
-SHOWING = [README, GUIDE, PROOFS]
-# What the guide has to show.
-SHOWN = {
-    "crates/dwarf_example/src/requests.rt",
-    "crates/dwarf_example/proofs/requests/complete/Invariants.antt",
-}
-
-# Paths in the documents that lead nowhere here, each with the reason.
-PATHS_ELSEWHERE = {
-    "src/read/op.rs": "a file of gimli's",
-    "src/read/value.rs": "a file of gimli's",
-    "op.rs": "the same",
-    "value.rs": "the same",
-    "src/sources": "a folder of the Rust crate, which bin/crate writes",
-}
+# Paths in the documents that lead nowhere here: files of gimli's, and a folder that bin/crate writes.
+PATHS_ELSEWHERE = {"src/read/op.rs", "src/read/value.rs", "op.rs", "value.rs", "src/sources"}
 
 QUOTED = re.compile(r"`([^`\n]+)`")
 LINK = re.compile(r"\]\(([^)#]+)")
 # A link to a part of a page: the page, which may be the same one, and the part.
 PART = re.compile(r"\]\(([^)#\s]*)#([^)\s]+)\)")
 HEADING = re.compile(r"^#+ (.*)$", re.MULTILINE)
-# A file in the folder of a crate, and the crate, if it is named.
-OF_CRATE = re.compile(r"`((?:specs|src)/[\w/.]+)`(?: of `(\w+)`)?")
 # Fences and blocks with an indent, in which nothing is a heading.
 CODE = re.compile(r"^```.*?^```$", re.MULTILINE | re.DOTALL)
 WORD = re.compile(r"[A-Za-z_][A-Za-z0-9_]*")
@@ -73,11 +55,8 @@ PATH = re.compile(r"[\w.*/-]*(?:/[\w.*-]*|\.(?:rt|antt|edit|md|py|json|txt|rs|c|
 # A block whose fence names a file after its language.
 BLOCK = re.compile(r"^```\w+ (\S+)\n(.*?)^```$", re.MULTILINE | re.DOTALL)
 
-# An opcode's constant and its number; the first number that isn't the standard's (DW_OP_lo_user); a name within a range
-# of the decoder's table, which names its ends.
-CONSTANT = re.compile(r"^pub const (DW_OP_\w+): DwOp = DwOp\(0x(\w+)\);", re.MULTILINE)
+# The first number of an opcode that isn't the standard's (DW_OP_lo_user).
 FIRST_OF_OTHERS = 0xE0
-WITHIN = re.compile(r"DW_OP_b?(?:lit|reg)(?:[1-9]|[12]\d|30)")
 LIMITS = re.compile(r"(\d+)\s+values,\s+(\d+)\s+callers\s+and\s+(\d+)\s+pieces")
 FAULTS = re.compile(r"\b(\d+)\s+(?:faults|errors)\b")
 LIMIT = re.compile(r"#define DWEXPR_MAX_(?:VALUES|CALLERS|PIECES) (\d+)")
@@ -86,24 +65,18 @@ LOGIC = re.compile(r"`([0-9a-f]{16})`")
 
 # A comment of the code or of definitions.
 COMMENT = re.compile(r"(?://|--).*")
+# A comment, and a line that declares an operator below it, at the end of a text.
+COMMENT_AT_END = re.compile(r"^ *-- .*\n(?:infix.*\n)?\Z", re.MULTILINE)
 # The variants of the enum of errors, each at the beginning of a line.
 ERRORS = re.compile(r"^pub enum Error .*?\n}", re.MULTILINE | re.DOTALL)
 VARIANT = re.compile(r"^    [A-Z]", re.MULTILINE)
 
 
 @functools.cache
-def read(path):
-    return (TOP / path).read_text(encoding="utf-8")
-
-
-@functools.cache
 def files():
     """The files of the repository, those that aren't committed yet too."""
-    names = []
-    for folder, inner, found in os.walk(TOP):
-        inner[:] = [name for name in inner if name not in BESIDE]
-        names += [os.path.relpath(os.path.join(folder, name), TOP) for name in found]
-    return sorted(names)
+    found = (path.relative_to(TOP) for path in TOP.rglob("*") if path.is_file())
+    return sorted(str(path) for path in found if not BESIDE.intersection(path.parent.parts))
 
 
 @functools.cache
@@ -116,9 +89,11 @@ def documents():
     return [name for name in files() if name in pages or name.startswith("docs/")]
 
 
-def glossary():
-    """No definition lacks its comment."""
-    yield "bin/glossary: a definition lacks its comment" if run([TOP / "bin/glossary"]).returncode else None
+def uncommented():
+    """The first definition of each file has a comment."""
+    for path in fnmatch.filter(files(), "crates/*/specs/*.antt"):
+        if first := sources.DEFINED.search(read(path)):
+            expect(COMMENT_AT_END.search(read(path)[: first.start()]), f"{path}: {first[1]} lacks its comment")
 
 
 @functools.cache
@@ -134,8 +109,7 @@ def unknown():
     for quoted in sorted(set(QUOTED.findall(read(DEFINITIONS)))):
         words = quoted.split("::")
         if all(map(WORD.fullmatch, words)):
-            missing = not known().issuperset(words)
-            yield f"{DEFINITIONS} names `{quoted}`, which no crate names" if missing else None
+            expect(known().issuperset(words), f"{DEFINITIONS} names `{quoted}`, which no crate names")
 
 
 def is_there(path, near):
@@ -159,8 +133,7 @@ def astray():
         text = read(document)
         quoted = [name for name in QUOTED.findall(text) if PATH.fullmatch(name)]
         for path in sorted(filter(is_ours, set(quoted + LINK.findall(text)))):
-            missing = not is_there(path, os.path.dirname(document))
-            yield f"{document} names {path}, which isn't there" if missing else None
+            expect(is_there(path, os.path.dirname(document)), f"{document} names {path}, which isn't there")
 
 
 @functools.cache
@@ -175,31 +148,16 @@ def partless():
     for document in documents():
         for page, part in PART.findall(read(document)):
             there = os.path.normpath(os.path.join(os.path.dirname(document), page)) if page else document
-            missing = there.endswith(".md") and part not in parts(there)
-            yield f"{document} links to {page}#{part}, which isn't there" if missing else None
-
-
-def strange():
-    """Each file in a crate's table of PROOFS.md: it is one of that crate, or of the one that is named after it."""
-    for part in read(PROOFS).split("\n### ")[1:]:
-        heading, *lines = part.splitlines()
-        for line in filter(lambda line: line.startswith("|"), lines):
-            for path, other in OF_CRATE.findall(line):
-                there = f"crates/{other or QUOTED.findall(heading)[-1]}/{path}"
-                yield None if there in files() else f"{PROOFS} names {there}, which isn't there"
+            good = not there.endswith(".md") or part in parts(there)
+            expect(good, f"{document} links to {page}#{part}, which isn't there")
 
 
 def operations():
-    """The operations that are known: those of the constants and of the decoder's table; the guide names the standard's
-    by its section, and all others."""
-    constants = dict(CONSTANT.findall(read("crates/dwarf_base/src/constants.rt")))
+    """The operations that are known: the guide names the standard's by its section, and all others."""
     of_guide = read(GUIDE).split("\n## The operations\n")[1].split("\n## ")[0]
-    others = {name for name, number in constants.items() if int(number, 16) >= FIRST_OF_OTHERS}
+    others = {name for name, number in sources.opcodes().items() if int(number, 16) >= FIRST_OF_OTHERS}
     same = set(re.findall(r"`(DW_OP_\w+)`", of_guide)) == others
-    yield None if same else f"{GUIDE} names other operations of vendors than are known"
-    rows = set(re.findall(r"\bDW_OP_\w+\b(?!`)", read("crates/dwarf_op/src/opcodes.rt")))
-    same = rows == {name for name in constants if not WITHIN.fullmatch(name)}
-    yield None if same else "the decoder's table names other operations than there are constants"
+    expect(same, f"{GUIDE} names other operations of vendors than are known")
 
 
 def figures():
@@ -208,38 +166,38 @@ def figures():
     # SPEED.md names the lists of the benchmark.
     for page in filter(SPEED.__ne__, documents()):
         for named in LIMITS.findall(read(page)):
-            yield None if named == limits else f"{page} names the limits {named}, and they are {limits}"
+            expect(named == limits, f"{page} names the limits {named}, and they are {limits}")
     faults = str(len(VARIANT.findall(ERRORS.search(read("crates/dwarf_base/src/errors.rt"))[0])))
     for page in documents():
         for named in FAULTS.findall(read(page)):
-            yield None if named == faults else f"{page} names {named} faults, and there are {faults}"
+            expect(named == faults, f"{page} names {named} faults, and there are {faults}")
     size = re.search(r"#define DWEXPR_EVALUATION_SIZE (\d+)", read("include/dwexpr.h"))[1]
-    yield None if f"at most {int(size):,} bytes" in read(GUIDE) else f"{GUIDE} names another size of an evaluation"
+    expect(f"at most {int(size):,} bytes" in read(GUIDE), f"{GUIDE} names another size of an evaluation")
     logic = set(LOGIC.findall(read(PROOFS)))
-    yield None if logic == set(LOGIC.findall(read(README))) else f"{README} and {PROOFS} name different logics"
+    expect(logic == set(LOGIC.findall(read(README))), f"{README} and {PROOFS} name different logics")
     for ratio in RATIO.findall(read(README)):
-        yield None if ratio in RATIO.findall(read(SPEED)) else f"{README} names {ratio}, and {SPEED} doesn't"
+        expect(ratio in RATIO.findall(read(SPEED)), f"{README} names {ratio}, and {SPEED} doesn't")
 
 
 def counted():
     """Each line of figures in CONTRIBUTING.md is one that bin/figures prints."""
     printed = commands.run(TOP / "bin/figures").splitlines()
     for line in re.findall(r"^    (.+)$", read("CONTRIBUTING.md").split("\n## Figures\n")[1].split("\n## ")[0], re.M):
-        yield None if line in printed else f"CONTRIBUTING.md has {line!r}, which bin/figures doesn't print"
+        expect(line in printed, f"CONTRIBUTING.md has {line!r}, which bin/figures doesn't print")
 
 
 def crates():
     """Each crate has a row in docs/ARCHITECTURE.md."""
     rows = re.findall(r"^\| `(\w+)` \|", read("docs/ARCHITECTURE.md"), re.MULTILINE)
     for name in compiler.named():
-        yield None if name in rows else f"docs/ARCHITECTURE.md has no row of {name}"
+        expect(name in rows, f"docs/ARCHITECTURE.md has no row of {name}")
 
 
 def wide():
     """Each page has lines of at most 120 columns, but for the rows of tables."""
     for page in documents():
         lines = [line for line in read(page).splitlines() if len(line) > 120 and not line.startswith("|")]
-        yield f"{page} has a line of {len(lines[0])} columns: {lines[0]}" if lines else None
+        expect(not lines, f"{page} has lines that are too long", "\n".join(lines))
 
 
 def shows(path, block):
@@ -250,13 +208,10 @@ def shows(path, block):
 
 
 def changed():
-    """Each block that is taken from a file is what stands there; and each file that the guide has to show is there."""
-    for page in SHOWING:
-        blocks = BLOCK.findall(read(page))
-        for path, block in blocks:
-            yield None if shows(path, block) else f"a block of {page} isn't what stands in {path}"
-        for path in sorted(SHOWN.difference(path for path, _ in blocks)) if page == GUIDE else []:
-            yield f"{page} has no block of {path}"
+    """Each block that is taken from a file is what stands there."""
+    for page in documents():
+        for path, block in BLOCK.findall(read(page)):
+            expect(shows(path, block), f"a block of {page} isn't what stands in {path}")
 
 
 def stale():
@@ -265,34 +220,18 @@ def stale():
     for path in ["tests/wrong-bodies", *sorted(crates)]:
         folder = "" if path.startswith("tests/") else re.split("/(?:must-fail|wrong-bodies)", path)[0]
         for edit in sources.edits_in(TOP / path):
+            said = ""
             try:
                 edit.applied(lambda file: read(os.path.normpath(os.path.join(folder, file))))
-                yield None
             except commands.Failure as failure:
-                yield f"{path}: {failure}"
-
-
-CHECKS = [
-    glossary,
-    unknown,
-    astray,
-    partless,
-    strange,
-    operations,
-    figures,
-    counted,
-    crates,
-    wide,
-    changed,
-    stale,
-]
+                said = failure
+            expect(not said, f"{path}: {said}")
 
 
 def main():
-    commands.words_of(__doc__)
-    for line in (line for check in CHECKS for line in check()):
-        expect(not line, line)
+    for check in (uncommented, unknown, astray, partless, operations, figures, counted, crates, wide, changed, stale):
+        check()
 
 
 if __name__ == "__main__":
-    checks.end_with(main)
+    checks.end_with(main, __doc__)

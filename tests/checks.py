@@ -10,11 +10,11 @@ sys.path.insert(0, str(pathlib.Path(__file__).resolve().parent.parent / "bin"))
 import commands  # noqa: E402
 import compiler  # noqa: E402
 import sources  # noqa: E402
+from libraries import OWN, STRICT  # noqa: E402
 
-# What a compiler of C or C++ is told: to take no warning, and where the headers are.
-STRICT = ["-pedantic", "-Wall", "-Wextra", "-Werror", f"-I{pathlib.Path(__file__).resolve().parent.parent / 'include'}"]
-# What else the headers are read with, since a user may have it.
-OF_HEADERS = ["-Wshadow", "-Wconversion", "-Wsign-conversion"]
+SANITIZERS = ["-g", "-fsanitize=address,undefined", "-fno-sanitize-recover=all"]
+# How callers in C are built here.
+KINDS = {"": ["-O2"], " with sanitizers": SANITIZERS}
 # The compilers that have to read the headers, each by a standard.
 COMPILERS = [("cc", "c11"), ("cc", "c17"), ("c++", "c++17"), ("clang", "c11"), ("clang++", "c++17")]
 
@@ -37,12 +37,6 @@ def count(good, bad, name, said=""):
 def expect(good, name, said=""):
     """Counts one check."""
     return count(bool(good), not good, name, said)
-
-
-def count_of(name, done):
-    """Counts what a program says in its last line, which has to fit its status."""
-    good, bad = sources.counted(done.stdout)
-    return count(good, bad or int(done.returncode != 0), name, done.stdout + done.stderr)
 
 
 def left_out(what, lack):
@@ -71,6 +65,25 @@ def check(name, words, **more):
     return done if expect(done.returncode == 0, name, done.stdout + done.stderr) else None
 
 
+def prints(name, words, wanted, status=0, **more):
+    """Runs a program, which has to print this and nothing else, and to end with this status."""
+    done = run(words, **more)
+    return expect((done.stdout, done.returncode) == (wanted, status), name, done.stdout + done.stderr)
+
+
+def count_of(name, words, **more):
+    """Runs a program, and counts what it says in its last line, which has to fit its status. What it printed."""
+    done = run(words, **more)
+    good, bad = sources.counted(done.stdout)
+    count(good, bad or int(done.returncode != 0), name, done.stdout + done.stderr)
+    return done.stdout
+
+
+def built(source, program, *words, cc=("cc", "-std=c11"), kind=""):
+    """Builds a program of a source with these words, without a warning. Its path, or `None` if it isn't built."""
+    return check(f"{source.name}{kind}: build", [*cc, *STRICT, source, *words, "-o", program]) and program
+
+
 def check_by_valgrind(name, words):
     """Runs a program under valgrind, which has to find nothing."""
     if not lacks(f"{name} under valgrind", "valgrind"):
@@ -84,8 +97,24 @@ def check_headers(*names):
         what = f"{names[0]} by {compiler} -std={standard}"
         if not lacks(what, compiler):
             language = standard.rstrip("0123456789")
-            words = [f"-std={standard}", "-x", language, *STRICT, *OF_HEADERS, "-fsyntax-only", "-"]
+            words = [f"-std={standard}", "-x", language, *STRICT, *OWN, "-fsyntax-only", "-"]
             check(what, [compiler, *words], input=text)
+
+
+def path_with(folder, *programs):
+    """A PATH with these programs alone."""
+    folder.mkdir()
+    for program in programs:
+        if found := shutil.which(program):
+            (folder / program).symlink_to(sys.executable if program == "python3" else found)
+    return str(folder)
+
+
+def wants_wrong_bodies(doc):
+    """Whether the words of a script ask it to try its wrong bodies, and nothing else."""
+    parser = commands.parser(doc)
+    parser.add_argument("--wrong-bodies", action="store_true", help="try the wrong bodies, and nothing else")
+    return parser.parse_args().wrong_bodies
 
 
 def try_wrong_bodies(path, package, place, sees):
@@ -110,10 +139,13 @@ def try_wrong_bodies(path, package, place, sees):
             expect(is_seen, f"{edit.name} is seen")
 
 
-def end_with(main):
-    """Ends with the count of checks, to which a failure of the script itself is added."""
+def end_with(main, doc=None):
+    """Ends with the count of checks, to which a failure of the script itself is added. With a text for --help it takes
+    no other words."""
 
     def counted():
+        if doc:
+            commands.words_of(doc)
         try:
             main()
         except commands.Failure as failure:

@@ -4,7 +4,7 @@
 It makes the crate anew by bin/crate, and builds it into the program of tests/beside_archive, with checks of overflow.
 The program compares each operation, request, fault, value, piece and block that both sides give: of made-up
 expressions, of the expressions of tests/rows, in the rows' steps, and of those of tests/vectors. The archive is the
-proved one, which tests/run_c.py builds, or the one in the folder that the variable DWEXPR_C names.
+proved one, which tests/run_c.py builds.
 
 A wrong body changes a line of the crate's proved modules. tests/beside_archive/wrong-bodies has them: a name, a file
 under src/sources, a text that stands in it once, and another. The program has to see a difference, with fewer cases.
@@ -14,20 +14,15 @@ The last line is `N passed, M failed`: kinds and rows, or wrong bodies.
 
 import functools
 import json
-import os
-import pathlib
 import re
-import resource
-import sys
 
-sys.dont_write_bytecode = True
-import checks  # noqa: E402
-import run_rows  # noqa: E402
-from checks import commands, lacks  # noqa: E402
+import checks
+import run_rows
+from checks import commands, lacks
 
-import archive  # noqa: E402
-import sources  # noqa: E402
-from commands import TOP, Failure  # noqa: E402
+import archive
+import sources
+from commands import TOP, Failure
 
 PROGRAM = TOP / "tests" / "beside_archive"
 COUNT = 1_000_000
@@ -35,7 +30,7 @@ WRONG_BODIES_COUNT = 20_000
 # It takes a minute of processor time, of which a busy machine gives little.
 SECONDS = 3600
 # Wrong bodies may fill what memory there is.
-MEMORY = 4 << 30
+MEGABYTES = 4096
 RUSTC = ["rustc", "--edition", "2024", "-O", "-C", "overflow-checks=on", "-C", "debug-assertions=on"]
 CRATE = ["--crate-type", "lib", "--crate-name", "dwexpr", "--cfg", 'feature="alloc"']
 EXPRESSION = re.compile(r"(eval|ops) ([1-8]) ([48]) ([2-5]) (le|be) ((?:[0-9a-fA-F]{2})+|-)")
@@ -66,19 +61,10 @@ def cases():
     return "".join(f"{line}\n" for line in lines)
 
 
-def archive_folder():
-    """The folder of the archive. Without an archive the run ends."""
-    if "DWEXPR_C" in os.environ:
-        return pathlib.Path(os.environ["DWEXPR_C"])
-    if not archive.is_built():
-        raise Failure("there is no archive of these sources: tests/run_c.py builds it")
-    return archive.path_of().parent
-
-
 def build(crate, folder):
     """Builds the program with a crate, into a folder."""
     library = folder / "libdwexpr.rlib"
-    uses = ["-L", archive_folder(), "--extern", f"dwexpr={library}"]
+    uses = ["-L", archive.path_of().parent, "--extern", f"dwexpr={library}"]
     for words in (
         [*CRATE, crate / "src" / "lib.rs", "-o", library],
         ["-D", "warnings", *uses, PROGRAM / "main.rs", "-o", folder / "beside_archive"],
@@ -86,25 +72,14 @@ def build(crate, folder):
         commands.run(*RUSTC, *words)
 
 
-def limit_memory():
-    resource.setrlimit(resource.RLIMIT_AS, (MEMORY, MEMORY))
-
-
 def run(folder, count, lines):
     """Runs the program of a folder. What it printed."""
     words = [folder / "beside_archive", count, lines]
-    done = commands.done(*words, seconds=SECONDS, stderr=None, preexec_fn=limit_memory)
+    limit = functools.partial(run_rows.limit_memory, MEGABYTES)
+    done = commands.done(*words, seconds=SECONDS, stderr=None, preexec_fn=limit)
     if not sources.COUNTED.search(done.stdout):
         raise Failure(f"the program {commands.ended(done.returncode)}, before its end")
     return done.stdout
-
-
-def compare(crate, folder, lines, count):
-    """Compares the crate with the archive."""
-    build(crate, folder)
-    printed = run(folder, count, lines)
-    print(printed.rstrip("\n").rpartition("\n")[0])
-    checks.count(*sources.counted(printed), "the Rust crate beside the archive")
 
 
 def seen(crate, folder, lines):
@@ -116,24 +91,23 @@ def seen(crate, folder, lines):
 
 
 def main():
-    parser = commands.parser(__doc__)
-    words = parser.add_mutually_exclusive_group()
-    said = "how many cases of each kind are made up; without it 1,000,000"
-    words.add_argument("count", metavar="COUNT", nargs="?", type=int, default=COUNT, help=said)
-    words.add_argument("--wrong-bodies", action="store_true", help="try the wrong bodies of the crate")
-    words = parser.parse_args()
+    wants_wrong_bodies = checks.wants_wrong_bodies(__doc__)
     if lacks("the Rust crate beside the archive", "rustc", "rustfmt"):
         return
-    archive_folder()
+    if not archive.is_built():
+        raise Failure("there is no archive of these sources: tests/run_c.py builds it")
     with commands.temporary(prefix="beside-archive-") as folder:
         crate, lines = folder / "crate", folder / "cases"
         commands.run(TOP / "bin/crate", crate)
         lines.write_text(cases(), encoding="utf-8")
-        if words.wrong_bodies:
+        if wants_wrong_bodies:
             sees = functools.partial(seen, lines=lines)
             checks.try_wrong_bodies(PROGRAM / "wrong-bodies", crate, "src/sources", sees)
         else:
-            compare(crate, folder, lines, words.count)
+            build(crate, folder)
+            printed = run(folder, COUNT, lines)
+            print(printed.rstrip("\n").rpartition("\n")[0])
+            checks.count(*sources.counted(printed), "the Rust crate beside the archive")
 
 
 if __name__ == "__main__":

@@ -1,40 +1,33 @@
-#!/usr/bin/env python3
 """Compares what examples/where.c prints of stopped programs, and of their core dumps, with what gdb says.
+tests/run_libdw.py uses it.
 
-It wants cc, gdb with Python and libdw, and gcc or clang. Each program of tests/stopped is built at -O0 to -O3 in
-versions 4 and 5 of DWARF, and stopped at each of its places; words as pieces.c gcc -O0 -gdwarf-5 choose those programs
-that have all of them. Some are also built with split debug information, link-time optimization, type units, the
-64-bit format and for i386, if the compiler can. At each place `where` prints the stopped process. The process then goes
-on to its end by the same signal, and `where` prints the core dump that the kernel writes.
+Each program of tests/stopped is built at -O0 to -O3 in versions 4 and 5 of DWARF, and stopped at each of its places.
+Some are also built with split debug information, link-time optimization, type units, the 64-bit format and for i386, if
+the compiler can. At each place `where` prints the stopped process. The process then goes on to its end by the same
+signal, and `where` prints the core dump that the kernel writes.
 
 Variables of each thread are compared, of the innermost function and of its callers up to three levels, or all, bit for
-bit, but for padding. Each variable that differs is a line. The status is 1 if one differs, and 2 if nothing was
-compared.
+bit, but for padding. Each variable that differs is a line.
 """
 
 import collections
 import concurrent.futures
+import contextlib
 import ctypes
 import json
 import os
 import pathlib
 import re
 import resource
-import shutil
 import signal
 import subprocess
-import sys
 import time
 
-sys.dont_write_bytecode = True
-from checks import commands  # noqa: E402
+from checks import commands
+from commands import TOP
 
-import libraries  # noqa: E402
-from commands import TOP  # noqa: E402
-
-ARCHIVE = TOP / "crates" / "dwexpr_c" / "out" / "libdwexpr_c.a"
 IN_GDB = TOP / "tests" / "libdw" / "in_gdb.py"
-SOURCES = {path.stem + path.suffix: path for path in sorted((TOP / "tests" / "stopped").iterdir())}
+SOURCES = sorted((TOP / "tests" / "stopped").iterdir())
 COMPILERS = {".c": ["gcc", "clang"], ".cpp": ["g++", "clang++"], ".rs": ["rustc"]}
 OPTIMIZATIONS = ["-O0", "-O1", "-O2", "-O3"]
 VERSIONS = ["-gdwarf-4", "-gdwarf-5"]
@@ -60,6 +53,13 @@ OTHERS = [
     # lists of clang's split debug information of version 5
     for optimization in (["-O0"] if "-m32" in words or (compiler[:5], *words) == NO_LISTS else ["-O0", "-O2"])
 ]
+EVERY = OTHERS + [
+    (source.name, compiler, [optimization, version])
+    for source in SOURCES
+    for compiler in COMPILERS[source.suffix]
+    for optimization in OPTIMIZATIONS
+    for version in (VERSIONS if compiler != "rustc" else VERSIONS[:1])
+]
 # What the gate compares: of each source, each compiler and each kind of debug information something.
 GATE = [
     ("pieces.c", "gcc", ["-O0", "-gdwarf-5"]),
@@ -78,13 +78,13 @@ GATE = [
     *[job for job in OTHERS if job[:2] == ("pieces.c", "gcc") and job[2] == ["-O2", "-gdwarf-5", "-flto"]],
 ]
 
-def run(words, **more):
+def run(*words, **more):
     return commands.done(*words, seconds=300, **more)
 
 
 def of_gdb(program, places, levels):
     words = ["-ex", "set exec-wrapper env -i", "-ex", f"python PLACES, LEVELS = {places}, {levels}", "-x", IN_GDB]
-    lines = run(["gdb", "-nx", "-batch", *words, program]).stdout.splitlines()
+    lines = run("gdb", "-nx", "-batch", *words, program).stdout.splitlines()
     return dict(json.loads(line[2:]) for line in lines if line.startswith("@@"))
 
 
@@ -103,25 +103,29 @@ def be_traced():
     LIBC.ptrace(TRACE_ME, 0, None, None)
 
 
-def stopped(words, folder):
-    """A process that has stopped at SIGILL, and isn't traced any more; None if it ended before."""
-    nothing = subprocess.DEVNULL
-    process = subprocess.Popen(
-        [str(word) for word in words], preexec_fn=be_traced, env={}, cwd=folder, stdout=nothing, stderr=nothing
-    )
-    os.waitpid(process.pid, 0)
-    passed = 0
-    while passed != signal.SIGILL:
-        LIBC.ptrace(CONTINUE, process.pid, None, passed)
-        status = os.waitpid(process.pid, 0)[1]
-        if not os.WIFSTOPPED(status):
-            process.returncode = 0
-            return None
-        passed = os.WSTOPSIG(status)
-    LIBC.ptrace(DETACH, process.pid, None, signal.SIGSTOP)
-    while "T (stopped)" not in pathlib.Path(f"/proc/{process.pid}/status").read_text():
-        time.sleep(0.001)
-    return process
+@contextlib.contextmanager
+def stopped(program, place, folder):
+    """A process that has stopped at SIGILL, and isn't traced any more; None if it ended before. It ends with the
+    block."""
+    settings = {"cwd": folder, "stdout": subprocess.DEVNULL, "stderr": subprocess.DEVNULL}
+    with subprocess.Popen([program, str(place)], preexec_fn=be_traced, env={}, **settings) as process:
+        try:
+            os.waitpid(process.pid, 0)
+            passed = 0
+            while passed != signal.SIGILL:
+                LIBC.ptrace(CONTINUE, process.pid, None, passed)
+                status = os.waitpid(process.pid, 0)[1]
+                if not os.WIFSTOPPED(status):
+                    process.returncode = 0
+                    yield None
+                    return
+                passed = os.WSTOPSIG(status)
+            LIBC.ptrace(DETACH, process.pid, None, signal.SIGSTOP)
+            while "T (stopped)" not in pathlib.Path(f"/proc/{process.pid}/status").read_text():
+                time.sleep(0.001)
+            yield process
+        finally:
+            process.kill()
 
 
 def dumped(process, folder):
@@ -241,22 +245,21 @@ def compare_program(where, source, compiler, words):
     places = max(int(number) for number in re.findall(r"(?i)stop!?\((\d+)\)", source.read_text()))
     with commands.temporary() as folder:
         program = folder / "stopped"
-        built = run([*build_words(source, compiler, words), program], cwd=folder)
+        built = run(*build_words(source, compiler, words), program, cwd=folder)
         if built.returncode != 0:
             return sums, [f"left out: {source.name} by {compiler} {' '.join(words)}: it isn't built"]
         levels = LEVELS.get(source.name, FEW_LEVELS)
         for place, variables in of_gdb(program, places, levels).items():
             name = f"{source.name} {compiler} {' '.join(words)}, place {place}"
-            process = stopped([program, place], folder)
-            if not process:
-                continue
-            printed = run([where, "--pid", process.pid]).stdout.splitlines()
-            lines += compare(f"{name}, process", variables, of_where(printed), sums["process"])
-            core = dumped(process, folder)
-            if core:
-                dump = run([where, "--core", core]).stdout.splitlines()
-                lines += compare(f"{name}, core dump", variables, of_where(dump), sums["core dump"])
-                core.unlink()
+            with stopped(program, place, folder) as process:
+                if not process:
+                    continue
+                printed = run(where, "--pid", process.pid).stdout.splitlines()
+                lines += compare(f"{name}, process", variables, of_where(printed), sums["process"])
+                if core := dumped(process, folder):
+                    dump = run(where, "--core", core).stdout.splitlines()
+                    lines += compare(f"{name}, core dump", variables, of_where(dump), sums["core dump"])
+                    core.unlink()
     return sums, lines
 
 
@@ -264,42 +267,9 @@ def compare_all(where, jobs):
     """Compares programs: the sums, for the process and the core dump."""
     sums = {"process": collections.Counter(), "core dump": collections.Counter()}
     with concurrent.futures.ProcessPoolExecutor() as pool:
-        for found, lines in pool.map(compare_program, *zip(*[(where, SOURCES[it[0]], *it[1:]) for it in jobs])):
+        jobs = [(where, TOP / "tests" / "stopped" / source, *words) for source, *words in jobs]
+        for found, lines in pool.map(compare_program, *zip(*jobs)):
             for what, counted in found.items():
                 sums[what] += counted
             print(*lines, sep="\n", end="\n" if lines else "", flush=True)
     return sums
-
-
-def jobs_of(words):
-    """What can be built, and has all of these words."""
-    jobs = [
-        (source, compiler, [optimization, version])
-        for source in SOURCES
-        for compiler in COMPILERS[pathlib.Path(source).suffix]
-        for optimization in OPTIMIZATIONS
-        for version in (VERSIONS if compiler != "rustc" else VERSIONS[:1])
-    ]
-    return [job for job in [*jobs, *OTHERS] if {*words} <= {*job[:2], *job[2]} and shutil.which(job[1])]
-
-
-def main():
-    parser = commands.parser(__doc__)
-    _, words = parser.parse_known_args()
-    if not (jobs := jobs_of(words)):
-        raise commands.Failure("no program has all of these words, or its compiler is missing", status=2)
-    with commands.temporary() as made:
-        where = made / "where"
-        links = [libraries.build("libdw", where.parent, "-O2"), ARCHIVE, "-ldw", "-lelf", "-o", where]
-        commands.run("cc", "-std=c11", "-O2", f"-I{TOP / 'include'}", TOP / "examples/where.c", *links)
-        sums = compare_all(where, jobs)
-    for what, counted in sums.items():
-        for kind, count in counted.most_common():
-            print(f"{what}: {count} {kind}")
-    if any(counted["different"] for counted in sums.values()):
-        return 1
-    return 0 if sums["process"]["equal"] else 2
-
-
-if __name__ == "__main__":
-    commands.end_with(main)

@@ -22,13 +22,11 @@ The last line is `N passed, M failed`, of the runs; the status is 1 if a run fai
 import errno
 import itertools
 import os
-import sys
 
-sys.dont_write_bytecode = True
-import checks  # noqa: E402
-import run_rows  # noqa: E402
-from checks import commands, expect  # noqa: E402
-from commands import TOP  # noqa: E402
+import checks
+import run_rows
+from checks import commands, expect
+from commands import TOP
 
 # How many numbers in a row must change nothing before they end.
 IN_A_ROW = 8
@@ -37,18 +35,12 @@ MOST = 400
 # Inputs of which a byte, or the end, can't be read.
 INPUTS = ["", "evaluate\n", "nonsense\n"]
 # The rows whose lists grow, and those that print each kind of line, of which the first completes.
-ROWS = run_rows.rows_of(run_rows.ROWS / "refused_calls.json")
+ROWS = [
+    row | {field: run_rows.bytes_of(row[field]).decode() for field in ("input", "output")}
+    for row in run_rows.rows_of(run_rows.ROWS / "refused_calls.json")
+]
 MANY = [row for row in ROWS if row["name"].startswith("many ")]
 FEW = [row for row in ROWS if row not in MANY]
-
-
-def input_of(row):
-    return run_rows.bytes_of(row["input"]).decode()
-
-
-def wanted_of(row):
-    """What a row prints with ample memory, and its status."""
-    return run_rows.bytes_of(row["output"]).decode(), row["status"]
 
 
 def run(library, refused, row, failure=errno.EIO, text=None):
@@ -57,8 +49,13 @@ def run(library, refused, row, failure=errno.EIO, text=None):
     numbers = {f"REFUSED_{kind}": str(number) for kind, number in refused.items()}
     env = {**os.environ, "LD_PRELOAD": str(library), "REFUSED_WITH": str(failure), **numbers}
     words = [run_rows.bytes_of(word).decode() for word in row["words"]]
-    ran = checks.run([run_rows.PROGRAM, *words], input=input_of(row) if text is None else text, env=env)
+    ran = checks.run([run_rows.PROGRAM, *words], input=row["input"] if text is None else text, env=env)
     return (ran.stdout, ran.returncode), ran.stderr
+
+
+def is_whole(row, printed):
+    """Whether this is what a row prints with ample memory, and its status."""
+    return printed == (row["output"], row["status"])
 
 
 def is_allowed(steps, ample, printed, status):
@@ -75,10 +72,9 @@ def refuse_allocations(library):
         is_met = False
         for row in MANY:
             (text, status), _ = got = run(library, {"ALLOCATION": number}, row)
-            is_whole = got[0] == wanted_of(row)
-            is_met = is_met or not is_whole
-            steps, ample = input_of(row).splitlines(), wanted_of(row)[0].splitlines()
-            good = is_whole or is_allowed(steps, ample, text.splitlines(), status)
+            good = is_whole(row, got[0])
+            is_met = is_met or not good
+            good = good or is_allowed(row["input"].splitlines(), row["output"].splitlines(), text.splitlines(), status)
             expect(good, f"{row['name']}, allocation {number} refused: {got!r}")
         if number == 1:
             expect(is_met, "no run met the refusal of its first allocation")
@@ -100,12 +96,12 @@ def refuse_reads(library):
 def number_of_buffer(library):
     """The number of the first allocation that the program can do without: that of its buffer of standard output."""
     numbers = range(1, MOST)
-    return next((it for it in numbers if run(library, {"ALLOCATION": it}, FEW[0])[0] == wanted_of(FEW[0])), 0)
+    return next((it for it in numbers if is_whole(FEW[0], run(library, {"ALLOCATION": it}, FEW[0])[0])), 0)
 
 
 def refuse_writes(library, buffer):
     for row in FEW:
-        wanted, _ = wanted_of(row)
+        wanted = row["output"]
         for number, failure in itertools.product(range(1, len(wanted) + 1), (errno.EIO, errno.EPIPE, 0)):
             printed, said = got = run(library, {**buffer, "WRITE": number}, row, failure)
             good = printed == (wanted[: number - 1], 1) and "standard output can't be written: " in said
@@ -114,21 +110,18 @@ def refuse_writes(library, buffer):
 
 def interrupt(library, kind, buffer):
     for row in FEW:
-        moved = {"READ": len(input_of(row)) + 1, "WRITE": len(wanted_of(row)[0])}
+        moved = {"READ": len(row["input"]) + 1, "WRITE": len(row["output"])}
         for number in range(1, moved[kind] + 1):
             got = run(library, {**buffer, kind: number}, row, errno.EINTR)
-            good = got[0] == wanted_of(row)
-            expect(good, f"{row['name']}, {kind.lower()} {number} interrupted, {buffer}: {got!r}")
+            expect(is_whole(row, got[0]), f"{row['name']}, {kind.lower()} {number} interrupted, {buffer}: {got!r}")
 
 
 def main():
-    commands.words_of(__doc__)
     commands.run(TOP / "bin/build", stderr=None)
     with commands.temporary() as folder:
         library = folder / "refuse.so"
         words = ["cc", "-std=c11", "-O1", "-Wall", "-Wextra", "-Werror", "-shared", "-fPIC"]
-        words += [str(TOP / "tests" / "refuse.c"), "-o", str(library)]
-        commands.run(*words)
+        commands.run(*words, TOP / "tests" / "refuse.c", "-o", library)
         refuse_allocations(library)
         refuse_reads(library)
         interrupt(library, "READ", {})
@@ -140,4 +133,4 @@ def main():
 
 
 if __name__ == "__main__":
-    checks.end_with(main)
+    checks.end_with(main, __doc__)

@@ -8,12 +8,10 @@ is left out.
 
 import os
 import re
-import sys
 
-sys.dont_write_bytecode = True
-import checks  # noqa: E402
-from checks import commands, expect, left_out  # noqa: E402
-from commands import TOP  # noqa: E402
+import checks
+from checks import commands, expect, left_out
+from commands import TOP
 
 # Size of an address and of an offset, version, byte order, bytes.
 EXPRESSION = "4\t4\t4\tle\t9805009c3122\n"
@@ -23,7 +21,6 @@ COMPARED = re.compile(r"^(In .*, (.*)): differ (\d+) of 1 of one; (\d+) of 20000
 
 
 def main():
-    commands.words_of(__doc__)
     if not (os.environ.get("DWEXPR_GIMLI") and os.environ.get("DWEXPR_ARRAYVEC")):
         return left_out("bench", "folder with gimli, or with arrayvec, that is named")
     with commands.temporary() as folder:
@@ -45,4 +42,4 @@ def main():
 
 
 if __name__ == "__main__":
-    checks.end_with(main)
+    checks.end_with(main, __doc__)

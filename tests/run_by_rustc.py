@@ -21,19 +21,17 @@ import re
 import shutil
 import sys
 
-sys.dont_write_bytecode = True
-import checks  # noqa: E402
-import run_c  # noqa: E402
-from checks import STRICT, check, commands, count_of, expect, lacks, left_out, run  # noqa: E402
+import checks
+import run_c
+from checks import STRICT, built, check, commands, count_of, expect, lacks, left_out, prints, run
 
-import archive  # noqa: E402
-import by_rustc  # noqa: E402
-from commands import TOP  # noqa: E402
+import archive
+import by_rustc
+from commands import TOP
 
 FOLDER = TOP / "tests" / "by_rustc"
 SONAME = "libdwexpr.so.0.1"
 COUNT, WRONG_BODIES_COUNT = 1_000_000, 20_000
-CALLERS = sorted((TOP / "tests" / "c").glob("*.c"))
 # Each other target, and its emulator.
 TARGETS = {
     "s390x-unknown-linux-gnu": "qemu-s390x",
@@ -63,8 +61,7 @@ def symbols(static, shared, target):
 
 
 def unset(static, folder):
-    program = folder / "unset"
-    if check("unset.c: build", ["cc", "-std=c11", "-O1", "-g", *STRICT, FOLDER / "unset.c", static, "-o", program]):
+    if program := built(FOLDER / "unset.c", folder / "unset", "-O1", "-g", static):
         checks.check_by_valgrind("unset.c", [program])
 
 
@@ -76,15 +73,14 @@ def beside_words(static, folder, *words):
     return ["cc", "-std=c11", "-O2", *words, *STRICT, FOLDER / "beside.c", other, static, "-o", folder / "beside"]
 
 
-def beside(static, folder, number):
+def beside(static, folder):
     """Compares the library with the proved archive."""
     if not archive.is_built():
         return left_out("the library beside the proved archive", "archive of these sources: tests/run_c.py builds it")
-    if not check("beside.c: build", beside_words(static, folder)):
-        return None
-    done = run([folder / "beside", number])
-    print("  ", done.stdout.partition("\n")[0])
-    return count_of("the library beside the proved archive", done)
+    if check("beside.c: build", beside_words(static, folder)):
+        said = count_of("the library beside the proved archive", [folder / "beside", COUNT])
+        print("  ", said.partition("\n")[0])
+    return None
 
 
 def elsewhere(package, target, folder):
@@ -135,18 +131,13 @@ def seen(package, folder, given):
 
 
 def main():
-    parser = commands.parser(__doc__)
-    words = parser.add_mutually_exclusive_group()
-    said = "how many cases are made up; without it 1,000,000"
-    words.add_argument("count", metavar="COUNT", nargs="?", type=int, default=COUNT, help=said)
-    words.add_argument("--wrong-bodies", action="store_true", help="try the wrong bodies of the library")
-    words = parser.parse_args()
+    wants_wrong_bodies = checks.wants_wrong_bodies(__doc__)
     if lacks("the library for C by rustc", "cargo", "rustc", "rustfmt", "cc", "objcopy", "nm", "readelf"):
         return None
     with commands.temporary(prefix="by-rustc-") as folder:
         package = folder / "package"
         by_rustc.write(package)
-        if words.wrong_bodies:
+        if wants_wrong_bodies:
             sees = functools.partial(seen, given={"decode": run_c.vectors()})
             return checks.try_wrong_bodies(FOLDER / "wrong-bodies", package, "src", sees)
         done = check("cargo tree", ["cargo", "tree", "--offline"], cwd=package)
@@ -154,11 +145,10 @@ def main():
         check("cargo fmt --check", ["cargo", "fmt", "--check"], cwd=package)
         static, shared = by_rustc.build(package, by_rustc.here())
         symbols(static, shared, by_rustc.here())
-        run_c.callers(folder / "here", static, run_c.KINDS)
+        run_c.callers(folder / "here", static, checks.KINDS)
         unset(static, folder)
-        beside(static, folder, words.count)
-        done = check("examples/evaluate.py", [sys.executable, TOP / "examples/evaluate.py", shared])
-        expect(done and done.stdout == PRINTED, "what examples/evaluate.py prints")
+        beside(static, folder)
+        prints("examples/evaluate.py", [sys.executable, TOP / "examples/evaluate.py", shared], PRINTED)
         for target in TARGETS:
             elsewhere(package, target, folder / target)
     return None

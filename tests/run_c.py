@@ -14,37 +14,27 @@ It wants cc; what else is missing is left out, and said so. The last line is `N 
 
 import json
 import re
-import shutil
-import sys
 
-sys.dont_write_bytecode = True
-import checks  # noqa: E402
-import run_rows  # noqa: E402
-from checks import STRICT, check, check_headers, commands, count_of, expect, left_out, run  # noqa: E402
+import checks
+import run_rows
+from checks import KINDS, built, check_headers, commands, count_of, expect, lacks, left_out, prints, run
 
-import archive  # noqa: E402
-import libraries  # noqa: E402
-from commands import TOP  # noqa: E402
+import archive
+import libraries
+import sources
+from commands import TOP
 
 ARCHIVE = archive.path_of()
-SANITIZERS = ["-g", "-fsanitize=address,undefined", "-fno-sanitize-recover=all"]
-# How callers are built here.
-KINDS = {"": ["-O2"], " with sanitizers": SANITIZERS}
 
 
 def versions():
     """The header, the crate and the package for C by rustc have one version."""
     header = (TOP / "include/dwexpr.h").read_text()
-    version = re.search(r'DWEXPR_VERSION "(.*)"', header).group(1)
+    version = re.search(r'DWEXPR_VERSION "(.*)"', header)[1]
     for manifest in ("rust/Cargo.toml", "c/Cargo.toml"):
-        of_crate = re.search(r'^version = "(.*)"', (TOP / manifest).read_text(), re.MULTILINE).group(1)
-        count_one(f"the version in {manifest}", version, of_crate)
-    number = re.search(r"DWEXPR_VERSION_NUMBER (\d+)", header).group(1)
-    count_one("the version's number", int(number), sum(map(int.__mul__, map(int, version.split(".")), [10000, 100, 1])))
-
-
-def count_one(name, got, wanted):
-    expect(got == wanted, name, f"{got} is not {wanted}")
+        expect(f'\nversion = "{version}"\n' in (TOP / manifest).read_text(), f"the version in {manifest}")
+    number = int("".join(part.zfill(2) for part in version.split(".")))
+    expect(f"DWEXPR_VERSION_NUMBER {number} " in header, "the version's number", number)
 
 
 def numbers_of(encoding):
@@ -58,19 +48,14 @@ WITH_OFFSET = {"CALL", "IMPLICIT_POINTER", "PARAMETER_REF", "VARIABLE_VALUE", "A
 FIELDS = ["number", "signed_number", "base_type", "register_number", "deref_size", "flag"]
 
 
-def fits(vector, word):
-    """Whether the offsets of a vector's operation fit into a word of so many bytes."""
-    offsets = [vector.get("base_type", 0)] + [vector.get("number", 0)] * (vector.get("kind") in WITH_OFFSET)
-    return max(offsets) < 1 << 8 * word
-
-
 def vectors(word=8):
     """The lines that tests/c/decode.c reads: of each vector the encoding, the bytes, the code and the fields. An offset
     that doesn't fit into a word of so many bytes is a fault."""
     constants = dict(re.findall(r"DWEXPR_(\w+) = (\d+)", (TOP / "include/dwexpr.h").read_text()))
     lines = []
     for vector in json.loads((TOP / "tests/vectors/decode.json").read_text()):
-        if not fits(vector, word):
+        offsets = [vector.get("base_type", 0)] + [vector.get("number", 0)] * (vector.get("kind") in WITH_OFFSET)
+        if max(offsets) >= 1 << 8 * word:
             vector = {"in": vector["in"], "bytes": vector["bytes"], "code": "UNSUPPORTED_OFFSET"}
         kind = f"OP_{vector['kind']}" if "kind" in vector else "OP_NONE"
         numbers = [constants[vector.get("code", "OK")], constants[kind], *(vector.get(field, 0) for field in FIELDS)]
@@ -93,15 +78,14 @@ def expressions():
 
 def names():
     """The lines that tests/c/names.c reads: the number and the name of each opcode."""
-    constants = (TOP / "crates/dwarf_base/src/constants.rt").read_text(encoding="utf-8")
-    numbers = dict(re.findall(r"^pub const (DW_OP_\w+): DwOp = DwOp\(0x(\w+)\);", constants, re.MULTILINE))
+    numbers = sources.opcodes()
     expanded = run(["cc", "-E", "-x", "c", "-"], input="#include <dwarf.h>\n")
     if expanded.returncode:
         left_out("the names of opcodes in dwarf.h", "dwarf.h")
     else:
         theirs = dict(re.findall(r"\b(DW_OP_\w+) = 0x(\w+)", expanded.stdout))
         numbers |= {name: theirs[name] for name in numbers if name in theirs}
-        count_one("opcodes of dwarf.h", len(theirs) > 150, True)
+        expect(len(theirs) > 150, "opcodes of dwarf.h", len(theirs))
     return "\n".join(f"{numbers[name]} {name}" for name in numbers)
 
 
@@ -109,21 +93,15 @@ def callers(folder, library, kinds, cc=("cc",), runner=(), word=8):
     """Builds the callers with a library, in each of these kinds, by a compiler, and runs them by a runner. A word of
     the machine has so many bytes."""
     given = {"decode": vectors(word), "cut": expressions(), "names": names()}
-    for kind, words in kinds.items():
-        (folder / f"library{kind}").mkdir(parents=True)
-        libraries.build("run", folder / f"library{kind}", *words, cc=cc)
+    runs = {kind: libraries.build("run", folder / f"library{kind}", *kinds[kind], cc=cc) for kind in kinds}
     for source in sorted((TOP / "tests" / "c").glob("*.c")):
         for kind, words in kinds.items():
             # A sanitizer keeps what it knows of memory on the stack, which then has to be larger than 16 KiB.
             if kind and source.stem == "signal":
                 continue
             program = folder / (source.stem + kind.replace(" ", "_"))
-            run_library = folder / f"library{kind}" / "libdwexpr_run.a"
-            build = [*cc, "-std=c11", *words, *STRICT, source, run_library, library, "-o", program]
-            if not check(f"{source.name}{kind}: build", build):
-                continue
-            done = run([*runner, program], input=given.get(source.stem, ""))
-            count_of(f"{source.name}{kind}", done)
+            if built(source, program, *words, runs[kind], library, cc=(*cc, "-std=c11"), kind=kind):
+                count_of(f"{source.name}{kind}", [*runner, program], input=given.get(source.stem, ""))
 
 
 # Bytes of expressions: the status of examples/decode.c, and what it prints.
@@ -153,25 +131,19 @@ DECODED = {
 
 
 def decode(folder):
-    program = folder / "decode"
-    build = ["cc", "-std=c11", *STRICT, TOP / "examples/decode.c", ARCHIVE, "-o", program]
-    if check("examples/decode.c: build", build):
-        for digits, wanted in DECODED.items():
-            done = run([program, "8", "4", "5", "le", digits])
-            expect((done.returncode, done.stdout) == wanted, f"examples/decode.c {digits}", done.stdout + done.stderr)
-        done = run([program, "8", "4", "5", "little", "96"])
-        expect(done.returncode == 2 and not done.stdout, "examples/decode.c, bad words", done.stdout + done.stderr)
+    if program := built(TOP / "examples/decode.c", folder / "decode", ARCHIVE):
+        for digits, (status, wanted) in DECODED.items():
+            prints(f"examples/decode.c {digits}", [program, "8", "4", "5", "le", digits], wanted, status)
+        prints("examples/decode.c, bad words", [program, "8", "4", "5", "little", "96"], "", 2)
 
 
 def needs():
-    if not shutil.which("nm"):
-        return left_out("what the archive needs", "nm")
-    needed = re.findall(r"^ +U (\w+)$", commands.run("nm", "-u", ARCHIVE), re.MULTILINE)
-    return expect(needed == ["memset"], "what the archive needs", f"{needed}")
+    if not lacks("what the archive needs", "nm"):
+        needed = re.findall(r"^ +U (\w+)$", commands.run("nm", "-u", ARCHIVE), re.MULTILINE)
+        expect(needed == ["memset"], "what the archive needs", f"{needed}")
 
 
 def main():
-    commands.words_of(__doc__)
     commands.need("cc")
     with commands.alone():
         archive.build()
@@ -184,4 +156,4 @@ def main():
 
 
 if __name__ == "__main__":
-    checks.end_with(main)
+    checks.end_with(main, __doc__)

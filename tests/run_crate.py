@@ -19,48 +19,31 @@ import os
 import pathlib
 import re
 import shutil
-import sys
 
-sys.dont_write_bytecode = True
-import checks  # noqa: E402
-import compare_archive  # noqa: E402
-from checks import check, commands, expect, lacks  # noqa: E402
-from commands import TOP  # noqa: E402
+import checks
+import compare_archive
+from checks import check, commands, expect, lacks
+from commands import TOP
 
 checks.SECONDS = 600
-# A package that depends on the crate, a program without an allocator, which evaluates in arrays, one that evaluates over
-# gimli's readers, and a program in C.
+# A package that depends on the crate, a program without an allocator, which evaluates in arrays, one that evaluates
+# over gimli's readers, a program in C, and what stands in for the crates that the features need.
 PARTS = TOP / "tests" / "crate"
 
-# The crates that the features need: the variable, and what stands in if it names no folder.
-NEEDED = {
-    "gimli": ("DWEXPR_GIMLI", '[package]\nname = "gimli"\nversion = "0.34.0"\n[features]\nread = []\n'),
-    "arrayvec": ("DWEXPR_ARRAYVEC", '[package]\nname = "arrayvec"\nversion = "0.7.0"\n'),
-}
+# The crates that the features need, each with the variable that names its folder.
+NEEDED = {"gimli": "DWEXPR_GIMLI", "arrayvec": "DWEXPR_ARRAYVEC"}
 
 
 def find_crates(folder):
     """Tells Cargo, for all packages in a folder, where the needed crates are. Gives those that can be had."""
-    found, config = [], "[net]\noffline = true\n"
-    for name, (variable, stand_in) in NEEDED.items():
-        place = os.environ.get(variable)
-        if place:
-            found.append(name)
-        else:
-            place = folder / name
-            (place / "src").mkdir(parents=True)
-            (place / "Cargo.toml").write_text(stand_in)
-            (place / "src/lib.rs").write_text("")
+    found = [name for name, variable in NEEDED.items() if os.environ.get(variable)]
+    config = "[net]\noffline = true\n"
+    for name, variable in NEEDED.items():
+        place = os.environ[variable] if name in found else PARTS / "stand_ins" / name
         config += f'[patch.crates-io.{name}]\npath = "{place}"\n'
     (folder / ".cargo").mkdir()
     (folder / ".cargo/config.toml").write_text(config)
     return found
-
-
-def printed_by(name, words, **settings):
-    """Runs a program, which has to end with status 0, and gives what it printed."""
-    done = check(name, words, **settings)
-    return done.stdout if done else ""
 
 
 def write_app(top):
@@ -108,17 +91,14 @@ def run_example(cargo, features, name, folder):
         return
     program = folder / "program"
     check("cc", ["cc", "-g", "-O0", "-no-pie", "-fno-omit-frame-pointer", PARTS / "program.c", "-o", program])
-    said = printed_by("the program", [program])
+    done = check("the program", [program])
     printed = cargo(f"the example {name}", "run", *features, "--example", name, program, "100000000000")
-    if said and printed:
-        expect(printed == said, f"the example {name} says where the variables are", f"{said}\nisn't\n{printed}")
+    if done and printed:
+        said = f"{done.stdout}\nisn't\n{printed}"
+        expect(printed == done.stdout, f"the example {name} says where the variables are", said)
 
 
 def main():
-    parser = commands.parser(__doc__)
-    said = "a folder for what Cargo builds; without one it is a temporary folder"
-    parser.add_argument("kept", metavar="KEPT", nargs="?", type=pathlib.Path, help=said)
-    words = parser.parse_args()
     if lacks("the Rust crate", "cargo", "rustfmt"):
         return
     with commands.temporary() as folder:
@@ -126,12 +106,12 @@ def main():
         commands.run(TOP / "bin/crate", crate)
         found = find_crates(folder)
         for name in NEEDED.keys() - set(found):
-            print(f"left out: the feature {name}: {NEEDED[name][0]} names no folder")
-        target = words.kept.resolve() if words.kept else folder / "target"
-        env = {**os.environ, "CARGO_TARGET_DIR": str(target), "RUSTDOCFLAGS": "-D warnings"}
+            print(f"left out: the feature {name}: {NEEDED[name]} names no folder")
+        env = {**os.environ, "CARGO_TARGET_DIR": str(folder / "target"), "RUSTDOCFLAGS": "-D warnings"}
 
         def cargo(name, *words):
-            return printed_by(name, ["cargo", *words], cwd=crate, env=env)
+            done = check(name, ["cargo", *words], cwd=crate, env=env)
+            return done.stdout if done else ""
 
         tree = cargo("tree", "tree")
         expect(len(tree.splitlines()) == 1, "without features it depends on nothing", tree)
@@ -173,4 +153,4 @@ def main():
 
 
 if __name__ == "__main__":
-    checks.end_with(main)
+    checks.end_with(main, __doc__)

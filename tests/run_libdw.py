@@ -19,6 +19,9 @@ line is `N passed, M failed`.
 """
 
 import concurrent.futures
+import contextlib
+import functools
+import itertools
 import pathlib
 import platform
 import re
@@ -26,20 +29,17 @@ import shutil
 import struct
 import sys
 
-sys.dont_write_bytecode = True
-import checks  # noqa: E402
-import compare_gdb  # noqa: E402
-from checks import STRICT, check, check_headers, commands, count, count_of, expect, lacks, left_out, run  # noqa: E402
+import checks
+import compare_gdb
+from checks import KINDS, SANITIZERS, check, check_headers, commands, count, count_of, expect
+from checks import lacks, left_out, prints, run
 
-import archive  # noqa: E402
-import libraries  # noqa: E402
-from commands import TOP  # noqa: E402
+import archive
+import libraries
+from commands import TOP
 
-ARCHIVE = archive.path_of()
-LINKS = ["-ldw", "-lelf"]
-SANITIZERS = ["-g", "-fsanitize=address,undefined", "-fno-sanitize-recover=all"]
 NO_LEAKS = {"ASAN_OPTIONS": "detect_leaks=0"}
-DEBUG = pathlib.Path("/usr/lib/debug")
+BUT_FOR_LIBDW = {"LSAN_OPTIONS": f"suppressions={TOP / 'tests/libdw/leaks'}:print_suppressions=0"}
 ALL = "--all" in sys.argv
 if ALL:
     checks.SECONDS = 3000
@@ -57,24 +57,16 @@ NONE_DIFFERS = {"status": 0, "differing": 0, "refused": 0}
 LIBRARIES = {}
 
 
-def build_libraries(folder):
-    """Builds libdwexpr_libdw.a without a warning."""
-    for kind, words in [("plain", ["-O2"]), ("checked", ["-O1", *SANITIZERS])]:
-        (folder / kind).mkdir()
-        LIBRARIES[kind] = libraries.build("libdw", folder / kind, *words)
+def built(source, program, *words, **more):
+    """Builds a source of the repository over the library and the archive, without a warning: the program, or None."""
+    kind = "checked" if SANITIZERS[-1] in words else "plain"
+    return checks.built(TOP / source, program, *words, LIBRARIES[kind], archive.path_of(), "-ldw", "-lelf", **more)
 
 
-def linked(words):
-    """What a program that is built by these words is linked with."""
-    kind = "checked" if "-fno-sanitize-recover=all" in words else "plain"
-    return [LIBRARIES[kind], ARCHIVE, *LINKS]
-
-
-def built(source, program, *words):
-    """Builds a source without a warning: the program, or None."""
-    name = f"{source.relative_to(TOP)}: build"
-    done = check(name, ["cc", "-std=c11", *STRICT, *words, source, *linked(words), "-o", program])
-    return program if done else None
+@functools.cache
+def built_where(folder):
+    """The example that prints all variables."""
+    return built("examples/where.c", folder / "where", "-O2", "-g")
 
 
 def callers(folder):
@@ -84,28 +76,19 @@ def callers(folder):
             left_out("tests/libdw/rules.c", "x86-64")
             continue
         given = sorted(folder.glob("*.entries")) if name == "entries" else []
-        for kind, words in [("", ["-O2"]), (" with sanitizers", SANITIZERS)]:
-            program = built(TOP / f"tests/libdw/{name}.c", folder / name, *words)
-            if not program:
-                continue
-            # libdwfl keeps some memory
-            done = run([program, *given], env=NO_LEAKS if name == "rules" else {})
-            count_of(f"{name}.c{kind}", done)
+        for kind, words in KINDS.items():
+            if program := built(f"tests/libdw/{name}.c", folder / name, *words):
+                # libdwfl keeps some memory
+                count_of(f"{name}.c{kind}", [program, *given], env=NO_LEAKS if name == "rules" else {})
 
 
-def compilers(what):
-    return [compiler for compiler in ("gcc", "clang") if not lacks(f"{what} of {compiler}", compiler)]
-
-
-def programs(folder):
-    """Programs with debug information."""
-    for compiler in compilers("examples/expressions.c on programs"):
-        for level in ["-O0", "-O2"]:
-            for version in ["4", "5"]:
-                file = folder / f"{compiler}{level}-{version}"
-                source = TOP / "tests/stopped/pieces.c"
-                if check(f"{file.name}: build", [compiler, level, "-g", f"-gdwarf-{version}", source, "-o", file]):
-                    yield file
+def programs(folder, what, stems, levels):
+    """Programs of tests/stopped with debug information."""
+    for compiler, stem, level, version in itertools.product(("gcc", "clang"), stems, levels, ("4", "5")):
+        file = folder / f"{stem}-{compiler}{level}-{version}"
+        words = [compiler, level, "-g", f"-gdwarf-{version}", TOP / f"tests/stopped/{stem}.c", "-o", file]
+        if not lacks(f"{what} of {compiler}", compiler) and check(f"{file.name}: build", words):
+            yield file
 
 
 def compared(program, files, **more):
@@ -115,32 +98,37 @@ def compared(program, files, **more):
     return {"status": done.returncode} | {name: int(said[name]) for name in said.groupdict()} if said else {}
 
 
+def put_together(round_trip, files, what):
+    """Counts the expressions that have the file's bytes if they are put together from libdw's operations."""
+    done = run([round_trip, *files])
+    said = re.search(r"^(\d+) the same, 0 differing, 0 refused\n\Z", done.stdout, re.MULTILINE)
+    same = int(said[1]) if said else 0
+    count(same, not said, f"{what}, put together", done.stdout[-2000:])
+    return same
+
+
 def expressions(folder):
-    compare = built(TOP / "examples/expressions.c", folder / "expressions", "-O2")
-    round_trip = built(TOP / "tests/libdw/round_trip.c", folder / "round_trip", "-O2")
+    compare = built("examples/expressions.c", folder / "expressions", "-O2")
+    round_trip = built("tests/libdw/round_trip.c", folder / "round_trip", "-O2")
     made = check("every operation", [sys.executable, TOP / "tests/libdw/every_operation.py", folder])
     if not (compare and round_trip and made):
         return
     every, total = sorted(folder.glob("*.elf")), int(made.stdout)
-    done = run([round_trip, *every])
-    good = done.stdout == f"{total} the same, 0 differing, 0 refused\n"
-    count(total if good else 0, not good, "every operation, put together", done.stdout[-2000:])
+    same = put_together(round_trip, every, "every operation")
     # Registers above 65535 are refused here, and libdw loses the sign of an implicit pointer's offset.
     found = compared(compare, every)
     good = {"status": 1, "expressions": total}.items() <= found.items() and found["differing"] >= found["refused"] > 0
-    expect(good, "examples/expressions.c on every operation", found)
+    expect(good and same == total, "examples/expressions.c on every operation", found)
     changed_fields(folder, every[-1])
-    files = sorted(DEBUG.rglob("*.debug"))
+    files = sorted(pathlib.Path("/usr/lib/debug").rglob("*.debug"))
     if files:
-        done = run([round_trip, *files])
-        said = re.search(r"^(\d+) the same, 0 differing, 0 refused\n\Z", done.stdout, re.MULTILINE)
-        count(int(said[1]) if said else 0, not said, "expressions of libc6-dbg, put together", done.stdout[-2000:])
+        same = put_together(round_trip, files, "expressions of libc6-dbg")
         found = compared(compare, files)
-        good = said and NONE_DIFFERS.items() <= found.items() and found["expressions"] == int(said[1])
+        good = NONE_DIFFERS.items() <= found.items() and found["expressions"] == same > 0
         expect(good, "examples/expressions.c on libc6-dbg", found)
     else:
         left_out("expressions of libc6-dbg", "libc6-dbg")
-    for file in programs(folder):
+    for file in programs(folder, "examples/expressions.c on programs", ["pieces"], ["-O0", "-O2"]):
         found = compared(compare, [file])
         good = NONE_DIFFERS.items() <= found.items() and found["operations"] >= found["expressions"] > 0
         expect(good, f"examples/expressions.c on {file.name}", found)
@@ -150,7 +138,7 @@ def expressions(folder):
 def changed_fields(folder, file):
     """examples/expressions.c tells each field of an operation that is changed."""
     words = ["-Wl,--wrap=dwexpr_decode", TOP / "tests/libdw/changed.c"]
-    program = built(TOP / "examples/expressions.c", folder / "changed", *words)
+    program = built("examples/expressions.c", folder / "changed", *words)
     # The first of the three places is that of a machine whose words have 64 bits.
     places = re.findall(r"DWEXPR_AT\(dwexpr_operation, (\w+), (\d+), ", (TOP / "include/dwexpr.h").read_text())
     if program and expect(len(places) == 14, "the fields of an operation", places):
@@ -171,72 +159,54 @@ INNERMOST = "inner = 43"
 WANTED = ["in middle", INNERMOST, "n = 6", "square = 36", "in outermost", "n = 3", "twice = 6", "in main", "argc = 2"]
 
 
-def but_for_libdw(folder):
-    """What tells a sanitizer to report leaks of memory but for libdw's own."""
-    suppressed = folder / "suppressed"
-    suppressed.write_text("leak:libdw\n")
-    return {"LSAN_OPTIONS": f"suppressions={suppressed}:print_suppressions=0"}
-
-
-def where_on(folder, words, where, checked):
+def where_on(words, where, checked):
     """examples/where.c by itself, with the sanitizers and under valgrind."""
     done = check(f"examples/where.c {words[0]}", [where, *words])
     if not done:
         return
-    lines = done.stdout.splitlines()
-    good = all(line in lines for line in WANTED)
-    expect(good, f"examples/where.c {words[0]}: variables", done.stdout)
+    expect(set(WANTED) <= set(done.stdout.splitlines()), f"examples/where.c {words[0]}: variables", done.stdout)
     # a sanitizer of leaks can't trace a process that it is to read itself
-    env = NO_LEAKS if words[0] == "--pid" else but_for_libdw(folder)
-    again = check(f"examples/where.c {words[0]} with sanitizers", [checked, *words], env=env)
-    if again:
-        expect(again.stdout == done.stdout, "the same with sanitizers", again.stdout)
+    env = NO_LEAKS if words[0] == "--pid" else BUT_FOR_LIBDW
+    prints(f"examples/where.c {words[0]}, the same with sanitizers", [checked, *words], done.stdout, env=env)
     checks.check_by_valgrind(f"examples/where.c {words[0]}", [where, *words])
 
 
 def examples(folder):
     """The examples on a stopped process and on its core dump."""
-    variable = built(TOP / "examples/variable.c", folder / "variable", "-O2")
-    where = built(TOP / "examples/where.c", folder / "where", "-O2", "-g")
-    checked = built(TOP / "examples/where.c", folder / "where_checked", *SANITIZERS)
-    program, source = folder / "stopped", TOP / "tests/stopped/pieces.c"
-    if not (variable and where and checked and check(f"{source.name}: build", ["cc", "-g", source, "-o", program])):
-        return
-    for words in ([variable, NO_PROCESS, "inner"], [where, "--pid", NO_PROCESS], [where, "--core", program]):
-        done = run(words)
-        expect(done.returncode == 2 and not done.stdout, f"{words[0].name} on nothing", done.stdout + done.stderr)
-    process = compare_gdb.stopped([program, PLACE], folder)
-    if not process:
-        return left_out("the examples on a stopped process", "process that stops")
-    done = run([variable, process.pid, INNERMOST.split()[0]])
-    good = done.stdout == INNERMOST + "\n"
-    expect(good, "examples/variable.c", done.stdout + done.stderr)
-    if shutil.which("c++"):
-        words = ["-std=c++17", *STRICT, TOP / "tests/libdw/stack.cpp", *linked([]), "-o", folder / "stack"]
-        if check("stack.cpp: build", ["c++", *words]):
-            done = run([folder / "stack", process.pid])
-            expect(done.stdout == "middle\n", "stack.cpp", done.stdout + done.stderr)
-    else:
-        left_out("tests/libdw/stack.cpp", "c++")
-    where_on(folder, ["--pid", process.pid], where, checked)
-    core = compare_gdb.dumped(process, folder)
-    if core:
-        shutil.copy(core, folder / "dump")
-        where_on(folder, ["--core", core], where, checked)
-    else:
-        left_out("examples/where.c on a core dump", "core dump that the kernel writes into the folder of a process")
+    variable = built("examples/variable.c", folder / "variable", "-O2")
+    checked = built("examples/where.c", folder / "where_checked", *SANITIZERS)
+    where, program = built_where(folder), folder / "pieces.c-cc-O0"
+    with stopped_at(folder, "pieces.c", "cc", ["-O0"], PLACE) as process:
+        if not (variable and where and checked and process):
+            return left_out("the examples on a stopped process", "process that stops")
+        for words in ([variable, NO_PROCESS, "inner"], [where, "--pid", NO_PROCESS], [where, "--core", program]):
+            prints(f"{words[0].name} on nothing", words, "", 2)
+        prints("examples/variable.c", [variable, process.pid, INNERMOST.split()[0]], INNERMOST + "\n")
+        if not lacks("tests/libdw/stack.cpp", "c++"):
+            if stack := built("tests/libdw/stack.cpp", folder / "stack", cc=("c++", "-std=c++17")):
+                prints("stack.cpp", [stack, process.pid], "middle\n")
+        where_on(["--pid", process.pid], where, checked)
+        if core := compare_gdb.dumped(process, folder):
+            shutil.copy(core, folder / "dump")
+            where_on(["--core", core], where, checked)
+        else:
+            left_out("examples/where.c on a core dump", "core dump that the kernel writes into the folder of a process")
+    return None
 
 
+@contextlib.contextmanager
 def stopped_at(folder, source, compiler, words, place):
-    """A process that stopped at a place of a program in tests/stopped or tests/libdw, or None."""
-    if lacks(f"{source} by {compiler}", compiler):
-        return None
+    """A process that stopped at a place of a program in tests/stopped or tests/libdw, or None. It ends with the block.
+    """
     program = folder / f"{source}-{compiler}{words[0]}"
     path = next(filter(pathlib.Path.exists, (TOP / "tests" / it / source for it in ("stopped", "libdw"))))
     call = [compiler, "-g", *words, path, "-o", program]
     # gnatmake writes what it makes on the way where it is called
-    done = check(f"{program.name}: build", call, cwd=folder)
-    return compare_gdb.stopped([program, place], folder) if done else None
+    if lacks(f"{source} by {compiler}", compiler) or not check(f"{program.name}: build", call, cwd=folder):
+        yield None
+        return
+    with compare_gdb.stopped(program, place, folder) as process:
+        yield process
 
 
 # What tests/libdw/frames.c looks at, and the program for it.
@@ -255,16 +225,13 @@ FRAMES = [
 
 def frames(folder):
     """tests/libdw/frames.c: registers and values of callers, limits, and reads by two threads."""
-    for kind, flags in [("", ["-O2"]), (" with sanitizers", SANITIZERS)]:
-        program = built(TOP / "tests/libdw/frames.c", folder / "frames", "-pthread", *flags)
+    for kind, flags in KINDS.items():
+        program = built("tests/libdw/frames.c", folder / "frames", "-pthread", *flags)
         for which, source, compiler, words, place in FRAMES:
-            process = stopped_at(folder, source, compiler, words, place)
-            if not program or not process:
-                continue
-            done = run([program, which, process.pid], env=NO_LEAKS)
-            process.kill()
-            process.wait()
-            count_of(f"frames.c, {which}, {' '.join(words)}{kind}", done)
+            with stopped_at(folder, source, compiler, words, place) as process:
+                if program and process:
+                    name = f"frames.c, {which}, {' '.join(words)}{kind}"
+                    count_of(name, [program, which, process.pid], env=NO_LEAKS)
 
 
 # What examples/where.c prints of place 3 of tests/stopped/registers.c. A long double has 10 bytes of 16.
@@ -273,16 +240,14 @@ CHARACTERS = ["negative = -98", "large = 202 (0xca)", "letter = -3", "counted = 
 
 def texts(folder):
     """Lines of examples/where.c, of characters, and of a core dump that was cut off."""
-    where = built(TOP / "examples/where.c", folder / "where", "-O2", "-g")
-    process = stopped_at(folder, "registers.c", "gcc", ["-O0"], 3)
-    if where and process:
-        lines = run([where, "--pid", process.pid]).stdout.splitlines()
-        for line in CHARACTERS:
-            expect(line in lines, f"examples/where.c: {line}", "\n".join(lines))
-        process.kill()
-        process.wait()
-    process = stopped_at(folder, "pieces.c", "gcc", ["-O0"], 8)
-    core = dumped_into(folder / "cut", process) if process else None
+    where = built_where(folder)
+    with stopped_at(folder, "registers.c", "gcc", ["-O0"], 3) as process:
+        if where and process:
+            lines = run([where, "--pid", process.pid]).stdout.splitlines()
+            for line in CHARACTERS:
+                expect(line in lines, f"examples/where.c: {line}", "\n".join(lines))
+    with stopped_at(folder, "pieces.c", "gcc", ["-O0"], 8) as process:
+        core = process and compare_gdb.dumped(process, folder)
     if not where or not core:
         return left_out("examples/where.c on a core dump that was cut off", "core dump")
     # what the program's file has of `shared` isn't what the process had
@@ -290,13 +255,7 @@ def texts(folder):
     expect(line not in run([where, "--core", core]).stdout.splitlines(), "a whole core dump has a static variable")
     core.write_bytes(without_data(core))
     done = run([where, "--core", core])
-    expect(line in done.stdout.splitlines(), "a core dump that was cut off hasn't", done.stdout + done.stderr)
-
-
-def dumped_into(folder, process):
-    """The core dump of a process, moved to a path."""
-    core = compare_gdb.dumped(process, folder.parent)
-    return core and core.rename(folder)
+    return expect(line in done.stdout.splitlines(), "a core dump that was cut off hasn't", done.stdout + done.stderr)
 
 
 def without_data(core):
@@ -311,16 +270,12 @@ def without_data(core):
 
 
 def with_gdb(folder):
-    if not shutil.which("gdb") or not (shutil.which("gcc") or shutil.which("clang")):
-        return left_out("examples/where.c and gdb", "gdb, gcc or clang")
-    where = built(TOP / "examples/where.c", folder / "where", "-O2")
-    if not where:
-        return None
-    jobs = compare_gdb.jobs_of([]) if ALL else compare_gdb.GATE
-    missing = sorted({compiler for _, compiler, _ in jobs if not shutil.which(compiler)})
-    for compiler in missing:
-        left_out(f"programs of {compiler} and gdb", compiler)
-    sums = compare_gdb.compare_all(where, [job for job in jobs if job[1] not in missing])
+    where = built_where(folder)
+    if not where or lacks("examples/where.c and gdb", "gdb"):
+        return
+    jobs = compare_gdb.EVERY if ALL else compare_gdb.GATE
+    there = {it: not lacks(f"programs of {it} and gdb", it) for it in sorted({compiler for _, compiler, _ in jobs})}
+    sums = compare_gdb.compare_all(where, [job for job in jobs if there[job[1]]])
     for what, found in sums.items():
         print(f"{what}: " + ", ".join(f"{number} {kind}" for kind, number in found.most_common()))
         if found["equal"] or found["different"]:
@@ -331,35 +286,26 @@ def with_gdb(folder):
 
 def hostile(folder):
     """Programs with wrong bytes; each job changes some 10 bytes for each of its numbers."""
-    program = built(TOP / "tests/libdw/hostile.c", folder / "hostile", "-O1", *SANITIZERS)
+    program = built("tests/libdw/hostile.c", folder / "hostile", "-O1", *SANITIZERS)
     if not program or platform.machine() != "x86_64":
         return left_out("hostile debug information", "x86-64")
-    env = but_for_libdw(folder)
     numbers = 4000 if ALL else 130
     jobs = []
-    for compiler in compilers("hostile debug information"):
-        for version in ["4", "5"]:
-            for stem in ["pieces", "lists"]:
-                file = folder / f"hostile-{stem}-{compiler}-{version}"
-                source = TOP / f"tests/stopped/{stem}.c"
-                if check(f"{file.name}: build", [compiler, "-O2", "-g", f"-gdwarf-{version}", source, "-o", file]):
-                    copies = folder / f"{file.name}-copies"
-                    copies.mkdir()
-                    jobs.append([program, file, 1, numbers, copies])
-    if (folder / "dump").exists():
-        (folder / "dump-copies").mkdir()
-        jobs.append([program, folder / "dump", 1, numbers, folder / "dump-copies"])
+    files = programs(folder, "hostile debug information", ["pieces", "lists"], ["-O2"])
+    for file in [*files, *folder.glob("dump")]:
+        copies = folder / f"{file.name}-copies"
+        copies.mkdir()
+        jobs.append([program, file, 1, numbers, copies])
     with concurrent.futures.ThreadPoolExecutor(4) as pool:
-        for words, done in zip(jobs, pool.map(lambda words: run(words, env=env), jobs)):
+        for words, done in zip(jobs, pool.map(lambda words: run(words, env=BUT_FOR_LIBDW), jobs)):
             said = re.match(r"(\d+) bytes changed", done.stdout)
             good = done.returncode == 0 and said
             count(int(said[1]) if good else 0, not good, f"{words[1].name}", done.stdout[-300:] + done.stderr[-3000:])
 
 
 def has_libdw(folder):
-    source = folder / "has_libdw.c"
-    source.write_text("#include <elfutils/libdwfl.h>\nint main(void) { return dwfl_errno(); }\n")
-    return run(["cc", source, "-ldw", "-lelf", "-o", folder / "has_libdw"]).returncode == 0
+    text = "#include <elfutils/libdwfl.h>\nint main(void) { return dwfl_errno(); }\n"
+    return run(["cc", "-xc", "-", "-ldw", "-lelf", "-o", folder / "has_libdw"], input=text).returncode == 0
 
 
 def main():
@@ -373,7 +319,8 @@ def main():
             return left_out("include/dwexpr_libdw.h and the examples over it", "libdw")
         with commands.alone():
             archive.build()
-        build_libraries(folder)
+        for kind, words in [("plain", ["-O2"]), ("checked", ["-O1", *SANITIZERS])]:
+            LIBRARIES[kind] = libraries.build("libdw", folder / kind, *words)
         check_headers("dwexpr_libdw.h", "dwexpr_names.h")
         for stage in [callers, expressions, examples, frames, texts, with_gdb, hostile]:
             stage(folder)

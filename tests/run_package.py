@@ -14,21 +14,20 @@
 It wants cc; what else is missing is left out, and said so. The last line is `N passed, M failed`.
 """
 
+import filecmp
 import os
 import pathlib
 import re
-import shutil
 import shlex
+import shutil
 import signal
 import subprocess
-import sys
 import tarfile
 import time
 
-sys.dont_write_bytecode = True
-import checks  # noqa: E402
-from checks import check, commands, expect, lacks, left_out, run  # noqa: E402
-from commands import TOP  # noqa: E402
+import checks
+from checks import check, commands, expect, lacks, left_out, prints, run
+from commands import TOP
 
 ARM = "aarch64-unknown-linux-gnu"
 # The archive is proved for each processor.
@@ -62,20 +61,20 @@ WORDS = ["8", "4", "5", "le", "916c06"]
 WANTED = "0 DW_OP_fbreg -20\n2 DW_OP_deref\n"
 
 
-def check_decode(name, words, **more):
-    done = run([*words, *WORDS], **more)
-    expect(done.returncode == 0 and done.stdout == WANTED, name, done.stdout + done.stderr)
+def use(name, words, program, env, given=WORDS, wanted=WANTED, runner=()):
+    """Builds a program by these words; it is decode.c, or prints something else. Whether it is built."""
+    is_built = check(name, [*words, "-o", program], env=env)
+    return is_built and prints(f"{name}, run", [*runner, program, *given], wanted, env=env)
 
 
-def packed(*words, **more):
-    """The package that bin/package writes."""
-    done = run([TOP / "bin/package", *words], **more)
-    if not expect(done.returncode == 0, f"bin/package {' '.join(words)}", done.stdout + done.stderr):
+def unpacked(folder, *words, **more):
+    """The package that bin/package writes, unpacked. It is the same if it is written once more."""
+    name, call = f"bin/package {' '.join(words)}", [TOP / "bin/package", *words]
+    if not (done := check(name, call, **more)):
         return None
-    return pathlib.Path(done.stdout.strip())
-
-
-def unpacked(package, folder):
+    package = pathlib.Path(done.stdout.strip())
+    first = package.read_bytes()
+    expect(run(call, **more).stdout == done.stdout and package.read_bytes() == first, f"{name}, the same twice")
     with tarfile.open(package) as tar:
         tar.extractall(folder)
     return folder / package.name.removesuffix(".tar.gz")
@@ -83,20 +82,15 @@ def unpacked(package, folder):
 
 def environment(home):
     """That of one who doesn't have the kit."""
-    folders = os.environ["PATH"].split(":")
     links = home / "bin"
     links.mkdir()
-    # A folder may hold `rt` beside a compiler.
-    for folder in folders:
-        if pathlib.Path(folder, "rt").exists():
-            for program in pathlib.Path(folder).iterdir():
-                if program.name != "rt" and not (links / program.name).exists():
-                    (links / program.name).symlink_to(program)
-    plain = [folder for folder in folders if not pathlib.Path(folder, "rt").exists()]
-    kept = {name: os.environ[name] for name in ("CARGO_HOME", "RUSTUP_HOME") if name in os.environ}
-    for name, folder in (("CARGO_HOME", ".cargo"), ("RUSTUP_HOME", ".rustup")):
-        kept.setdefault(name, str(pathlib.Path.home() / folder))
-    return {**kept, "PATH": ":".join([str(links), *plain]), "HOME": str(home)}
+    for folder in os.environ["PATH"].split(":"):
+        for program in pathlib.Path(folder).glob("*"):
+            if program.name != "rt" and not os.path.lexists(links / program.name):
+                (links / program.name).symlink_to(program)
+    homes = {"CARGO_HOME": ".cargo", "RUSTUP_HOME": ".rustup"}
+    kept = {name: os.environ.get(name, str(pathlib.Path.home() / homes[name])) for name in homes}
+    return {**kept, "PATH": str(links), "HOME": str(home)}
 
 
 def crate_files(packed):
@@ -105,8 +99,8 @@ def crate_files(packed):
         crate = name / "dwexpr"
         check("bin/crate", [TOP / "bin/crate", crate])
         names = [it.relative_to(crate) for it in crate.rglob("*") if it.is_file()]
-        same = all((packed / it).exists() and (packed / it).read_bytes() == (crate / it).read_bytes() for it in names)
-        expect(same, "the Rust crate is the one that bin/crate writes")
+        _, *others = filecmp.cmpfiles(crate, packed, names, shallow=False)
+        expect(not any(others), "the Rust crate is the one that bin/crate writes", f"{others}")
         return names
 
 
@@ -132,9 +126,7 @@ def files_of(package, by):
 
 
 def flags_of(package, name, env):
-    """The words that pkg-config has for a name in the package, `None` without pkg-config or a library that it wants."""
-    if not shutil.which("pkg-config"):
-        return None
+    """The words that pkg-config has for a name in the package, `None` without it or a library that it wants."""
     asked = {**env, "PKG_CONFIG_PATH": str(package / "lib/pkgconfig")}
     done = run(["pkg-config", "--cflags", "--libs", name], env=asked)
     return None if done.returncode else shlex.split(done.stdout)
@@ -146,21 +138,12 @@ def by_compilers(package, folder, env):
     flags = [f"-I{package / 'include'}", f"-L{package / 'lib'}", "-ldwexpr_run", "-ldwexpr"]
     if not lacks("the words of pkg-config", "pkg-config"):
         flags = flags_of(package, "dwexpr", env) or []
-    program = folder / "decode"
-    if check("decode.c by cc", ["cc", "-std=c11", source, *flags, "-o", program], env=env):
-        check_decode("decode.c by cc, run", [program], env=env)
-    program = folder / "run"
-    words = ["cc", "-std=c11", "-Wall", "-Wextra", CALLERS / "run.c", *flags, "-o", program]
-    if check("a caller of dwexpr_run", words, env=env):
-        done = run([program], env=env)
-        expect(done.stdout == f"0 aabb {version}\n", "a caller of dwexpr_run, run", done.stdout + done.stderr)
-    if lacks("a caller in C++", "c++"):
-        return
-    program = folder / "caller"
-    words = ["c++", "-std=c++17", "-Wall", "-Wextra", CALLERS / "caller.cpp", *flags, "-o", program]
-    if check("a caller in C++", words, env=env):
-        done = run([program], env=env)
-        expect(done.stdout == "0 0x2ff0\n", "a caller in C++, run", done.stdout + done.stderr)
+    use("decode.c by cc", ["cc", "-std=c11", source, *flags], folder / "decode", env)
+    words = ["cc", "-std=c11", "-Wall", "-Wextra", CALLERS / "run.c", *flags]
+    use("a caller of dwexpr_run", words, folder / "run", env, (), f"0 aabb {version}\n")
+    if not lacks("a caller in C++", "c++"):
+        words = ["c++", "-std=c++17", "-Wall", "-Wextra", CALLERS / "caller.cpp", *flags]
+        use("a caller in C++", words, folder / "caller", env, (), "0 0x2ff0\n")
 
 
 def by_libdw(package, folder, env):
@@ -179,9 +162,9 @@ def by_libdw(package, folder, env):
     with subprocess.Popen([program]) as process:
         time.sleep(1)
         process.send_signal(signal.SIGSTOP)
-        done = run([variable, process.pid, "answer"], env=env)
+        prints("variable.c, run", [variable, process.pid, "answer"], "answer = 42\n", env=env)
         process.kill()
-    return expect(done.stdout == "answer = 42\n", "variable.c, run", done.stdout + done.stderr)
+    return None
 
 
 def by_cmake(package, folder, env):
@@ -191,72 +174,59 @@ def by_cmake(package, folder, env):
     words.append(f"-DEXAMPLES={package / 'share/dwexpr/examples'}")
     configured = check("CMake: configure", words, env=env)
     if configured and check("CMake: build", ["cmake", "--build", folder / "made"], env=env):
-        check_decode("CMake: run", [folder / "made/decode"], env=env)
+        prints("CMake: run", [folder / "made/decode", *WORDS], WANTED, env=env)
         if (package / SHARED).exists():
-            check_decode("CMake: run, with the shared library", [folder / "made/shared"], env=env)
+            prints("CMake: run, with the shared library", [folder / "made/shared", *WORDS], WANTED, env=env)
         if (package / OVER_LIBDW[0]).exists():
             expect((folder / "made/where").exists(), "CMake: where.c over dwexpr::libdw")
 
 
+def by_all(package, folder, env, by):
+    """Uses a package in all these ways. The sum of its sources."""
+    sources = files_of(package, by)
+    by_compilers(package, folder, env)
+    by_libdw(package, folder, env)
+    by_cmake(package, folder, env)
+    return sources
+
+
 def by_rustc(folder, env, sources):
     """The package that is made without the kit, of the same sources."""
-    if missing := [tool for tool in ("rustc", "cargo", "objcopy") if not shutil.which(tool, path=env["PATH"])]:
-        return left_out("the package by rustc", missing[0])
-    package = packed("--by", "rustc", env=env)
-    if not package:
-        return None
-    first = package.read_bytes()
-    same = packed("--by", "rustc", env=env) == package and package.read_bytes() == first
-    expect(same, "two packages by rustc are the same")
-    here = unpacked(package, folder)
-    expect(files_of(here, BY_RUSTC) == sources, "both packages are of the same sources")
-    by_compilers(here, folder, env)
-    by_libdw(here, folder, env)
-    by_cmake(here, folder, env)
+    if lacks("the package by rustc", "rustc", "cargo", "objcopy"):
+        return
+    here = unpacked(folder, "--by", "rustc", env=env)
+    if not here:
+        return
+    expect(by_all(here, folder, env, BY_RUSTC) == sources, "both packages are of the same sources")
     if flags := flags_of(here, "dwexpr-shared", env):
-        program = folder / "with_shared"
-        words = ["cc", here / "share/dwexpr/examples/decode.c", *flags, "-o", program]
-        if check("decode.c with the shared library", words, env=env):
-            found = {**env, "LD_LIBRARY_PATH": str(here / "lib")}
-            check_decode("decode.c with the shared library, run", [program], env=found)
+        program, found = folder / "with_shared", {**env, "LD_LIBRARY_PATH": str(here / "lib")}
+        words = ["cc", here / "share/dwexpr/examples/decode.c", *flags]
+        if use("decode.c with the shared library", words, program, found):
             done = run([program, *WORDS], env=env)
             expect("libdwexpr.so.0.1" in done.stderr, "it asks for the shared library by its name", done.stderr)
-    return None
 
 
 def for_arm(folder, env):
     compiler, runner = "aarch64-linux-gnu-gcc", "qemu-aarch64"
-    if lacks(f"the package for {ARM}", compiler, runner) or not (package := packed(ARM)):
+    if lacks(f"the package for {ARM}", compiler, runner) or not (package := unpacked(folder, ARM)):
         return
-    package = unpacked(package, folder)
-    program = folder / "decode_arm"
     words = [compiler, "-static", package / "share/dwexpr/examples/decode.c", f"-I{package / 'include'}"]
-    if check(f"decode.c for {ARM}", [*words, f"-L{package / 'lib'}", "-ldwexpr", "-o", program], env=env):
-        check_decode(f"decode.c for {ARM}, run", [runner, program], env=env)
+    words += [f"-L{package / 'lib'}", "-ldwexpr"]
+    use(f"decode.c for {ARM}", words, folder / "decode_arm", env, runner=[runner])
 
 
 def main():
-    commands.words_of(__doc__)
     with commands.temporary() as folder:
         home = folder / "home"
         home.mkdir()
         env = environment(home)
         expect(shutil.which("rt", path=env["PATH"]) is None, "no rt on PATH")
-        package = packed()
-        if package:
-            first = package.read_bytes()
-            expect(packed() == package and package.read_bytes() == first, "two packages are the same")
-            here = unpacked(package, folder)
-            sources = files_of(here, BY_KIT)
-            by_compilers(here, folder, env)
-            by_libdw(here, folder, env)
-            by_cmake(here, folder, env)
-            check("bin/package --prefix", [TOP / "bin/package", "--prefix", folder / "prefix"])
-            expect((folder / "prefix/lib/libdwexpr.a").exists(), "the prefix has the archive")
+        if here := unpacked(folder):
+            sources = by_all(here, folder, env, BY_KIT)
             for_arm(folder, env)
             (folder / "by rustc").mkdir()
             by_rustc(folder / "by rustc", env, sources)
 
 
 if __name__ == "__main__":
-    checks.end_with(main)
+    checks.end_with(main, __doc__)

@@ -18,8 +18,8 @@ keeps that.
 
 Each vector of tests/vectors/decode.json makes a row: `dwexpr ops` lists its operation by its name, or its fault.
 
-The entries of tests/rows/integers.json are in the form that tests/integers.py says. Each makes rows, and the table
-there has to give its results. A row that a test of gimli's states has that test's name before a colon, and a vector of
+The entries of tests/rows/integers.json are in the form that tests/integers.py says. Each makes rows, whose results the
+table there gives. A row that a test of gimli's states has that test's name before a colon, and a vector of
 tests/vectors has it as `gimli`. tests/gimli.json lists these tests: how many `rows` and vectors carry the cases of
 each, which function `elsewhere` carries how many, and how many are left out for which reason.
 
@@ -28,19 +28,18 @@ The last line is `N passed, M failed`; the status is 1 if a row failed.
 
 import collections
 import contextlib
+import functools
 import json
 import os
 import re
 import resource
 import shutil
 import subprocess
-import sys
 
-sys.dont_write_bytecode = True
-import checks  # noqa: E402
-import integers  # noqa: E402
-from checks import commands, expect  # noqa: E402
-from commands import TOP  # noqa: E402
+import checks
+import integers
+from checks import commands, expect
+from commands import TOP
 
 ROWS = TOP / "tests" / "rows"
 INTEGERS = "integers.json"
@@ -113,73 +112,44 @@ def bytes_of(text):
     return b"".join(part.encode("utf-8") * times for part, times in parts)
 
 
-@contextlib.contextmanager
-def input_of(row):
-    """What the program reads from: bytes, a directory, or a pipe that nobody writes to."""
-    if row.get("input_from") == "directory":
-        place = os.open("/", os.O_RDONLY)
-        try:
-            yield {"stdin": place}
-        finally:
-            os.close(place)
-    elif row.get("input_from") == "open":
-        reader, writer = os.pipe()
-        try:
-            yield {"stdin": reader}
-        finally:
-            os.close(reader)
-            os.close(writer)
+def ends_of(row, opened):
+    """What the program reads from and writes to, in the words of `subprocess`. What is opened for it is to be closed.
+    """
+    ends = {"stdout": subprocess.PIPE, "stderr": subprocess.PIPE}
+    if "input" in row:
+        ends["input"] = bytes_of(row["input"])
     else:
-        yield {"input": bytes_of(row["input"])}
-
-
-@contextlib.contextmanager
-def output_of(row):
-    """What the program writes to: the row's reader, a device that is full, or a pipe that nobody reads."""
+        places = [os.open("/", os.O_RDONLY)] if row["input_from"] == "directory" else os.pipe()
+        for place in places:
+            opened.callback(os.close, place)
+        ends["stdin"] = places[0]
     if row.get("output_to") == "full":
-        with open("/dev/full", "wb") as device:
-            yield device
-    elif row.get("output_to") == "closed":
-        reader, writer = os.pipe()
+        ends["stdout"] = opened.enter_context(open("/dev/full", "wb"))
+    if row.get("output_to") == "closed":
+        reader, ends["stdout"] = os.pipe()
         os.close(reader)
-        try:
-            yield writer
-        finally:
-            os.close(writer)
-    else:
-        yield subprocess.PIPE
+        opened.callback(os.close, ends["stdout"])
+    return ends
 
 
-def limit_of(row):
-    """What limits the program's memory, if the row says so."""
-    if "megabytes" not in row:
-        return None
-    size = row["megabytes"] << 20
-    return lambda: resource.setrlimit(resource.RLIMIT_AS, (size, size))
+def limit_memory(megabytes):
+    """Limits the memory of the process that calls this."""
+    resource.setrlimit(resource.RLIMIT_AS, [megabytes << 20] * 2)
 
 
 def run(row, top):
     program = str(top / row["by"] if "by" in row else PROGRAM)
-    with input_of(row) as source, output_of(row) as sink:
+    with contextlib.ExitStack() as opened:
         return subprocess.run(
             [bytes_of(row.get("program", program)), *map(bytes_of, row["words"])],
             executable=program,
-            **source,
-            stdout=sink,
-            stderr=subprocess.PIPE,
-            preexec_fn=limit_of(row),
+            **ends_of(row, opened),
+            preexec_fn=functools.partial(limit_memory, row["megabytes"]) if "megabytes" in row else None,
             # Python ignores SIGPIPE, and so does the program then: it has to see that its write failed.
             restore_signals=False,
             timeout=SECONDS if top == TOP else BUILD_SECONDS,
             check=False,
         )
-
-
-def is_wanted(row, field, printed):
-    """Whether what was printed is the row's text of a field, or matches its pattern."""
-    if f"{field}_pattern" in row:
-        return re.fullmatch(row[f"{field}_pattern"].encode("utf-8"), printed, re.DOTALL) is not None
-    return field not in row or printed == bytes_of(row[field])
 
 
 def complaints_of(row, top=TOP):
@@ -191,20 +161,18 @@ def complaints_of(row, top=TOP):
     complaints = []
     said = ran.stderr if top == TOP else UNPROVED.sub(b"", ran.stderr)
     for field, printed in (("output", ran.stdout or b""), ("error", said)):
-        if not is_wanted(row, field, printed):
-            pattern = f"{field}_pattern"
-            wanted = row[pattern] if pattern in row else bytes_of(row[field])[-200:]
-            complaints.append(f"as its {field} it printed {printed[-200:]!r}, and {wanted!r} is wanted")
+        if pattern := row.get(f"{field}_pattern"):
+            good, wanted = re.fullmatch(pattern.encode("utf-8"), printed, re.DOTALL), pattern
+        else:
+            wanted = bytes_of(row[field]) if field in row else printed
+            good = printed == wanted
+        if not good:
+            complaints.append(f"as its {field} it printed {printed[-200:]!r}, and {wanted[-200:]!r} is wanted")
     if ran.returncode != row["status"]:
         complaints.append(f"it ended with status {ran.returncode}, and {row['status']} is wanted")
     if complaints and ran.stderr:
         complaints.append(f"to standard error it wrote {ran.stderr!r}")
     return complaints
-
-
-def table_complaints():
-    """What the table of integers gives otherwise."""
-    return integers.complaints_of(json.loads((ROWS / INTEGERS).read_text(encoding="utf-8")))
 
 
 def gimli_complaints():
@@ -243,8 +211,6 @@ def unproved_complaints(rows):
 def main():
     global PROGRAM, SECONDS
     parser = commands.parser(__doc__)
-    said = "run only the rows whose file and name have the word"
-    parser.add_argument("word", metavar="WORD", nargs="?", default="", help=said)
     said = "run rows on a program built without a proof, until one fails; not those of scripts and of little memory"
     parser.add_argument("--unproved", action="store_true", help=said)
     asked = parser.parse_args()
@@ -252,11 +218,12 @@ def main():
     if asked.unproved:
         # It looks after its memory, and so takes long.
         PROGRAM, SECONDS = UNPROVED_PROGRAM, BUILD_SECONDS
-    found = {"integers: the table": table_complaints, "gimli's tests": gimli_complaints}
-    complaints = {name: list(found[name]()) for name in found if asked.word in name}
+    entries = json.loads((ROWS / INTEGERS).read_text(encoding="utf-8"))
+    complaints = {"integers: all operations": list(integers.complaints_of(entries))}
+    complaints["gimli's tests"] = list(gimli_complaints())
     by_script = []
     for name, row in rows():
-        if asked.word not in name or asked.unproved and row.keys() & {"by", "megabytes"}:
+        if asked.unproved and row.keys() & {"by", "megabytes"}:
             continue
         words = " ".join(repr(bytes_of(word))[1:60] for word in row["words"])
         complaints[f"{name} ({words})"] = said = complaints_of(row)
@@ -268,7 +235,6 @@ def main():
         complaints |= {f"bin/dwexpr, unproved: {name}": found[name] for name in found}
     for name, said in complaints.items():
         expect(not said, name, "\n".join(said))
-    expect(complaints, "there are rows")
 
 
 if __name__ == "__main__":

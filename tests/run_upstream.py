@@ -15,13 +15,11 @@ import os
 import pathlib
 import re
 import shutil
-import sys
 
-sys.dont_write_bytecode = True
-import checks  # noqa: E402
-from checks import commands, count, expect, left_out, run  # noqa: E402
-from commands import TOP  # noqa: E402
-from run_crate import find_crates  # noqa: E402
+import checks
+from checks import commands, count, expect, lacks, run
+from commands import TOP
+from run_crate import find_crates
 
 PARTS = {"value": "tests-part1.rs.txt", "op": "tests-part2.rs.txt"}
 checks.SECONDS = 600
@@ -66,8 +64,8 @@ def main():
     parser = commands.parser(__doc__)
     parser.add_argument("tests", metavar="FOLDER", type=pathlib.Path)
     words = parser.parse_args()
-    if not shutil.which("cargo"):
-        return left_out("gimli's own tests", "cargo")
+    if lacks("gimli's own tests", "cargo"):
+        return
     with commands.temporary() as name:
         commands.run(TOP / "bin/crate", name / "crate")
         find_crates(name)
@@ -89,7 +87,6 @@ def main():
         print(f"left out: {name}: {LEFT_OUT[name]}")
     print(f"{good + bad} of gimli's {len(all_names)} tests ran")
     count(good, bad, "gimli's own tests", done.stdout + done.stderr)
-    return None
 
 
 if __name__ == "__main__":

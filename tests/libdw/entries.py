@@ -115,13 +115,10 @@ class Entries(Unit):
         abbreviations += bytes([LISTED, 0x34, 0, 0x02, 0x17, 0, 0, BASE_TYPE, 0x24, 0, 0x0B, 0x0B, 0x3E, 0x0B, 0, 0])
         for code, form in CONSTANTS.values():
             abbreviations += bytes([code, 0x34, 0, 0x03, 0x08, 0x1C, form, 0, 0])
-        if self.version >= 5:
-            lists = self.pack("HBBI", 5, self.address_size, 0, 0) + b"\5\1\x32\0"  # DW_LLE_default_location
-            self.list_begins = len(self.length(0)) + 8
-            lists = self.length(len(lists)) + lists
-        else:
-            lists = self.address(0) + self.address(0x10000) + self.pack("H", 1) + b"\x32" + 2 * self.address(0)
-            self.list_begins = 0
+        two = b"\5\1\x32\0"  # DW_LLE_default_location
+        if self.version < 5:
+            two = self.address(0) + self.address(0x10000) + self.pack("H", 1) + b"\x32" + 2 * self.address(0)
+        lists, self.list_begins = self.lists(two)
         self.types()
         self.calls()
         if self.version >= 4:
@@ -135,7 +132,7 @@ class Entries(Unit):
         return addresses | {
             ".debug_abbrev": abbreviations + b"\0",
             ".debug_info": self.info(self.entries + b"\0"),
-            ".debug_loclists" if self.version >= 5 else ".debug_loc": lists,
+            **lists,
         }
 
 

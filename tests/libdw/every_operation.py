@@ -15,8 +15,8 @@ import sys
 
 from unit import Unit, signed_leb, unsigned_leb
 
-# The operands of each form of dwexpr_names.h: a address, r offset in .debug_info, bBhHiIqQ as in struct, u and s LEB128,
-# k a block of two bytes with its length as LEB128, c the same with its length in a byte.
+# The operands of each form of dwexpr_names.h: a address, r offset in .debug_info, bBhHiIqQ as in struct, u and s
+# LEB128, k a block of two bytes with its length as LEB128, c the same with its length in a byte.
 FORMS = {it: it for it in "aBbHhIiQqusrk"} | {"-": "", "R": "u", "O": "us", "V": "uu", "P": "u", "K": "uu", "D": "B"}
 FORMS |= {"E": "Bu", "T": "u", "L": "uc", "w": "H", "x": "I", "p": "rs"}
 HEADER = pathlib.Path(__file__).parents[2] / "include" / "dwexpr_names.h"
@@ -76,21 +76,13 @@ class EveryOperation(Unit):
         # the forms of a block and of an offset in the lists
         block, list_form = (0x18, 0x17) if self.version >= 4 else (0x03, 0x06 if self.offset_size == 4 else 0x07)
         abbreviations = bytes([1, 0x11, 1, 0, 0, 2, 0x34, 0, 0x02, block, 0, 0, 3, 0x34, 0, 0x02, list_form, 0, 0, 0])
-        lists, begin = self.list_of(expressions), 0
-        if self.version >= 5:
-            header = self.pack("HBBI", 5, self.address_size, 0, 0)
-            begin = len(self.length(0)) + len(header)
-            lists = self.length(len(header) + len(lists)) + header + lists
+        lists, begin = self.lists(self.list_of(expressions))
         entries = b"\1"
         for expression in expressions:
             size = unsigned_leb(len(expression)) if block == 0x18 else self.pack("H", len(expression))
             entries += b"\2" + size + expression
         entries += b"\3" + self.offset(begin) + b"\0"
-        return len(expressions), {
-            ".debug_abbrev": abbreviations,
-            ".debug_info": self.info(entries),
-            ".debug_loclists" if self.version >= 5 else ".debug_loc": lists,
-        }
+        return len(expressions), {".debug_abbrev": abbreviations, ".debug_info": self.info(entries), **lists}
 
 
 def main():

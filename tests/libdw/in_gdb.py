@@ -14,11 +14,9 @@ LONG_DOUBLE = 80
 
 
 def number_of(value, kind):
-    if kind.code == gdb.TYPE_CODE_PTR and "synthetic pointer" in value.format_string():
+    if kind.code in {gdb.TYPE_CODE_PTR, *REFERENCES} and "synthetic pointer" in value.format_string():
         return None
     if kind.code in REFERENCES:
-        if "synthetic pointer" in value.format_string():
-            return None
         return int(value.referenced_value().address)
     if kind.code == gdb.TYPE_CODE_FLT and kind.sizeof in FLOATS:
         form, whole = FLOATS[kind.sizeof]

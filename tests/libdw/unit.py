@@ -4,21 +4,15 @@ import struct
 
 
 def unsigned_leb(number, length=1):
-    made = bytearray()
-    while number or not made or len(made) < length:
-        made.append(number & 0x7F | 0x80)
-        number >>= 7
-    made[-1] &= 0x7F
-    return bytes(made)
+    """A number without a sign as LEB128, of at least so many bytes."""
+    count = max(length, -(-number.bit_length() // 7))
+    return bytes(number >> 7 * at & 0x7F | 0x80 * (at + 1 < count) for at in range(count))
 
 
 def signed_leb(number, length=1):
-    made = bytearray()
-    while not made or len(made) < length or number != (-1 if made[-1] & 0x40 else 0):
-        made.append(number & 0x7F | 0x80)
-        number >>= 7
-    made[-1] &= 0x7F
-    return bytes(made)
+    """A number with a sign."""
+    count = max(length, max(number, ~number).bit_length() // 7 + 1)
+    return unsigned_leb(number % (1 << 7 * count), count)
 
 
 class Unit:
@@ -48,6 +42,14 @@ class Unit:
     def info(self, entries):
         """.debug_info with one unit of these entries."""
         return self.length(len(self.header()) + len(entries)) + self.header() + entries
+
+    def lists(self, content):
+        """The section of location lists with this content, by its name, and where the content begins in it."""
+        if self.version < 5:
+            return {".debug_loc": content}, 0
+        header = self.pack("HBBI", 5, self.address_size, 0, 0)
+        length = self.length(len(header) + len(content))
+        return {".debug_loclists": length + header + content}, len(length) + len(header)
 
     def elf(self, sections):
         """The bytes of an object file with these sections, by name."""

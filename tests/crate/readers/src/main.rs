@@ -2,6 +2,11 @@
 //!
 //! A line of the file is a case, as `tests/compare_archive.py` writes it. The last line printed is `N alike, M differ`.
 
+#[allow(unused_macros)]
+#[macro_use]
+#[path = "../../crate/src/lists.rs"]
+mod lists;
+
 use dwexpr::{
     Error, Evaluation, EvaluationResult, Expression, GimliReader, Location, Operation, Piece, Reader, Status, Value,
     ValueType,
@@ -11,14 +16,16 @@ use std::fmt::Debug;
 use std::panic::{AssertUnwindSafe, catch_unwind};
 use std::process::ExitCode;
 
-type Reply<R> = Option<dwexpr::Result<EvaluationResult<R>>>;
+/// A step's word, and the word after it, if there is one.
+type Step<'a> = (&'a str, &'a str);
+type Reply<R> = dwexpr::Result<EvaluationResult<R>>;
 
 /// The columns of a case.
 struct Case<'a> {
     encoding: dwexpr::Encoding,
     order: RunTimeEndian,
     bytes: Vec<u8>,
-    steps: Vec<(&'a str, &'a str)>,
+    steps: Vec<Step<'a>>,
 }
 
 impl<'a> Case<'a> {
@@ -78,7 +85,7 @@ fn operation_of<R: Reader + Debug>(operation: Operation<R>) -> String {
     }
 }
 
-fn reply_of<R: Reader + Debug>(reply: dwexpr::Result<EvaluationResult<R>>) -> String {
+fn reply_of<R: Reader + Debug>(reply: Reply<R>) -> String {
     match reply {
         Ok(EvaluationResult::RequiresEntryValue(expression)) => format!("entry value {:?}", bytes_of(expression.0)),
         Ok(other) => format!("{other:?}"),
@@ -94,26 +101,44 @@ fn piece_of<R: Reader + Debug>(piece: Piece<R>) -> String {
     format!("{:?} {:?} {place}", piece.size_in_bits, piece.bit_offset)
 }
 
+/// What a resume is handed, by its type.
+macro_rules! answer_in {
+    (Value, $word:expr, $read:expr) => {
+        value_in($word)
+    };
+    (u64, $word:expr, $read:expr) => {
+        number_in($word)
+    };
+    (ValueType, $word:expr, $read:expr) => {
+        type_in($word)
+    };
+    (R, $word:expr, $read:expr) => {
+        $read(&bytes_in($word))
+    };
+}
+
+macro_rules! resume {
+    ($($(#[$doc:meta])+ $name:ident($argument:ident: $type:ident) for $kind:ident;)+) => {
+        /// Calls the resume of a step, the first one whose name has the step's word.
+        fn resume<R: Reader>(it: &mut Evaluation<R>, (step, word): Step, read: &impl Fn(&[u8]) -> R) -> Reply<R> {
+            $(if stringify!($name).split('_').any(|part| part == step) {
+                return it.$name(answer_in!($type, word, read));
+            })+
+            unreachable!("the step {step}")
+        }
+    };
+}
+
+resumes!(resume);
+
 /// Takes a step. A setting has no reply.
-fn take<R: Reader>(evaluation: &mut Evaluation<R>, (name, word): (&str, &str), read: &impl Fn(&[u8]) -> R) -> Reply<R> {
-    match name {
-        "initial" => evaluation.set_initial_value(number_in(word)),
-        "object" => evaluation.set_object_address(number_in(word)),
-        "max" => evaluation.set_max_iterations(number_in(word) as u32),
-        "evaluate" => return Some(evaluation.evaluate()),
-        "memory" => return Some(evaluation.resume_with_memory(value_in(word))),
-        "register" => return Some(evaluation.resume_with_register(value_in(word))),
-        "wasm" => return Some(evaluation.resume_with_wasm_value(value_in(word))),
-        "entry" => return Some(evaluation.resume_with_entry_value(value_in(word))),
-        "frame" => return Some(evaluation.resume_with_frame_base(number_in(word))),
-        "tls" => return Some(evaluation.resume_with_tls(number_in(word))),
-        "cfa" => return Some(evaluation.resume_with_call_frame_cfa(number_in(word))),
-        "parameter" => return Some(evaluation.resume_with_parameter_ref(number_in(word))),
-        "relocated" => return Some(evaluation.resume_with_relocated_address(number_in(word))),
-        "indexed" => return Some(evaluation.resume_with_indexed_address(number_in(word))),
-        "location" => return Some(evaluation.resume_with_at_location(read(&bytes_in(word)))),
-        "type" => return Some(evaluation.resume_with_base_type(type_in(word))),
-        unknown => unreachable!("the step {unknown}"),
+fn take<R: Reader>(it: &mut Evaluation<R>, (step, word): Step, read: &impl Fn(&[u8]) -> R) -> Option<Reply<R>> {
+    match step {
+        "initial" => it.set_initial_value(number_in(word)),
+        "object" => it.set_object_address(number_in(word)),
+        "max" => it.set_max_iterations(number_in(word) as u32),
+        "evaluate" => return Some(it.evaluate()),
+        _ => return Some(resume(it, (step, word), read)),
     }
     None
 }

@@ -1,23 +1,19 @@
 -- What the program ends with, by what its parts end with, and of an evaluation that was replayed.
-use Rattle.std.proofs.Common.{◌≡◌, inl, inr, ℕ, List, [], ◌++◌, Option, Some, None, Result, Ok, Err, refl, sym, ◌∙◌, ap, ap₂, subst, ◌⊎◌, zero, suc, ◌∷◌, take, length, ◌<◌, ◌^◌, arith}
-use Rattle.std.specs.Prelude.{IfSome, IsSome, slice_get}
-use Rattle.std.specs.Result.{result_unwrap_or}
-use Rattle.dwexpr.specs.Program.{EndsInvocation, EndsCommand, EndsFor, Exits}
-use Rattle.dwexpr.specs.Endings.{Ending, no_memory, misplaced_step}
-use Rattle.dwexpr.specs.Words.{Invocation, invocation_in}
-use Rattle.dwexpr.specs.declared.words.Command.{Command}
-use Rattle.dwexpr.specs.declared.words.Reading.{Reading}
+use Rattle.std.proofs.Common.{◌≡◌, inl, inr, ℕ, List, [], ◌++◌, append-nil, Option, Some, None, Result, Err, refl, sym, ◌∙◌, ap, subst, ◌⊎◌, zero, suc, ◌∷◌, take, length, ◌<◌, ◌^◌, arith}
+use Rattle.std.specs.Prelude.{IsSome, slice_get}
+use Rattle.dwexpr.specs.Program.{EndsInvocation}
+use Rattle.dwexpr.specs.Endings.{no_memory, misplaced_step}
+use Rattle.dwexpr.specs.Words.{Invocation}
 use Rattle.std.proofs.lemmas.List.{append_assoc, append_cancel_left, length-map, take_all}
 use Rattle.std.proofs.lemmas.Option.{slice_get_within, slice_get_past}
 use Rattle.dwarf_replay.specs.Stepping.{step_of}
-use Rattle.dwarf_base.specs.ByteOrder.{is_big_of}
-use Rattle.dwarf_base.specs.declared.byte_order.RunTimeEndian.{RunTimeEndian}
 use Rattle.dwarf_base.specs.Faults.{Fault}
 use Rattle.dwarf_base.specs.Reads.{Text}
 use Rattle.dwarf_meaning.specs.Requests.{Request}
 use Rattle.dwarf_meaning.specs.Run.{Position}
 use Rattle.dwarf_meaning.specs.Meaning.{Outcome, RequestOutcome, FaultOutcome, CompleteOutcome}
 use Rattle.dwarf_meaning.specs.Rest.{State, Status, RequestStatus, CompleteStatus, FaultStatus}
+use Rattle.dwarf_meaning.specs.Inputs.{fresh_state}
 use Rattle.dwarf_meaning.specs.Stores.{Setup}
 use Rattle.dwarf_meaning.specs.Refusals.{Refusal}
 use Rattle.dwarf_meaning.specs.Steps as meaning
@@ -32,21 +28,9 @@ use Rattle.dwexpr.specs.inner.Readings.{bad_steps, ReadsSteps}
 use Rattle.dwexpr.specs.declared.hexadecimal.ReadFault.{ReadFault}
 use Rattle.dwexpr.specs.declared.hexadecimal.ReadFault.TheVariants as fault
 use Rattle.dwexpr.specs.declared.steps.BadLine.{BadLine}
-use Rattle.dwexpr.specs.inner.Outputs.{HasLine, ending_of, state_ending, WritesEnding}
+use Rattle.dwexpr.specs.inner.Outputs.{HasLine, ending_of, state_ending}
 
--- ---- words and input
-
--- ---- what is printed for words
-
-pub ends_invocation : (words : List (List ℕ)) (left : Option (List ℕ)) (command other : Command) (reading : Reading) (items bytes : List ℕ)
-    (ending : Ending) → invocation_in words ≡ Some (record { command = command; reading = reading; bytes = items })
-    → command ≡ other → bytes ≡ items
-    → EndsCommand other (record { command = other; reading = reading; bytes = bytes }) left ending
-    → EndsFor words left ending
-ends_invocation words left command other reading items bytes ending e same read h =
-    subst (λ asked. EndsInvocation asked left ending)
-    (sym (e ∙ ap₂ (λ (k : Command) (xs : List ℕ). Some (record { command = k; reading = reading; bytes = xs })) same (sym read)))
-    (inl h)
+-- ---- words
 
 pub ends_without_memory : (left : Option (List ℕ)) (asked : Option Invocation) → IsSome asked → EndsInvocation asked left no_memory
 ends_without_memory left (Some asked) some = inr refl
@@ -71,39 +55,30 @@ stands_ending log x (Some (RequestOutcome request positions)) h = asking_ending 
 stands_ending log x (Some (FaultOutcome fault)) h = stopped_ending fault x x.status h
 stands_ending log x (Some (CompleteOutcome pieces value)) h = ap (state_ending x) h.0 ∙ ap (λ z. state_ending (record x { store = record x.store { pieces = z } }) (CompleteStatus value)) h.1
 
--- of steps that are all allowed up to one, those before it are, and then that one
-allowed_at : (setup : Setup) (refusal : Refusal) (text : Text) (log : Log) (steps : List meaning.Step) (index : ℕ) (step : meaning.Step)
+-- of steps that are all allowed up to one, those before it are, and then that one, whose replies are the last
+next_at : (setup : Setup) (refusal : Refusal) (text : Text) (log : Log) (steps : List meaning.Step) (index : ℕ) (step : meaning.Step)
     → slice_get steps index ≡ Some step → AllAllowed setup refusal text log (take (suc index) steps)
     → AllAllowed setup refusal text log (take index steps)
     × Allows (after_steps setup refusal text log (take index steps)) (outcome_of setup refusal text (after_steps setup refusal text log (take index steps))) step
-allowed_at setup refusal text log [] index step e h = absurd (cc)
-allowed_at setup refusal text log (first ∷ steps) zero step e h =
+    × ((outcome : Option Outcome)
+    × (replies_of setup refusal text log (take (suc index) steps) ≡ replies_of setup refusal text log (take index steps) ++ step_replies step outcome))
+next_at setup refusal text log [] index step e h = absurd (cc)
+next_at setup refusal text log (first ∷ steps) zero step e h =
     let same : first ≡ step = cc in
-    (tt, subst (λ z. Allows log (outcome_of setup refusal text log) z) same h.0)
-allowed_at setup refusal text log (first ∷ steps) (suc index) step e h =
-    let later = allowed_at setup refusal text (after_step setup refusal text log first) steps index step e h.1 in
-    ((h.0, later.0), later.1)
+    let outcome = outcome_of setup refusal text (after_step setup refusal text log first) in
+    (tt, subst (λ z. Allows log (outcome_of setup refusal text log) z) same h.0, (outcome, append-nil _ ∙ ap (λ z. step_replies z outcome) same))
+next_at setup refusal text log (first ∷ steps) (suc index) step e h =
+    let later = next_at setup refusal text (after_step setup refusal text log first) steps index step e h.1 in
+    let replied = step_replies first (outcome_of setup refusal text (after_step setup refusal text log first)) in
+    ((h.0, later.0), later.1, (later.2.0, ap (λ z. replied ++ z) later.2.1 ∙ sym (append_assoc replied _ _)))
 
--- a step after which there is one reply more is one that replies
-replied_at : (setup : Setup) (refusal : Refusal) (text : Text) (log : Log) (steps : List meaning.Step) (index : ℕ) (step : meaning.Step) (answer : Reply)
-    → slice_get steps index ≡ Some step
-    → replies_of setup refusal text log (take index steps) ++ answer ∷ [] ≡ replies_of setup refusal text log (take (suc index) steps)
-    → IsCall step
-replied_at setup refusal text log [] index step answer e h = absurd (cc)
-replied_at setup refusal text log (first ∷ steps) zero step answer e h = subst IsCall (cc) (of_first first h)
-  where
-    of_first : (s : meaning.Step) → answer ∷ [] ≡ step_replies s (outcome_of setup refusal text (after_step setup refusal text log s)) ++ []
-        → IsCall s
-    of_first meaning.Evaluate h = tt
-    of_first (meaning.Resume a) h = tt
-    of_first _ h = absurd (cc)
-replied_at setup refusal text log (first ∷ steps) (suc index) step answer e h =
-    let now = after_step setup refusal text log first in
-    let replied = step_replies first (outcome_of setup refusal text now) in
-    replied_at setup refusal text now steps index step answer e
-    (append_cancel_left replied _ _ (sym (append_assoc replied _ _) ∙ h))
+-- a step that replies is a call
+is_call : (step : meaning.Step) (outcome : Option Outcome) (answer : Reply) → answer ∷ [] ≡ step_replies step outcome → IsCall step
+is_call meaning.Evaluate outcome answer e = tt
+is_call (meaning.Resume a) outcome answer e = tt
+is_call _ outcome answer e = absurd (cc)
 
-pub evaluates_to : {R O P : Type 0} (text : R → Text) (number : O → ℕ) (limit : Option ℕ) (old new : State) (steps : List (Step R))
+evaluates_to : {R O P : Type 0} (text : R → Text) (number : O → ℕ) (limit : Option ℕ) (old new : State) (steps : List (Step R))
     (given : List (Answer R O P)) (ended : Replayed R O P) → Replays text number limit old steps given new ended
     → EvaluatesSteps old.setup old.text (log_at old) (steps_of text steps) (after_replies (replies_in text number given) (ending_of new ended))
 evaluates_to text number limit old new steps given replayed.Done w =
@@ -138,26 +113,30 @@ evaluates_to text number limit old new steps given (replayed.Misplaced index) w 
 evaluates_to text number limit old new steps given (replayed.NoRoom index answer) w =
     let refusal = w.does_all.refusal in
     let now = after_steps old.setup refusal old.text (log_at old) (take index (steps_of text steps)) in
-    let allowed = allowed_at old.setup refusal old.text (log_at old) (steps_of text steps) index w.inside.0 w.inside.1 w.does_all.are_done.allowed in
-    let replied = replied_at old.setup refusal old.text (log_at old) (steps_of text steps) index w.inside.0 (reply_in text number answer) w.inside.1
-    (ap (λ z. z ++ reply_in text number answer ∷ []) (sym w.before) ∙ w.does_all.are_done.replies_are) in
+    let next = next_at old.setup refusal old.text (log_at old) (steps_of text steps) index w.inside.0 w.inside.1 w.does_all.are_done.allowed in
+    let answers = append_cancel_left (replies_in text number given) _ _
+    (w.does_all.are_done.replies_are ∙ next.2.1 ∙ ap (λ z. z ++ step_replies w.inside.0 next.2.0) (sym w.before)) in
     record {
       refusal = refusal;
       index = index;
       replies = replies_in text number given;
       now = now;
-      done = record { allowed = allowed.0; replies_are = w.before; log_is = refl };
+      done = record { allowed = next.0; replies_are = w.before; log_is = refl };
       last = no_memory;
       ends =
-          subst (λ z. EndsAt index now (outcome_of old.setup refusal old.text now) z no_memory) (sym w.inside.1) (without_memory allowed.1 replied);
+          subst (λ z. EndsAt index now (outcome_of old.setup refusal old.text now) z no_memory) (sym w.inside.1)
+          (without_memory next.1 (is_call w.inside.0 next.2.0 (reply_in text number answer) answers));
       ending_is = refl;
     }
 
--- the same of a setup, a text and a log, in other words
-pub evaluates_as : (setup setup' : Setup) (text text' : Text) (log log' : Log) (steps : List meaning.Step) (ending : Ending)
-    → setup ≡ setup' → text ≡ text' → log ≡ log' → EvaluatesSteps setup text log steps ending → EvaluatesSteps setup' text' log' steps ending
-evaluates_as setup setup' text text' log log' steps ending e f g h =
-    subst (λ z. EvaluatesSteps z text' log' steps ending) e (subst (λ z. EvaluatesSteps setup z log' steps ending) f (subst (λ z. EvaluatesSteps setup text z steps ending) g h))
+-- the same of an evaluation that is fresh
+pub evaluates_fresh : {R O P : Type 0} (text : R → Text) (number : O → ℕ) (limit : Option ℕ) (setup : Setup) (whole : Text) (old new : State)
+    (steps : List (Step R)) (given : List (Answer R O P)) (ended : Replayed R O P) → old ≡ fresh_state setup whole
+    → Replays text number limit old steps given new ended
+    → EvaluatesSteps setup whole empty_log (steps_of text steps) (after_replies (replies_in text number given) (ending_of new ended))
+evaluates_fresh text number limit setup whole old new steps given ended e w =
+    subst (λ x. EvaluatesSteps x.setup x.text (log_at x) (steps_of text steps) (after_replies (replies_in text number given) (ending_of new ended))) e
+    (evaluates_to text number limit old new steps given ended w)
 
 pub has_line : {R O P : Type 0} (text : R → Text) (number : O → ℕ) (limit : Option ℕ) (old new : State) (steps : List (Step R))
     (given : List (Answer R O P)) (ended : Replayed R O P) → length steps < 2 ^ 63 → Replays text number limit old steps given new ended
@@ -167,15 +146,6 @@ has_line text number limit old new steps given (replayed.Misplaced index) few w 
     omega (arith, length-map steps (step_of text), inside, few)
 has_line text number limit old new steps given _ few w = tt
 
--- ---- a fresh evaluation
-
-abbrev pub text_by : (bytes : List ℕ) (order : RunTimeEndian) → Text
-text_by bytes order = record { bytes = bytes; is_big = is_big_of order }
-
-pub text_as : (bytes bytes' : List ℕ) (order order' : RunTimeEndian) → bytes ≡ bytes' → order ≡ order'
-    → text_by bytes order ≡ text_by bytes' order'
-text_as bytes bytes' order order' e f = ap₂ text_by e f
-
 -- ---- what lines say
 
 pub follows_refused : {A : Type 0} (view : A → meaning.Step) (setup : Setup) (text : Text) (said : Result (List meaning.Step) ℕ) (B : Type 0) (refused : ReadFault BadLine)
@@ -183,8 +153,3 @@ pub follows_refused : {A : Type 0} (view : A → meaning.Step) (setup : Setup) (
     → EvaluatesSaid setup text said (bad_steps refused) ⊎ (bad_steps refused ≡ no_memory)
 follows_refused view setup text said B (fault.Bad number) e = inl (rw e refl)
 follows_refused view setup text said B fault.NoMemory e = inr refl
-
-pub follows_steps : (setup : Setup) (text : Text) (said : Result (List meaning.Step) ℕ) (steps done : List meaning.Step) (ending : Ending)
-    → said ≡ Ok steps → done ≡ steps → EvaluatesSteps setup text empty_log done ending
-    → EvaluatesSaid setup text said ending
-follows_steps setup text said steps done ending e f h = rw e (subst (λ z. EvaluatesSteps setup text empty_log z ending) f h)

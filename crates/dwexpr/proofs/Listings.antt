@@ -1,17 +1,19 @@
 -- The operations of a text, listed one after another.
-use Rattle.std.proofs.Common.{◌≡◌, ◌≢◌, ℕ, ◌+◌, ◌-◌, Bool, List, [], ◌∷◌, ◌++◌, length, take, drop, codes, decimal, Option, Some, None, Result, Ok, Err, IsErr, refl, sym, ◌∙◌, ap, ap₂, subst, arith, append_assoc, length-append}
+use Rattle.std.proofs.Common.{◌≡◌, ◌==◌, true, false, eqb-true, ℕ, ◌-◌, ◌+◌, Bool, List, [], ◌∷◌, ◌++◌, length, take, drop, codes, decimal, Option, Some, None, Result, Err, Ok, IsErr, refl, sym, ◌∙◌, ap, ap₂, subst, arith, append_assoc, length-append}
+use Rattle.std.proofs.KnownBytes.{Appends-nil, Appends-trans}
 use Rattle.std.proofs.Math.Seq.{take-append_seam}
 use Rattle.std.specs.Io.KnownBytes.{Appends}
+use Rattle.dwarf_base.proofs.Suffixes.{suffix_trans, suffix_whole}
 use Rattle.dwarf_base.specs.declared.common.Encoding.{Encoding}
 use Rattle.dwarf_base.specs.Faults.{Fault}
 use Rattle.dwarf_base.specs.Fronts.{Begins}
-use Rattle.dwarf_base.specs.Reads.{IsSuffix}
-use Rattle.dwarf_eval.specs.Iteration.{GivesNext}
+use Rattle.dwarf_base.specs.Reads.{IsSuffix, Text}
 use Rattle.dwarf_meaning.specs.Decoding.{operation_at}
-use Rattle.dwarf_meaning.specs.Operands.{Context, context_of}
+use Rattle.dwarf_meaning.specs.Operands.{context_of}
 use Rattle.dwarf_meaning.specs.Operations.{Operation}
 use Rattle.dwarf_meaning.specs.Spelling.{Spells}
 use Rattle.dwarf_meaning.specs.Splitting.{ends, faults, goes_on}
+use Rattle.dwarf_meaning.proofs.DecodingFacts.{operation_begins}
 use Rattle.dwarf_meaning.proofs.OperationReads.{reads_operation}
 use Rattle.dwarf_meaning.proofs.Splittings.{splits_once}
 use Rattle.dwexpr.specs.Endings.{Ending}
@@ -19,117 +21,96 @@ use Rattle.dwexpr.specs.inner.Outputs.{WritesEnding}
 use Rattle.dwexpr.specs.Lines.{fault_words}
 use Rattle.dwexpr.specs.Listing.{ListsOperations, listing, operation_name}
 use Rattle.dwexpr.specs.Writing.{AppendsFront, bytes_word, line}
-use Rattle.dwexpr.proofs.Printing.{appends_both, appends_nothing, ends_refused}
+use Rattle.dwexpr.proofs.Printing.{begun, ends_beyond, ends_refused}
 
-pub gives_some : {X : Type 0} (view : X → Operation) (given : Option X) (x : X) (left bytes : List ℕ) (read : Result (Operation × List ℕ) Fault)
-    → given ≡ Some x → GivesNext view (Ok given) left bytes read → read ≡ Ok (view x, left)
-gives_some view given x left bytes read e h = subst (λ o. GivesNext view (Ok o) left bytes read) e h
+-- what is listed of a text from a place on
+abbrev pub Lists : Encoding → Text → ℕ → Ending → Type 0
+Lists encoding text place ending = ListsOperations (context_of encoding 64 text.is_big) place text.bytes ending
 
-pub gives_none : {X : Type 0} (view : X → Operation) (given : Option X) (left bytes : List ℕ) (read : Result (Operation × List ℕ) Fault)
-    → given ≡ None → GivesNext view (Ok given) left bytes read → bytes ≡ []
-gives_none view given left bytes read e h = (subst (λ o. GivesNext view (Ok o) left bytes read) e h).0
-
--- ---- the bytes of an operation are those between its place and the next one
-
-module _ (bytes left front rest : List ℕ) (place end : ℕ) (suffix : IsSuffix left bytes) (at : place ≡ length bytes - length left)
-    (whole : front ++ rest ≡ left) (after : end ≡ length bytes - length rest) where
-  pub place_after : end ≡ place + length front
-  place_after = omega (arith, at, after, suffix.no_longer, ap length whole, length-append front rest)
-
-  pub bytes_between : take (end - place) (drop place bytes) ≡ front
-  bytes_between =
-      let size : end - place ≡ length front = omega (arith, place_after) in
-      ap (λ (n : ℕ). take n (drop place bytes)) size
-      ∙ ap (λ (n : ℕ). take (length front) (drop n bytes)) at
-      ∙ ap (take (length front)) (suffix.same ∙ sym whole)
-      ∙ take-append_seam front rest
-
--- ---- what is listed of a text
-
-lists_next : (context : Context) (place : ℕ) (bytes rest : List ℕ) (op : Operation) (more : Ending) (b : Begins (Spells context) bytes op rest)
-    → ListsOperations context (place + length b.front) rest more
-    → ListsOperations context place bytes (record more { text = line (decimal place) (bytes_word b.front ∷ operation_name op ∷ []) ++ more.text })
-lists_next context place bytes rest op more b lists =
-    let first = line (decimal place) (bytes_word b.front ∷ operation_name op ∷ []) in
-    subst (λ (xs : List ℕ). ListsOperations context place xs (record more { text = first ++ more.text })) b.whole
-    (op ∷ lists.0, lists.1, goes_on b.front rest op lists.0 lists.1 b.spells lists.2, ap (λ (z : Ending). record z { text = first ++ z.text }) lists.3)
-
-pub lists_fault : (encoding : Encoding) (bits : ℕ) (big : Bool) (place : ℕ) (bytes : List ℕ) (fault : Fault) → bytes ≢ []
-    → operation_at encoding bits (record { bytes = bytes; is_big = big }) ≡ Err fault
-    → ListsOperations (context_of encoding bits big) place bytes
+pub lists_fault : (encoding : Encoding) (big : Bool) (place : ℕ) (bytes : List ℕ) (fault : Fault) → (length bytes == 0) ≡ false
+    → operation_at encoding 64 (record { bytes = bytes; is_big = big }) ≡ Err fault
+    → ListsOperations (context_of encoding 64 big) place bytes
     (record { text = line (decimal place) (codes "fault" ∷ fault_words fault); status = 1 })
-lists_fault encoding bits big place [] fault some e = absurd (some refl)
-lists_fault encoding bits big place (byte ∷ bytes) fault some e =
-    ([], Some fault, faults byte bytes fault ((reads_operation encoding bits big).refused (byte ∷ bytes) fault e), refl)
+lists_fault encoding big place [] fault some e = cc some
+lists_fault encoding big place (byte ∷ bytes) fault some e =
+    ([], Some fault, faults byte bytes fault ((reads_operation encoding 64 big).refused (byte ∷ bytes) fault e), refl)
 
-pub lists_nothing : (context : Context) (place : ℕ) (bytes : List ℕ) → bytes ≡ []
-    → ListsOperations context place bytes (record { text = []; status = 0 })
-lists_nothing context place bytes none =
-    subst (λ (xs : List ℕ). ListsOperations context place xs (record { text = []; status = 0 })) (sym none) ([], None, ends, refl)
+pub lists_nothing : (encoding : Encoding) (big : Bool) (place : ℕ) (bytes : List ℕ) → (length bytes == 0) ≡ true
+    → ListsOperations (context_of encoding 64 big) place bytes (record { text = []; status = 0 })
+lists_nothing encoding big place [] none = ([], None, ends, refl)
+lists_nothing encoding big place (byte ∷ bytes) none = absurd (omega (arith, eqb-true _ _ none))
 
-lists_some : (context : Context) (place : ℕ) (bytes : List ℕ) → (ending : Ending) × ListsOperations context place bytes ending
-lists_some context place bytes =
-    let s = (splits_once context.encoding context.offset_bits context.is_big bytes).some in
-    (listing place s.1.1, (s.0, s.1.0, s.1.1, refl))
-
--- ---- a text of which the operations before a place were listed
-
-pub record Listed (whole here : Context) (bytes : List ℕ) (place : ℕ) (left : List ℕ) (old new : Option (List ℕ)) : Type 0 where
+-- the operations before what is left were listed
+pub record Listed (encoding : Encoding) (whole left : Text) (old new : Option (List ℕ)) : Type 0 where
   pub printed : List ℕ
-  pub lists : (more : Ending) → ListsOperations here place left more → ListsOperations whole 0 bytes (record more { text = printed ++ more.text })
+  pub lists : (more : Ending) → Lists encoding left (length whole.bytes - length left.bytes) more
+      → Lists encoding whole 0 (record more { text = printed ++ more.text })
   pub written : Appends old new printed
+  pub suffix : IsSuffix left.bytes whole.bytes
 
-pub none_listed : (whole here : Context) (bytes left : List ℕ) (known : Option (List ℕ)) → here ≡ whole → left ≡ bytes
-    → Listed whole here bytes 0 left known known
-none_listed whole here bytes left known e f = record {
-  printed = [];
-  lists = λ more h. subst (λ (xs : List ℕ). ListsOperations whole 0 xs more) f (subst (λ (z : Context). ListsOperations z 0 left more) e h);
-  written = appends_nothing known;
-}
+pub none_listed : (encoding : Encoding) (text : Text) (known : Option (List ℕ)) → Listed encoding text text known known
+none_listed encoding text known =
+    let first : length text.bytes - length text.bytes ≡ 0 = omega arith in
+    record {
+      printed = [];
+      lists = λ more h. subst (λ (place : ℕ). Lists encoding text place more) first h;
+      written = Appends-nil known;
+      suffix = suffix_whole text.bytes;
+    }
 
-module _ (whole here : Context) (bytes : List ℕ) (place : ℕ) (left : List ℕ) (a b c : Option (List ℕ)) (before : Listed whole here bytes place left a b) where
-  pub all_listed : (more : Ending) → ListsOperations here place left more → Appends b c more.text
-      → (ending : Ending) × ListsOperations whole 0 bytes ending × (Appends a c ending.text × (more.status ≡ ending.status))
-  all_listed more h k = (
-    record more { text = before.printed ++ more.text },
-    before.lists more h,
-    (appends_both a b c before.printed more.text (before.printed ++ more.text) refl before.written k, refl),
-  )
+module _ (encoding : Encoding) (whole left : Text) (a b c : Option (List ℕ)) (before : Listed encoding whole left a b) where
+  abbrev pub place : ℕ
+  place = length whole.bytes - length left.bytes
 
-  -- some of the lines that are left was written, and then a write was refused
-  pub rest_refused : {E F : Type 0} (more : Ending) (x rest : List ℕ) (r : Result ℕ E) → ListsOperations here place left more → more.text ≡ x ++ rest
-      → AppendsFront b c x → IsErr r × F
-      → (ending : Ending) × ListsOperations whole 0 bytes ending × WritesEnding a c ending r
-  rest_refused more x rest r h e front refused = (
-    record more { text = before.printed ++ more.text },
-    before.lists more h,
-    ends_refused a b c (record more { text = before.printed ++ more.text }) x rest r
-        (record { done = before.printed; whole = ap (λ (z : List ℕ). before.printed ++ z) e; written = before.written }) front refused,
-  )
+  pub all_listed : {E : Type 0} (more : Ending) (r : Result ℕ E) → Lists encoding left place more → WritesEnding b c more r
+      → (ending : Ending) × Lists encoding whole 0 ending × WritesEnding a c ending r
+  all_listed more r h k =
+      (record more { text = before.printed ++ more.text }, before.lists more h, ends_beyond a b c before.printed more r before.written k)
 
-  module _ (rest : List ℕ) (op : Operation) (next : Begins (Spells here) left op rest) (spelled name : List ℕ) (e : spelled ≡ next.front)
-      (f : name ≡ operation_name op) where
-    line_is : line (decimal place) (bytes_word spelled ∷ name ∷ []) ≡ line (decimal place) (bytes_word next.front ∷ operation_name op ∷ [])
-    line_is = ap₂ (λ (xs n : List ℕ). line (decimal place) (bytes_word xs ∷ n ∷ [])) e f
+  module _ (op : Operation) (rest : Text) (read : operation_at encoding 64 left ≡ Ok (op, rest.bytes)) (order : rest.is_big ≡ left.is_big)
+      (spelled name : List ℕ) (e : spelled ≡ take (length whole.bytes - length rest.bytes - place) (drop place whole.bytes)) (f : name ≡ operation_name op) where
+    abbrev pub first : List ℕ
+    first = line (decimal place) (bytes_word spelled ∷ name ∷ [])
 
-    pub line_refused : {E F : Type 0} (r : Result ℕ E) → AppendsFront b c (line (decimal place) (bytes_word spelled ∷ name ∷ [])) → IsErr r × F
-        → (ending : Ending) × ListsOperations whole 0 bytes ending × WritesEnding a c ending r
+    next : Begins (Spells (context_of encoding 64 left.is_big)) left.bytes op rest.bytes
+    next = operation_begins encoding 64 left op rest.bytes read
+
+    after_front : length whole.bytes - length rest.bytes ≡ place + length next.front
+    after_front = omega (arith, before.suffix.no_longer, ap length next.whole, length-append next.front rest.bytes)
+
+    is_spelled : spelled ≡ next.front
+    is_spelled =
+        let size : length whole.bytes - length rest.bytes - place ≡ length next.front = omega (arith, after_front) in
+        e ∙ ap (λ (n : ℕ). take n (drop place whole.bytes)) size ∙ ap (take (length next.front)) (before.suffix.same ∙ sym next.whole)
+        ∙ take-append_seam next.front rest.bytes
+
+    lists_next : (more : Ending) → Lists encoding rest (length whole.bytes - length rest.bytes) more
+        → Lists encoding left place (record more { text = first ++ more.text })
+    lists_next more lists =
+        let after = subst (λ (n : ℕ). ListsOperations (context_of encoding 64 left.is_big) n rest.bytes more) after_front
+        (subst (λ (big : Bool). ListsOperations (context_of encoding 64 big) (length whole.bytes - length rest.bytes) rest.bytes more) order lists) in
+        subst (λ (xs : List ℕ). ListsOperations (context_of encoding 64 left.is_big) place xs (record more { text = first ++ more.text })) next.whole (
+          op ∷ after.0,
+          after.1,
+          goes_on next.front rest.bytes op after.0 after.1 next.spells after.2,
+          ap₂ (λ (words : List (List ℕ)) (z : Ending). record z { text = line (decimal place) words ++ z.text })
+              (ap₂ (λ (xs n : List ℕ). bytes_word xs ∷ n ∷ []) is_spelled f) after.3,
+        )
+
+    -- a write of the line was refused
+    pub line_refused : {E F : Type 0} (r : Result ℕ E) → AppendsFront b c first → IsErr r × F
+        → (ending : Ending) × Lists encoding whole 0 ending × WritesEnding a c ending r
     line_refused r front refused =
-        let after = lists_some here (place + length next.front) rest in
-        rest_refused _ (line (decimal place) (bytes_word spelled ∷ name ∷ [])) after.0.text r (lists_next here place left rest op after.0 next after.1)
-        (ap (λ (z : List ℕ). z ++ after.0.text) (sym line_is)) front refused
+        let rests = (splits_once encoding 64 rest.is_big rest.bytes).some in
+        let after = listing (length whole.bytes - length rest.bytes) rests.1.1 in
+        all_listed (record after { text = first ++ after.text }) r (lists_next after (rests.0, rests.1.0, rests.1.1, refl))
+        (ends_refused (record after { text = first ++ after.text }) first after.text r (begun b (first ++ after.text)) refl front refused)
 
-    pub one_listed : (there : Context) (end : ℕ) → there ≡ here → end ≡ place + length next.front
-        → Appends b c (line (decimal place) (bytes_word spelled ∷ name ∷ []))
-        → Listed whole there bytes end rest a c
-    one_listed there end same at k =
-        let first = line (decimal place) (bytes_word next.front ∷ operation_name op ∷ []) in
-        record {
-          printed = before.printed ++ first;
-          lists = λ more h.
-              subst (λ (z : List ℕ). ListsOperations whole 0 bytes (record more { text = z })) (sym (append_assoc before.printed first more.text))
-              (before.lists (record more { text = first ++ more.text }) (lists_next here place left rest op more next
-              (subst (λ (n : ℕ). ListsOperations here n rest more) at (subst (λ (z : Context). ListsOperations z end rest more) same h))));
-          written = appends_both a b c before.printed first (before.printed ++ first) refl before.written
-              (subst (λ (z : List ℕ). Appends b c z) line_is k);
-        }
+    pub one_listed : IsSuffix rest.bytes left.bytes → Appends b c first → Listed encoding whole rest a c
+    one_listed suffix k = record {
+      printed = before.printed ++ first;
+      lists = λ more h. subst (λ (z : List ℕ). Lists encoding whole 0 (record more { text = z })) (sym (append_assoc before.printed first more.text))
+          (before.lists (record more { text = first ++ more.text }) (lists_next more h));
+      written = Appends-trans a b c before.printed first before.written k;
+      suffix = suffix_trans rest.bytes left.bytes whole.bytes suffix before.suffix;
+    }

@@ -1,24 +1,24 @@
 -- What the program's words and the lines of its input say, next to what std's calls answer for them.
-use Rattle.std.proofs.Common.{◌≡◌, ◌≢◌, ℕ, ◌^◌, ◌<◌, ◌≤◌, ◌==◌, Bool, true, false, ◌&&◌, List, [], ◌∷◌, drop, get_or, Some, None, Result, Ok, Err, OkIff, option_map, option_and_then, nat_lt, refl, sym, ◌∙◌, ap, arith, ltb-true, lt-ltb, le-ltb, lit≤, codes, ◌-◌, ℤ, pos, negsuc, neg_ℤ, FitsSigned, slice_index, w8, w16, w32, w64, if◌then◌else◌, ◌%◌, length, map, IsSome, zero, suc, ◌+◌, ◌++◌, length-append, append_assoc, append-nil, eqb-true}
+use Rattle.std.proofs.Common.{◌≡◌, ◌≢◌, ℕ, ◌^◌, ◌<◌, ◌≤◌, ◌==◌, Bool, true, false, List, [], ◌∷◌, drop, get_or, Option, Some, None, Result, Ok, Err, OkIff, Decides, option_map, option_and_then, nat_lt, refl, sym, ◌∙◌, ap, arith, ltb-true, lt-ltb, le-ltb, lit≤, codes, ◌-◌, ℤ, pos, negsuc, neg_ℤ, FitsSigned, slice_index, w8, w16, w32, w64, if◌then◌else◌, ◌%◌, length, map, IsSome, zero, suc, ◌+◌, ◌++◌, length-append, append_assoc, append-nil, eqb-true}
 use Rattle.std.specs.Result.{result_ok}
 use Rattle.std.specs.Char.{digit_value, is_digit}
-use Rattle.std.specs.List.{list_all, AllPass, after_first, before_first, position_or_len}
+use Rattle.std.specs.List.{list_all, AllPass}
 use Rattle.std.specs.Str.Parse.{AllDigits, IsNumeral, digits_value, ParsesUnsigned, ParsesSigned}
 use Rattle.std.proofs.lemmas.Str.Parse.{without_leading_plus_none}
 use Rattle.std.specs.Str.Pattern.{FindsTextPrefix}
+use Rattle.std.proofs.lemmas.Bool.Decides.{Decides-and, Decides-ltb}
 use Rattle.std.proofs.lemmas.Str.Pattern.{starts_text}
 use Rattle.std.specs.Int.{FitsUnsignedBits}
 use mir.Syntax.{Width}
 use mir.Val.{hbits}
 use lib.Signed.{mag}
-use Rattle.dwexpr.specs.StepLines.{numeral_in, below, within, number_in, integer_in, first_line, lines_within, named_step_in, said_then, step_in, text_step_in}
+use Rattle.dwexpr.specs.StepLines.{numeral_in, below, within, number_in, integer_in, first_line, lines_within, said_then, step_in, steps_in}
 use Rattle.hex.specs.Hex.{decode_of, is_hex_digit}
 use Rattle.hex.specs.declared.error.FromHexError.{FromHexError}
 use Rattle.hex.proofs.HexLemmas.{decode_of-digits, decode_of-ok}
 use Rattle.dwexpr.specs.Words.{bytes_in, invocation_in}
 use Rattle.std.specs.Str.{IsUtf8, is_utf8}
-use Rattle.std.proofs.lemmas.Str.{IsUtf8-from_is_utf8, is_utf8-from_IsUtf8}
-use Rattle.std.specs.Prelude.{bytes_eq}
+use Rattle.std.proofs.lemmas.Str.{IsUtf8-from_is_utf8}
 use Rattle.dwarf_meaning.specs.Steps.{Step}
 
 -- ---- numbers
@@ -26,45 +26,34 @@ use Rattle.dwarf_meaning.specs.Steps.{Step}
 abbrev all_digits : (base : ℕ) → List ℕ → Bool
 all_digits base word = list_all (λ byte. is_digit byte base) word
 
-and-true : (a b : Bool) → (a && b) ≡ true → (a ≡ true) × (b ≡ true)
-and-true true true h = (refl, refl)
-and-true true false h = cc h
-and-true false b h = cc h
+decides_digits : (base : ℕ) (word : List ℕ) → Decides (all_digits base word) (AllDigits base word)
+decides_digits base [] = (λ _. tt, λ _. refl)
+decides_digits base (digit ∷ digits) = Decides-and _ _ (Decides-ltb (digit_value digit) base) (decides_digits base digits)
 
-pub AllDigits-from : (base : ℕ) (word : List ℕ) → all_digits base word ≡ true → AllDigits base word
-AllDigits-from base [] h = tt
-AllDigits-from base (digit ∷ digits) h =
-    let parts = and-true (nat_lt (digit_value digit) base) (all_digits base digits) h in
-    (ltb-true _ _ parts.0, AllDigits-from base digits parts.1)
+-- what is read, by a test that decides whether anything is
+by_test : {A E P : Type 0} (r : Result A E) (v : A) (test : Bool) → OkIff r P v → Decides test P
+    → result_ok r ≡ (if test then Some v else None)
+by_test (Ok x) v true h d = ap Some h.1
+by_test (Ok x) v false h d = cc (d.1 h.0)
+by_test (Err x) v true h d = absurd (h (d.0 refl))
+by_test (Err x) v false h d = refl
 
-pub all_digits-from : (base : ℕ) (word : List ℕ) → AllDigits base word → all_digits base word ≡ true
-all_digits-from base [] h = refl
-all_digits-from base (digit ∷ digits) h =
-    let first : nat_lt (digit_value digit) base ≡ true = lt-ltb _ _ h.0 in
-    let more = all_digits-from base digits h.1 in
-    rw (first, more) refl
+-- the same by two tests, of which the second is of the number that is read
+by_both : {A E P Q : Type 0} (r : Result A E) (v : A) (f : ℕ → Option A) (n : ℕ) (all small : Bool) → OkIff r (P × Q) v
+    → Decides all P → Decides small Q → f n ≡ (if small then Some v else None)
+    → result_ok r ≡ option_and_then f (if all then Some n else None)
+by_both r v f n true small h d k e = by_test r v small h (Decides-and true small d k) ∙ sym e
+by_both r v f n false small h d k e = by_test r v false h (Decides-and false small d k)
 
--- what a numeral of 64 bits says
-value_by : (base digit : ℕ) (digits : List ℕ) (all small : Bool)
-    → all_digits base (digit ∷ digits) ≡ all → nat_lt (digits_value base (digit ∷ digits)) (2 ^ 64) ≡ small
-    → {E : Type 0} (r : Result ℕ E)
-    → OkIff r (IsNumeral base (digit ∷ digits) × (digits_value base (digit ∷ digits) < 2 ^ 64))
-    (digits_value base (digit ∷ digits))
-    → result_ok r ≡ option_and_then (below 64) (numeral_in base (digit ∷ digits))
-value_by base digit digits all small f g (Ok n) h =
-    rw (all_digits-from base (digit ∷ digits) h.0.0.1, lt-ltb _ _ h.0.1, h.1) refl
-value_by base digit digits false small f g (Err x) h = rw f refl
-value_by base digit digits true false f g (Err x) h = rw (f, g) refl
-value_by base digit digits true true f g (Err x) h =
-    absurd (h ((omega arith, AllDigits-from base (digit ∷ digits) f), ltb-true _ _ g))
-
-pub numeral_parsed : {E : Type 0} (base : ℕ) (word : List ℕ) (r : Result ℕ E)
-    → OkIff r (IsNumeral base word × (digits_value base word < 2 ^ 64)) (digits_value base word)
-    → result_ok r ≡ option_and_then (below 64) (numeral_in base word)
-numeral_parsed base [] (Ok n) h = absurd (omega (arith, h.0.0.0))
-numeral_parsed base [] (Err x) h = refl
-numeral_parsed base (digit ∷ digits) r h =
-    value_by base digit digits (all_digits base (digit ∷ digits)) (nat_lt (digits_value base (digit ∷ digits)) (2 ^ 64)) refl refl r h
+numeral_by : {A E Q : Type 0} (base : ℕ) (word : List ℕ) (r : Result A E) (v : A) (f : ℕ → Option A) (small : Bool)
+    → OkIff r (IsNumeral base word × Q) v → Decides small Q → f (digits_value base word) ≡ (if small then Some v else None)
+    → result_ok r ≡ option_and_then f (numeral_in base word)
+numeral_by base [] (Ok x) v f small h k e = absurd (omega (arith, h.0.0.0))
+numeral_by base [] (Err x) v f small h k e = refl
+numeral_by base (digit ∷ digits) r v f small h k e =
+    let word = digit ∷ digits in
+    by_both r v f (digits_value base word) (all_digits base word) small h
+    (λ all. (omega arith, (decides_digits base word).0 all), λ numeral. (decides_digits base word).1 numeral.1) k e
 
 -- no digits begin with a plus sign
 pub numeral_in-plus : (base : ℕ) (word : List ℕ) → base ≤ 36 → get_or word 0 0 ≡ 43 → numeral_in base word ≡ None
@@ -77,7 +66,10 @@ numeral_in-plus base (digit ∷ digits) small plus =
 pub unsigned_parsed : {E : Type 0} (base : ℕ) (word : List ℕ) (r : Result ℕ E) → ParsesUnsigned 64 base word r
     → get_or word 0 0 ≢ 43
     → result_ok r ≡ option_and_then (below 64) (numeral_in base word)
-unsigned_parsed base word r h unsigned = numeral_parsed base word r (rw (without_leading_plus_none word unsigned) at h)
+unsigned_parsed base word r h unsigned =
+    let value = digits_value base word in
+    numeral_by base word r value (below 64) (nat_lt value (2 ^ 64)) (rw (without_leading_plus_none word unsigned) at h)
+    (Decides-ltb value (2 ^ 64)) refl
 
 -- ---- after `0x`, or not
 
@@ -100,25 +92,13 @@ within-mag : (bits : ℕ) (z : ℤ) → within bits z ≡ (if nat_lt (mag z) (2 
 within-mag bits (pos n) = refl
 within-mag bits (negsuc n) = refl
 
-within-some : (w : Width) (bits : ℕ) → hbits w ≡ bits - 1 → (z : ℤ) → FitsSigned w z → within bits z ≡ Some z
-within-some w bits e z fits =
-    let small : mag z < 2 ^ (bits - 1) = rw (← e) fits.sfits in
-    within-mag bits z ∙ rw (lt-ltb (mag z) (2 ^ (bits - 1)) small) refl
-
-within-none : (w : Width) (bits : ℕ) → hbits w ≡ bits - 1 → (z : ℤ) → (FitsSigned w z → ⊥) → within bits z ≡ None
-within-none w bits e z outside =
-    within-mag bits z
-    ∙ elim (nat_lt (mag z) (2 ^ (bits - 1))) as
-    (λ b. nat_lt (mag z) (2 ^ (bits - 1)) ≡ b → (if b then Some z else None) ≡ None) [
-      | true ↦ λ small. absurd (outside (record { sfits = rw e (ltb-true _ _ small) }))
-      | false ↦ λ _. refl
-    ] refl
+decides_fit : (w : Width) (bits : ℕ) → hbits w ≡ bits - 1 → (z : ℤ) → Decides (nat_lt (mag z) (2 ^ (bits - 1))) (FitsSigned w z)
+decides_fit w bits e z = (λ small. record { sfits = rw e (ltb-true _ _ small) }, λ fits. lt-ltb _ _ (rw (← e) fits.sfits))
 
 narrowed_signed : {E : Type 0} (w : Width) (bits : ℕ) → hbits w ≡ bits - 1 → (z : ℤ) (r : Result ℤ E)
     → OkIff r (FitsSigned w z) z
     → result_ok r ≡ within bits z
-narrowed_signed w bits e z (Ok x) h = ap Some h.1 ∙ sym (within-some w bits e z h.0)
-narrowed_signed w bits e z (Err x) h = sym (within-none w bits e z h)
+narrowed_signed w bits e z r h = by_test r z (nat_lt (mag z) (2 ^ (bits - 1))) h (decides_fit w bits e z) ∙ sym (within-mag bits z)
 
 pub narrowed_to_i8 : {E : Type 0} (z : ℤ) (r : Result ℤ E) → OkIff r (FitsSigned w8 z) z → result_ok r ≡ within 8 z
 narrowed_to_i8 z r h = narrowed_signed w8 8 refl z r h
@@ -132,42 +112,28 @@ narrowed_to_i32 z r h = narrowed_signed w32 32 refl z r h
 -- a conversion to an unsigned type of this many bits
 pub narrowed_unsigned : {E : Type 0} (bits n : ℕ) (r : Result ℕ E) → OkIff r (FitsUnsignedBits bits (pos n)) n
     → result_ok r ≡ below bits n
-narrowed_unsigned bits n (Ok x) h = ap Some h.1 ∙ sym (rw (lt-ltb n (2 ^ bits) h.0) refl)
-narrowed_unsigned bits n (Err x) h =
-    elim (nat_lt n (2 ^ bits)) as (λ b. nat_lt n (2 ^ bits) ≡ b → None ≡ (if b then Some n else None)) [
-      | true ↦ λ small. absurd (h (ltb-true _ _ small))
-      | false ↦ λ _. refl
-    ] refl
+narrowed_unsigned bits n r h = by_test r n (nat_lt n (2 ^ bits)) h (Decides-ltb n (2 ^ bits))
 
-integer_by : (sign : ℕ → ℤ) (digit : ℕ) (digits : List ℕ) (all : Bool) → all_digits 10 (digit ∷ digits) ≡ all
-    → {E : Type 0} (r : Result ℤ E)
-    → OkIff r (IsNumeral 10 (digit ∷ digits) × FitsSigned w64 (sign (digits_value 10 (digit ∷ digits))))
-    (sign (digits_value 10 (digit ∷ digits)))
-    → result_ok r ≡ option_and_then (within 64) (option_map sign (numeral_in 10 (digit ∷ digits)))
-integer_by sign digit digits all f (Ok n) h =
-    rw (all_digits-from 10 (digit ∷ digits) h.0.0.1) (ap Some h.1 ∙ sym (within-some w64 64 refl _ h.0.1))
-integer_by sign digit digits false f (Err x) h = rw f refl
-integer_by sign digit digits true f (Err x) h =
-    rw f (sym (within-none w64 64 refl _ (λ fits. h ((omega arith, AllDigits-from 10 (digit ∷ digits) f), fits))))
+and_then_map : (sign : ℕ → ℤ) (said : Option ℕ)
+    → option_and_then (λ n. within 64 (sign n)) said ≡ option_and_then (within 64) (option_map sign said)
+and_then_map sign None = refl
+and_then_map sign (Some n) = refl
 
 integer_signed : (sign : ℕ → ℤ) (word : List ℕ) → {E : Type 0} (r : Result ℤ E)
     → OkIff r (IsNumeral 10 word × FitsSigned w64 (sign (digits_value 10 word))) (sign (digits_value 10 word))
     → result_ok r ≡ option_and_then (within 64) (option_map sign (numeral_in 10 word))
-integer_signed sign [] (Ok n) h = absurd (omega (arith, h.0.0.0))
-integer_signed sign [] (Err x) h = refl
-integer_signed sign (digit ∷ digits) r h = integer_by sign digit digits (all_digits 10 (digit ∷ digits)) refl r h
+integer_signed sign word r h =
+    let value = sign (digits_value 10 word) in
+    numeral_by 10 word r value (λ n. within 64 (sign n)) (nat_lt (mag value) (2 ^ 63)) h (decides_fit w64 64 refl value) (within-mag 64 value)
+    ∙ and_then_map sign (numeral_in 10 word)
 
-integer_at : (minus : Bool) (word : List ℕ) → (slice_index word 0 == 45) ≡ minus → {E : Type 0} (r : Result ℤ E)
+-- `parse` of a word that begins with no plus sign, by whether it begins with a minus sign
+pub integer_parsed : (minus : Bool) (word : List ℕ) → (slice_index word 0 == 45) ≡ minus → {E : Type 0} (r : Result ℤ E)
     → ParsesSigned w64 10 word r
     → get_or word 0 0 ≢ 43 → result_ok r ≡ integer_in word
-integer_at true word e r h unsigned = rw e (integer_signed (λ n. neg_ℤ (pos n)) (drop 1 word) r (rw e at h))
-integer_at false word e r h unsigned =
+integer_parsed true word e r h unsigned = rw e (integer_signed (λ n. neg_ℤ (pos n)) (drop 1 word) r (rw e at h))
+integer_parsed false word e r h unsigned =
     rw e (integer_signed pos word r (rw (e, without_leading_plus_none word unsigned) at h))
-
--- `parse` of a word that begins with no plus sign
-pub integer_parsed : {E : Type 0} (word : List ℕ) (r : Result ℤ E) → ParsesSigned w64 10 word r
-    → get_or word 0 0 ≢ 43 → result_ok r ≡ integer_in word
-integer_parsed word r h unsigned = integer_at (slice_index word 0 == 45) word refl r h unsigned
 
 -- a word that begins with a plus sign is no integer
 pub integer_in-plus : (word : List ℕ) → get_or word 0 0 ≡ 43 → integer_in word ≡ None
@@ -216,24 +182,11 @@ pub not_six : {X : Type 0} (view : X → List ℕ) (words : List X) → (length 
 not_six view (u ∷ v ∷ w ∷ x ∷ y ∷ z ∷ []) other = absurd (other refl)
 not_six view _ other = refl
 
--- ---- a line
-
-pub step_of_text : (big : Bool) (line : List ℕ) → IsUtf8 line → step_in big line ≡ text_step_in big line
-step_of_text big line utf8 = rw (is_utf8-from_IsUtf8 line utf8) refl
-
-empty_log : (line : List ℕ) (said : Bool) → is_utf8 line ≡ said → (IsUtf8 line → ⊥) → is_utf8 line ≡ false
-empty_log line true e no_text = absurd (no_text (IsUtf8-from_is_utf8 line e))
-empty_log line false e no_text = e
-
-pub step_of_bytes : (big : Bool) (line : List ℕ) → (IsUtf8 line → ⊥) → step_in big line ≡ None
-step_of_bytes big line no_text = rw (empty_log line (is_utf8 line) refl no_text) refl
-
-pub text_parted : (big : Bool) (text name word : List ℕ) → bytes_eq text (codes "evaluate") ≡ false
-    → (position_or_len (λ b. b == 32) text < length text) × (name ≡ before_first (λ b. b == 32) text) × (word ≡ after_first (λ b. b == 32) text)
-    → text_step_in big text ≡ named_step_in big name word
-text_parted big text name word other cut = rw (other, lt-ltb _ _ cut.0, cut.1, cut.2) refl
-
 -- ---- lines
+
+pub is_no_text : (line : List ℕ) (text : Bool) → is_utf8 line ≡ text → (IsUtf8 line → ⊥) → text ≡ false
+is_no_text line true e no_text = absurd (no_text (IsUtf8-from_is_utf8 line e))
+is_no_text line false e no_text = refl
 
 -- what steps and then lines say
 abbrev pub said_after : List Step → Result (List Step) ℕ → Result (List Step) ℕ
@@ -249,24 +202,19 @@ said_more steps step (Err number) =
 pub said_last : (steps : List Step) → said_after steps (Ok []) ≡ Ok steps
 said_last steps = ap Ok (append-nil steps)
 
-pub said_bad : (steps : List Step) (more : Result (List Step) ℕ) → said_after steps (said_then None more) ≡ Err (length steps + 1)
-said_bad steps more = refl
+-- lines of which the first ones say these steps, and the next one
+pub said_next : (big : Bool) (said : Result (List Step) ℕ) (steps : List Step) (most : ℕ) (left text rest : List ℕ)
+    → said ≡ said_after steps (steps_in big (lines_within most left))
+    → false ≡ (length left == 0) → length left ≤ most → (text, rest) ≡ first_line left
+    → (fewer : ℕ) × (length rest < length left → length rest ≤ fewer)
+    × (said ≡ said_after steps (said_then (step_in big text) (steps_in big (lines_within fewer rest))))
+said_next big said steps most [] text rest so_far some enough e = cc some
+said_next big said steps zero (byte ∷ left) text rest so_far some enough e = absurd (omega (arith, enough))
+said_next big said steps (suc most) (byte ∷ left) text rest so_far some enough e =
+    let said_by = λ (z : List ℕ × List ℕ). said_after steps (said_then (step_in big z.0) (steps_in big (lines_within most z.1))) in
+    (most, (λ less. omega (arith, less, enough)), so_far ∙ ap said_by (sym e))
 
-pub next_line : (most : ℕ) (left text rest : List ℕ) → 0 < length left → length left ≤ most → (text, rest) ≡ first_line left
-    → (fewer : ℕ) × (length rest < length left → length rest ≤ fewer) × (lines_within most left ≡ text ∷ lines_within fewer rest)
-next_line most [] text rest some enough e = absurd (omega (arith, some))
-next_line zero (byte ∷ left) text rest some enough e = absurd (omega (arith, enough))
-next_line (suc most) (byte ∷ left) text rest some enough e =
-    (most, (λ less. omega (arith, less, enough)), ap (λ (z : List ℕ × List ℕ). z.0 ∷ lines_within most z.1) (sym e))
-
-pub no_lines : (most : ℕ) (left : List ℕ) → length left ≡ 0 → lines_within most left ≡ []
+pub no_lines : (most : ℕ) (left : List ℕ) → true ≡ (length left == 0) → lines_within most left ≡ []
 no_lines zero left e = refl
 no_lines (suc most) [] e = refl
-no_lines (suc most) (byte ∷ left) e = absurd (omega (arith, e))
-
-pub some_left : (left : List ℕ) → false ≡ (length left == 0) → 0 < length left
-some_left [] e = cc e
-some_left (byte ∷ left) e = omega arith
-
-pub none_left : (left : List ℕ) → true ≡ (length left == 0) → length left ≡ 0
-none_left left e = eqb-true _ _ (sym e)
+no_lines (suc most) (byte ∷ left) e = absurd (omega (arith, eqb-true _ _ (sym e)))

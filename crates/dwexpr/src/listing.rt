@@ -13,7 +13,7 @@ use crate::lines::print_fault_at;
 use crate::words::Reading;
 use crate::writing::{Word, put_numbered_line};
 use dwarf_base::{EndianSlice, Reader};
-use dwarf_eval::op::{Expression, Operation};
+use dwarf_eval::op::Operation;
 use std::io;
 use std::io::Write;
 
@@ -90,23 +90,21 @@ pub(crate) fn print_operations<W: Write>(
         × ListsOperations (context_of reading.encoding 64 (is_big_of reading.order)) 0 bytes.now ending
         × WritesEnding (W.contents output.old) (W.contents output.new) ending result }
 {
-    let expression = Expression(EndianSlice::new(bytes, reading.order));
-    let mut operations = expression.operations(reading.encoding);
-    let mut place = 0;
-    loop {
-        match operations.next() {
-            Ok(Some(operation)) => {
-                let end = operations.offset_from(&expression);
+    let mut left = EndianSlice::new(bytes, reading.order);
+    while !left.is_empty() {
+        let place = bytes.len() - left.len();
+        match Operation::parse(&mut left, reading.encoding) {
+            Ok(operation) => {
+                let end = bytes.len() - left.len();
                 let spelling = EndianSlice::new(&bytes[place..end], reading.order);
                 let words = [Word::Bytes(spelling), Word::Name(name_of(operation))];
                 put_numbered_line(output, place as u64, &words)?;
-                place = end;
             }
-            Ok(None) => return Ok(DONE),
             Err(error) => {
                 print_fault_at(output, place as u64, error)?;
                 return Ok(FAILED);
             }
         }
     }
+    Ok(DONE)
 }

@@ -9,7 +9,7 @@ ghost use Rattle.dwarf_op.specs.Views.{piece_of};
 ghost use Rattle.dwarf_replay.specs.Replays.{replies_in, steps_of};
 ghost use Rattle.dwarf_meaning.specs.Steps.{empty_log};
 ghost use Rattle.dwarf_meaning.specs.Stores.{setup_of};
-ghost use Rattle.dwexpr.specs.Evaluates.{EvaluatesSteps, EvaluatesLines, after_replies};
+ghost use Rattle.dwexpr.specs.Evaluates.{EvaluatesSteps, EvaluatesLines};
 ghost use Rattle.dwexpr.specs.inner.Readings.{bad_steps};
 ghost use Rattle.dwexpr.specs.Lines.{piece_lines, reply_lines};
 ghost use Rattle.dwexpr.specs.Program.{EndsFor, EvaluatesInput, Exits};
@@ -123,23 +123,6 @@ fn print_end<A: Allocator + Copy, W: Output>(
     }
 }
 
-/// Prints the answers, and what stands after them.
-fn print_replay<A: Allocator + Copy, W: Output>(
-    output: &mut W,
-    answers: &[Answer<Bytes<'_>>],
-    evaluation: &Evaluation<Bytes<'_>, StoreOnHeap<A>>,
-    replayed: Replayed<Bytes<'_>>,
-    lines: &[u8],
-) -> io::Result<u8>
-    requires { HasLine replayed }
-    ensures { WritesEnding (W.contents output.old) (W.contents output.new)
-        (after_replies (replies_in slice_text (λ x. x) answers.now)
-        (ending_of evaluation.now replayed.entry)) result }
-{
-    print_replies(output, answers)?;
-    print_end(output, evaluation, replayed, lines)
-}
-
 /// Does the steps on the bytes, and prints each answer and what comes out. The lines are those of the steps.
 fn evaluate<'a, A: Allocator + Copy, W: Output>(
     alloc: A,
@@ -166,7 +149,8 @@ fn evaluate<'a, A: Allocator + Copy, W: Output>(
     );
     let mut answers = Vec::new(alloc);
     let replayed = replay(&mut evaluation, steps, &mut answers);
-    print_replay(output, answers.as_slice(), &evaluation, replayed, lines)
+    print_replies(output, answers.as_slice())?;
+    print_end(output, &evaluation, replayed, lines)
 }
 
 /// Prints why the lines give no steps, and tells which line is bad.

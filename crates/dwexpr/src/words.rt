@@ -166,26 +166,7 @@ pub(crate) struct Invocation<A: Allocator> {
     pub(crate) bytes: Vec<u8, A>,
 }
 
-/// What six words ask for. Memory is taken for their bytes alone, if all words are good.
-fn invocation_of_six<A: Allocator>(
-    alloc: A,
-    words: Words<'_>,
-) -> Result<Invocation<A>, ReadFault<BadWords<'_>>>
-    ensures exact { Reads asked_by (invocation_in (texts_of words.entry)) result }
-    ensures sizes { IfOk result (λ asked.
-        (0 < asked.reading.encoding.address_size) × (asked.reading.encoding.address_size ≤ 8)) }
-{
-    let command = command_of(words.command)?;
-    let reading = reading_of(words)?;
-    let bytes = bytes_or(alloc, words.bytes, BadWords::Bytes(words.bytes))?;
-    Ok(Invocation {
-        command,
-        reading,
-        bytes,
-    })
-}
-
-/// What the words ask for.
+/// What the words ask for. Memory is taken for their bytes alone, if all words are good.
 pub(crate) fn invocation_of<A: Allocator>(
     alloc: A,
     words: &[String<A>],
@@ -194,5 +175,13 @@ pub(crate) fn invocation_of<A: Allocator>(
     ensures sizes { IfOk result (λ asked.
         (0 < asked.reading.encoding.address_size) × (asked.reading.encoding.address_size ≤ 8)) }
 {
-    invocation_of_six(alloc, six_words(words)?)
+    let words = six_words(words)?;
+    let command = command_of(words.command)?;
+    let reading = reading_of(words)?;
+    let bytes = bytes_or(alloc, words.bytes, BadWords::Bytes(words.bytes))?;
+    Ok(Invocation {
+        command,
+        reading,
+        bytes,
+    })
 }

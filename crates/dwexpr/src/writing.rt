@@ -134,15 +134,9 @@ fn put_bytes<W: Write>(output: &mut W, bytes: Bytes<'_>) -> io::Result<()>
     if bytes.is_empty() {
         return put_text(output, "-");
     }
-    let mut left = bytes;
-    while !left.is_empty() {
-        let Ok(byte) = left.read_u8() else {
-            return Ok(());
-        };
-        put(
-            output,
-            &[digit(u64::from(byte / 16)), digit(u64::from(byte % 16))],
-        )?;
+    for byte in bytes.slice() {
+        let (high, low) = (u64::from(byte / 16), u64::from(byte % 16));
+        put(output, &[digit(high), digit(low)])?;
     }
     Ok(())
 }

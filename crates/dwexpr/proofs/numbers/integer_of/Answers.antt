@@ -1,4 +1,4 @@
-use Rattle.std.proofs.Common.{sym, ◌∙◌, lit<}
+use Rattle.std.proofs.Common.{refl, sym, ◌∙◌, lit<}
 use Rattle.std.proofs.lemmas.Str.Pattern.{starts_char}
 use Rattle.dwexpr.proofs.Reading.{integer_parsed, integer_in-plus}
 use Rattle.dwexpr.proofs.numbers.integer_of.Goals as goal
@@ -12,5 +12,5 @@ returns-then-starts_with c =
 pub returns : goal.returns
 returns c =
     let decides = starts_char 43 c.args.word.now _ c.starts_with.ensures.cases (lit< tt) (lit< tt) in
-    c.ok.ensures.value ∙ integer_parsed c.args.word.now _ c.parse.ensures.value.0
+    c.ok.ensures.value ∙ integer_parsed _ c.args.word.now refl _ c.parse.ensures.value.0
     (λ plus. cc (sym (decides.1 plus) ∙ c.if-starts_with.false))

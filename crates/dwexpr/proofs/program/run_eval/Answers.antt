@@ -1,10 +1,10 @@
 use Rattle.std.proofs.Common.{refl, inl, inr}
 use Rattle.dwexpr.specs.Endings.{no_memory, no_input}
-use Rattle.dwexpr.proofs.Printing.{appends_nothing}
+use Rattle.std.proofs.KnownBytes.{Appends-nil}
 use Rattle.dwexpr.proofs.program.run_eval.Goals as goal
 
 pub returns-in-OutOfMemory : goal.returns-in-OutOfMemory
 returns-in-OutOfMemory g c = (no_memory, inr (inr refl), c.no_memory.ensures)
 
 pub returns : goal.returns
-returns g c = rw c.complain.ensures (no_input, inr (inl refl), (appends_nothing _, refl))
+returns g c = rw c.complain.ensures (no_input, inr (inl refl), (Appends-nil _, refl))

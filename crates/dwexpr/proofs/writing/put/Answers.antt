@@ -1,5 +1,6 @@
-use Rattle.std.proofs.Common.{ap}
-use Rattle.dwexpr.proofs.Printing.{appends_kept, begun, taken_front}
+use Rattle.std.proofs.Common.{◌∙◌, ◌++◌, ◌-◌, ap, arith, drop, length, length-drop, sym, take, take-append-drop, take_all}
+use Rattle.std.proofs.KnownBytes.{Appends-kept}
+use Rattle.dwexpr.proofs.Printing.{begun, more_of}
 use Rattle.dwexpr.proofs.writing.put.Goals as goal
 use Rattle.dwexpr.proofs.writing.put.Goals.{in-Ok, in-Err+else-ne}
 
@@ -9,10 +10,14 @@ loop-init g c = begun (g.W.Write.contents c.args.output.now) c.args.bytes.now
 pub loop-preserved : goal.loop-preserved
 loop-preserved g c = elim c.match-write.branch [
   | in-Ok w ↦
-      taken_front _ _ _ _ c.loop.left.now c.match-write.left.now w.in-Ok.taken c.loop.invariant (ap (λ s. s.now) w.left-is) w.in-Ok.ensures.bytes
+      let left = c.loop.left.now in
+      let taken = w.in-Ok.taken in
+      let rest = ap (λ s. s.now) w.left-is ∙ take_all (length left - taken) (drop taken left) (omega (arith, length-drop taken left)) in
+      more_of (take taken left) c.match-write.left.now c.loop.invariant (sym (take-append-drop taken left) ∙ ap (λ z. take taken left ++ z) (sym rest))
+      w.in-Ok.ensures.bytes
   | in-Err+else-ne w ↦ let before = c.loop.invariant in record {
     done = before.done;
     whole = rw w.left-is before.whole;
-    written = appends_kept _ _ _ before.done before.written w.in-Err.ensures.bytes;
+    written = Appends-kept _ _ _ before.done before.written w.in-Err.ensures.bytes;
   }
 ]

@@ -1,15 +1,11 @@
-use Rattle.std.proofs.Common.{decimal, map}
+use Rattle.std.proofs.Common.{decimal, map, refl}
 use Rattle.dwexpr.specs.Writing.{ending}
 use Rattle.dwexpr.specs.inner.Outputs.{word_text}
 use Rattle.dwexpr.proofs.Printing.{begun, last_of, more_of, refused_in}
 use Rattle.dwexpr.proofs.writing.put_numbered_line.Goals as goal
 
 pub returns-in_err-put_digits : goal.returns-in_err-put_digits
-returns-in_err-put_digits g c =
-    refused_in _ _ _ _ (decimal c.args.first) (ending (map word_text c.args.words.now)) _ (begun _ _) c.in_err-put_digits.ensures
-    c.from_residual.ensures
+returns-in_err-put_digits g c = refused_in (decimal c.args.first) (ending (map word_text c.args.words.now)) _ (begun _ _) refl c.in_err-put_digits.ensures c.from_residual.ensures
 
 pub returns : goal.returns
-returns g c =
-    last_of _ _ _ _ (ending (map word_text c.args.words.now)) _
-    (more_of _ _ _ _ (decimal c.args.first) _ (begun _ _) c.in_ok-put_digits.ensures) c.put_ending.ensures
+returns g c = last_of _ _ (more_of (decimal c.args.first) (ending (map word_text c.args.words.now)) (begun _ _) refl c.in_ok-put_digits.ensures) refl c.put_ending.ensures

@@ -1,7 +1,7 @@
 """The rows of tests/rows/integers.json, operations on integers, and a table that gives their results and shares nothing
 with the code.
 
-An entry has the `size` of an address, operands `left` and `right`, and `operations`, each of which is done on each left
+An entry has the `size` of an address, operands `left` and `right`, and `results`: for each operation that of each left
 operand with each right one, in order. An operand is a value, and a mere number a generic one; on the right it is a type
 for a conversion, and an offset or a constant for a sum with one. A result is a value, a request or a fault.
 
@@ -183,15 +183,15 @@ def is_fault(result):
 
 def cases_of(entry):
     """The cases of an entry: the left operand, the operation, the right operand and the result."""
-    for left, right in itertools.product(entry["left"], entry["right"] or [""]):
-        for name in entry["operations"]:
-            yield left, name, right, result_of(name, entry["size"], left, right)
+    for place, (left, right) in enumerate(itertools.product(entry["left"], entry["right"] or [""])):
+        for name, results in entry["results"].items():
+            yield left, name, right, results[place]
 
 
 def rows_in(entries):
     """The rows of entries. One has all that complete on one pair of values, or on one value; one each fault."""
     for entry in entries:
-        on_two = any(name in BINARY or name[0] == "x" for name in entry["operations"])
+        on_two = any(name in BINARY or name[0] == "x" for name in entry["results"])
         for (left, right), cases in itertools.groupby(cases_of(entry), lambda case: (case[0], on_two and case[2])):
             done = [case[1:] for case in cases]
             complete = [case for case in done if not is_fault(case[-1])]
@@ -200,7 +200,14 @@ def rows_in(entries):
 
 
 def complaints_of(entries):
-    """The operations that aren't done at a size of 1 to 8."""
-    done = {(entry["size"], name) for entry in entries for name in entry["operations"]}
-    for size, name in sorted(set(itertools.product(range(1, 9), FORMS)) - done):
-        yield f"{size} bytes, {name}: there is no row"
+    """The results that the table doesn't give, and the operations that have none at a size of 1 to 8."""
+    missing = set(itertools.product(range(1, 9), FORMS))
+    for entry in entries:
+        size = entry["size"]
+        for left, name, right, result in cases_of(entry):
+            missing.discard((size, name))
+            given = result_of(name, size, left, right)
+            if given != result:
+                yield f"{size} bytes, {name}: {left}, {right}: it is {result}, and the table gives {given}"
+    for size, name in sorted(missing):
+        yield f"{size} bytes, {name}: there is no result"

@@ -18,8 +18,8 @@ keeps that.
 
 Each vector of tests/vectors/decode.json makes a row: `dwexpr ops` lists its operation by its name, or its fault.
 
-The entries of tests/rows/integers.json are in the form that tests/integers.py says. Each makes rows, whose results the
-table there gives. A row that a test of gimli's states has that test's name before a colon, and a vector of
+The entries of tests/rows/integers.json are in the form that tests/integers.py says. Each makes rows, and the table
+there has to give their results. A row that a test of gimli's states has that test's name before a colon, and a vector of
 tests/vectors has it as `gimli`. tests/gimli.json lists these tests: how many `rows` and vectors carry the cases of
 each, which function `elsewhere` carries how many, and how many are left out for which reason.
 
@@ -219,7 +219,7 @@ def main():
         # It looks after its memory, and so takes long.
         PROGRAM, SECONDS = UNPROVED_PROGRAM, BUILD_SECONDS
     entries = json.loads((ROWS / INTEGERS).read_text(encoding="utf-8"))
-    complaints = {"integers: all operations": list(integers.complaints_of(entries))}
+    complaints = {"integers: the table": list(integers.complaints_of(entries))}
     complaints["gimli's tests"] = list(gimli_complaints())
     by_script = []
     for name, row in rows():

@@ -295,8 +295,16 @@ fn set_and_evaluate<'a, S: EvaluationStorage<Placed<'a>>>(
     ensures { Runs texts.now (steps_in settings.now) evaluation.old evaluation.new result outcome.new }
 {
     set_maximum(evaluation, settings.max_iterations);
-    let objects = set_object(evaluation, settings.has_object_address, settings.object_address);
-    let values = set_initial(evaluation, settings.has_initial_value, settings.initial_value);
+    let objects = set_object(
+        evaluation,
+        settings.has_object_address,
+        settings.object_address,
+    );
+    let values = set_initial(
+        evaluation,
+        settings.has_initial_value,
+        settings.initial_value,
+    );
     show_reply(texts, evaluation.evaluate(), 1 + objects + values, outcome)
 }
 

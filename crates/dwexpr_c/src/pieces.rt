@@ -66,8 +66,9 @@ fn piece_of_kind(kind: u32, size_in_bits: Option<u64>, bit_offset: Option<u64>) 
 #[inline(never)]
 fn show_value(value: Value, size: Option<u64>, offset: Option<u64>, shown: &mut DwexprPiece)
     ensures { shown.new ≡ record (piece_of_kind piece_kinds.HOLDS_VALUE size offset) {
-        value_type = (shown_value value).value_type;
-        number = (shown_value value).content } }
+      value_type = (shown_value value).value_type;
+      number = (shown_value value).content;
+    } }
 {
     let numbers = numbers_of_value(value);
     *shown = DwexprPiece {
@@ -105,11 +106,7 @@ fn show_bytes(
 
 /// Writes a piece where the caller wants it; `false` if its bytes are nowhere.
 // Its calls are its last acts, so it needs no frame.
-fn show_piece(
-    texts: &[DwexprText<'_>],
-    piece: &Piece<Placed<'_>>,
-    shown: &mut DwexprPiece,
-) -> bool
+fn show_piece(texts: &[DwexprText<'_>], piece: &Piece<Placed<'_>>, shown: &mut DwexprPiece) -> bool
     ensures some { result ≡ true
         → ShowsPiece texts.now (piece_of text_of_placed (λ x. x) piece.now) shown.new }
     ensures none { result ≡ false

@@ -1,4 +1,4 @@
-//! Tests of what neither the program nor the archive can show.
+//! Tests of calls that neither the program nor the archive makes.
 #![tactic(auto)]
 
 #[cfg(test)]
@@ -8,7 +8,7 @@ mod equality;
 #[cfg(test)]
 mod evaluation;
 #[cfg(test)]
-mod lists;
+mod memory;
 #[cfg(test)]
 mod operations;
 #[cfg(test)]

@@ -6,7 +6,7 @@ use Rattle.dwarf_value.specs.declared.types.Value.TheVariants.{Generic}
 use Rattle.dwarf_value.specs.declared.types.ValueType.{ValueType}
 use Rattle.dwarf_meaning.specs.Kinds.{kind_of_request}
 use Rattle.dwarf_meaning.specs.declared.kinds.WaitingKind.{WaitingKind}
-use Rattle.dwarf_meaning.specs.Requests.{Request, OnAnswer, Add, Parse, Convert, Reinterpret, ValueAnswer, NumberAnswer, BaseTypeAnswer}
+use Rattle.dwarf_meaning.specs.Requests.{Request, OnAnswer, Reinterpret, ValueAnswer, NumberAnswer, BaseTypeAnswer}
 use Rattle.dwarf_meaning.specs.Acts.{PushesAnswer, use_of}
 use Rattle.dwarf_meaning.specs.Rest.{Status, RequestStatus}
 use Rattle.dwarf_eval.specs.inner.Answers.{IsWaiting}

@@ -8,21 +8,21 @@ use Rattle.dwarf_meaning.specs.Locations.{Location}
 use Rattle.dwarf_meaning.specs.Refusals.{Refusal}
 use Rattle.dwarf_meaning.specs.Requests.{Input, OnAnswer, Request, RequiresFrameBase}
 use Rattle.dwarf_meaning.specs.Rest.{State, Status, Start, RequestStatus, FaultStatus, Total}
-use Rattle.std.specs.Prelude.{true, false, Result, is_some, option_map}
+use Rattle.std.specs.Prelude.{true, false, Result, Ok, is_some, option_map}
 use Rattle.std.specs.Option.{option_map_or}
 use Rattle.dwarf_base.specs.declared.errors.Error.{Error}
 use Rattle.dwarf_base.specs.Reads.{Text}
 use Rattle.dwarf_meaning.specs.Kinds.{kind_of_request}
 use Rattle.dwarf_meaning.specs.Steps.{CompleteReply, RequestReply}
-use Rattle.dwarf_eval.specs.Evaluation.{IsReplied, request_in}
-use Rattle.dwarf_eval.specs.Permits.{AdmitsBy}
+use Rattle.dwarf_eval.specs.Evaluation.{IsReplied, ok_reply, request_in}
+use Rattle.dwarf_eval.specs.Permits.{Admits, AdmitsBy, IsOpenFor}
 use Rattle.dwarf_eval.specs.declared.op.results.EvaluationResult.{EvaluationResult}
 use Rattle.dwarf_eval.specs.declared.op.results.EvaluationResult.TheVariants as result
 use Rattle.dwarf_eval.specs.inner.Answers.{IsEndedBy}
 use Rattle.dwarf_eval.specs.inner.Machine.{replied_status, status_of}
 use Rattle.dwarf_eval.specs.declared.run.states.EvaluationState.{EvaluationState}
 use Rattle.dwarf_eval.specs.declared.run.states.EvaluationState.TheVariants as state
-use Rattle.dwarf_eval.specs.inner.Answers.{AsksFor, IsWaiting, asking, asking_status, open_kind}
+use Rattle.dwarf_eval.specs.inner.Answers.{AsksFor, IsWaiting, asking, asking_status, kept_kind, open_kind}
 use Rattle.dwarf_eval.specs.inner.StateChanges.{ComesToState, ComesToStateBy}
 use Rattle.dwarf_eval.proofs.AnswerUses.{IsOpen}
 use Rattle.dwarf_eval.proofs.Loads.{request_waits}
@@ -97,7 +97,7 @@ waits_if (Some request) on_answer h = tt
 
 -- a request is open if what was replied has a kind
 pub waits_kept : {R O P : Type 0} (text : R → Text) (number : O → ℕ) (on_answer : OnAnswer) (status : Status) (held : EvaluationState R O P) (replied : EvaluationResult R O P) (kind : Option WaitingKind)
-    → status_of text number held on_answer ≡ status → held ≡ state.Replied replied → kind ≡ option_map kind_of_request (request_in text number replied) → is_some kind ≡ true → IsWaiting status
+    → status_of text number held on_answer ≡ status → held ≡ state.Waiting replied → kind ≡ option_map kind_of_request (request_in text number replied) → is_some kind ≡ true → IsWaiting status
 waits_kept text number on_answer status held replied kind is e k some =
     subst IsWaiting (ap (λ (s : EvaluationState _ _ _). status_of text number s on_answer) (sym e) ∙ is) (waits_if (request_in text number replied) on_answer (ap is_some (sym k) ∙ some))
 
@@ -119,7 +119,37 @@ admits_by one None (RequestStatus request on_answer) e h w = cc
 admits_by one (Some asked) (RequestStatus request on_answer) e h w = cc
 admits_by one other _ e h w = absurd w
 
--- a request is open if its kind is kept
-pub waits_kind : (asked : Request) (status : Status) (kept : Option WaitingKind) → kept ≡ open_kind (asking_status asked status) → is_some kept ≡ true → IsWaiting status
-waits_kind asked (RequestStatus request on_answer) kept e h = tt
-waits_kind asked _ kept e h = absurd (not_some (sym (ap is_some e) ∙ h))
+pub kept_some : (kind : Option WaitingKind) (status : Status) → is_some kind ≡ true → kept_kind kind status ≡ kind
+kept_some (Some kind) status h = refl
+kept_some None status h = absurd (not_some h)
+
+-- ---- what a result says of the status in which it is replied
+
+replied_by : (asked : Option Request) (on_answer : OnAnswer) → IsReplied (option_map_or RequestReply asked CompleteReply) (replied_status asked on_answer)
+replied_by None on_answer = refl
+replied_by (Some request) on_answer = refl
+
+module _ {R O P : Type 0} (text : R → Text) (number : O → ℕ) (on_answer : OnAnswer) where
+  pub result_replied : (replied : EvaluationResult R O P) → IsReplied (ok_reply text number replied) (replied_status (request_in text number replied) on_answer)
+  result_replied replied = replied_by (request_in text number replied) on_answer
+
+  pub result_ends : (replied : EvaluationResult R O P) → IsEndedBy (Ok replied) (replied_status (request_in text number replied) on_answer)
+  result_ends result.Complete = refl
+  result_ends _ = tt
+
+  pub result_admits : (replied : EvaluationResult R O P) → Admits replied (replied_status (request_in text number replied) on_answer)
+  result_admits result.Complete = tt
+  result_admits _ = refl
+
+-- ---- where a resume is allowed
+
+waits_by : (kind : WaitingKind) (asked : Request) (replied : Option Request) (on_answer : OnAnswer) → IsOpenFor kind (asking_status asked (replied_status replied on_answer)) → IsWaiting (replied_status replied on_answer)
+waits_by kind asked None on_answer h = absurd h
+waits_by kind asked (Some request) on_answer h = tt
+
+-- a request is open unless a fault was met
+pub waits_unless : {R O P : Type 0} (text : R → Text) (number : O → ℕ) (on_answer : OnAnswer) (kind : WaitingKind) (asked : Request) (held : EvaluationState R O P)
+    → IsOpenFor kind (asking_status asked (status_of text number held on_answer)) → ((error : Error) → held ≡ state.Failed error → ⊥) → IsWaiting (status_of text number held on_answer)
+waits_unless text number on_answer kind asked (state.Waiting request) h other = waits_by kind asked (request_in text number request) on_answer h
+waits_unless text number on_answer kind asked (state.Failed error) h other = absurd (other error refl)
+waits_unless text number on_answer kind asked _ h other = absurd h

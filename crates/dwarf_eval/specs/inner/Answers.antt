@@ -44,6 +44,11 @@ abbrev pub open_kind : rest.Status → Option WaitingKind
 open_kind (RequestStatus request on_answer) = Some (kind_of_request request)
 open_kind _ = None
 
+-- the kind that is kept, or else that of the open request
+abbrev pub kept_kind : Option WaitingKind → rest.Status → Option WaitingKind
+kept_kind (Some kind) status = Some kind
+kept_kind None status = open_kind status
+
 -- by the status: at the start it is fresh but for what was set, and it doesn't run
 abbrev pub IsAtRestBy : rest.State → rest.Status → Type 0
 IsAtRestBy x (Start initial_value) =
@@ -55,10 +60,10 @@ IsAtRestBy x _ = Unit {0}
 abbrev pub IsAtRest : rest.State → Type 0
 IsAtRest x = IsAtRestBy x x.status
 
--- between calls: what was asked, its kind, and the machine
+-- between calls: what was asked, its kind if it is kept, and the machine
 pub record IsKept (asked : requests.Request) (kind : Option WaitingKind) (x : rest.State) : Type 0 where
   pub rests : IsAtRest x
-  pub kind_is : kind ≡ open_kind (asking_status asked x.status)
+  pub kind_is : kept_kind kind x.status ≡ open_kind (asking_status asked x.status)
 
 -- after the end the result is completion, and after a fault that fault
 abbrev pub IsEndedBy : {R O P : Type 0} → Result (EvaluationResult R O P) Error → rest.Status → Type 0

@@ -53,8 +53,8 @@ replied_status (Some request) on_answer = RequestStatus request on_answer
 abbrev pub status_of : {R O P : Type 0} → (R → Text) → (O → ℕ) → EvaluationState R O P → requests.OnAnswer → Status
 status_of text number (state.Start initial_value) on_answer = Start initial_value
 status_of text number state.Running on_answer = Running
-status_of text number (state.Replied replied) on_answer = replied_status (request_in text number replied) on_answer
-status_of text number (state.Complete value) on_answer = CompleteStatus (Some value)
+status_of text number (state.Waiting request) on_answer = replied_status (request_in text number request) on_answer
+status_of text number (state.Complete value) on_answer = CompleteStatus value
 status_of text number (state.Failed error) on_answer = FaultStatus error
 
 -- how many bytes of the text come before what is left of it

@@ -7,12 +7,12 @@ ghost use Rattle.dwarf_meaning.specs.Kinds.{kind_of_answer};
 ghost use Rattle.dwarf_meaning.specs.Requests as requests;
 ghost use Rattle.dwarf_meaning.specs.Rest.{Start};
 ghost use Rattle.dwarf_eval.specs.Permits.{Admits, AnswersWith, IsOpenFor, Permits, Shows};
-ghost use Rattle.dwarf_eval.specs.inner.Answers.{answer_of};
+ghost use Rattle.dwarf_eval.specs.inner.Answers.{answer_of, open_kind};
 ghost use Rattle.dwarf_eval.specs.Evaluation.{Evaluates, HasResult, IsClosed, IsComplete, fresh_state, with_maximum, with_object, with_status};
 ghost use Rattle.dwarf_meaning.specs.Stores.{setup_of};
 ghost use Rattle.dwarf_op.specs.Views.{piece_of};
 
-use crate::eval::requests::{OpenRequest, reply};
+use crate::eval::requests::{OpenRequest, kind_of, reply};
 use crate::eval::states::Status;
 use crate::op::{EvaluationResult, Piece};
 use crate::run::asked::Asked;
@@ -32,7 +32,7 @@ use std::marker::Model;
 #[derive(Drop)]
 pub struct Evaluation<R: Reader + Copy, S: EvaluationStorage<R>> {
     machine: Machine<R, S>,
-    // The machine has another request in its place, once it is handed out.
+    // The machine may have another request in its place, once it is handed out.
     waiting: OpenRequest,
 }
 
@@ -93,19 +93,33 @@ impl<R: Reader + Copy, S: EvaluationStorage<R>> Evaluation<R, S> {
         self.waiting.kind = None;
     }
 
+    /// The kind of the open request, if there is one.
+    #[inline(always)]
+    fn open_kind(&self) -> Option<WaitingKind>
+        ensures { result ≡ open_kind self.now.status }
+    {
+        if self.waiting.kind.is_some() {
+            return self.waiting.kind;
+        }
+        match self.machine.state() {
+            EvaluationState::Waiting(request) => kind_of(request),
+            _ => None,
+        }
+    }
+
     /// Where the evaluation stands, and so which calls it allows.
     pub fn status(&self) -> Status
         ensures shows { Shows self.now.status result }
         ensures permits { Permits self.now.status result }
     {
-        if let Some(kind) = self.waiting.kind {
+        if let Some(kind) = self.open_kind() {
             return Status::Waiting(kind);
         }
         match self.machine.state() {
             EvaluationState::Start(initial_value) => Status::Start {
                 initial: initial_value.is_some(),
             },
-            EvaluationState::Replied(_) | EvaluationState::Complete(_) => Status::Complete,
+            EvaluationState::Waiting(_) | EvaluationState::Complete(_) => Status::Complete,
             EvaluationState::Failed(error) => Status::Failed(*error),
             EvaluationState::Running => unreachable!(),
         }
@@ -117,7 +131,7 @@ impl<R: Reader + Copy, S: EvaluationStorage<R>> Evaluation<R, S> {
     pub fn is_open_for(&self, kind: WaitingKind) -> bool
         ensures { (result ≡ true) ↔ IsOpenFor kind self.now.status }
     {
-        match self.waiting.kind {
+        match self.open_kind() {
             Some(open) => open == kind,
             None => matches!(self.machine.state(), EvaluationState::Failed(_)),
         }
@@ -190,8 +204,8 @@ impl<R: Reader + Copy, S: EvaluationStorage<R>> Evaluation<R, S> {
         ensures { AnswersWith R.text R.Offset.number (answer_of R.text open_kind given)
             self.old self.new result }
     {
-        if self.waiting.kind.is_none() {
-            return reply(&mut self.machine, &mut self.waiting);
+        if let EvaluationState::Failed(error) = self.machine.state() {
+            return Err(*error);
         }
         self.machine.resume(given);
         reply(&mut self.machine, &mut self.waiting)
@@ -387,7 +401,7 @@ impl<R: Reader + Copy, S: EvaluationStorage<R>> Evaluation<R, S> {
         ensures { HasResult result self.now.status }
     {
         match self.machine.state() {
-            EvaluationState::Complete(value) => Some(*value),
+            EvaluationState::Complete(value) => *value,
             _ => None,
         }
     }

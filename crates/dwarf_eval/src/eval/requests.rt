@@ -5,7 +5,7 @@ ghost use Rattle.dwarf_meaning.specs.Kinds.{kind_of_request};
 ghost use Rattle.dwarf_eval.specs.inner.StateChanges.{HasReply};
 ghost use Rattle.dwarf_eval.specs.Permits.{Admits};
 ghost use Rattle.dwarf_eval.specs.Evaluation.{IsReplied, reply_of, request_in};
-ghost use Rattle.dwarf_eval.specs.inner.Answers.{AsksFor, IsAtRest, IsEndedBy, asking, open_kind};
+ghost use Rattle.dwarf_eval.specs.inner.Answers.{AsksFor, IsAtRest, IsEndedBy, asking, kept_kind, open_kind};
 ghost use Rattle.dwarf_meaning.specs.Requests.{Request};
 
 use crate::op::EvaluationResult;
@@ -16,7 +16,8 @@ use crate::store::EvaluationStorage;
 use dwarf_base::{Reader, Result};
 use dwarf_meaning::WaitingKind;
 
-/// The open request, if there is one: its kind, and what it asks, which contracts alone see.
+/// The open request, if there is one, as it was handed out: its kind if it was moved out of the machine, and what it
+/// asks, which contracts alone see.
 #[derive(Drop)]
 pub(crate) struct OpenRequest {
     pub(crate) kind: Option<WaitingKind>,
@@ -47,7 +48,43 @@ pub(crate) fn kind_of<R: Reader + Copy>(replied: &EvaluationResult<R>) -> Option
     })
 }
 
-/// Hands the reply of a machine to the caller. A request is moved out of it, and what was asked is noted.
+/// A copy of a result. Of those that most expressions ask, the fields are copied one by one, which takes less time than
+/// a copy of the whole, with the room between them.
+#[inline(always)]
+fn copy_of_result<R: Reader + Copy>(replied: &EvaluationResult<R>) -> EvaluationResult<R>
+    ensures { result ≡ replied.now }
+{
+    match replied {
+        EvaluationResult::Complete => EvaluationResult::Complete,
+        EvaluationResult::RequiresMemory {
+            address,
+            size,
+            space: None,
+            base_type,
+        } => EvaluationResult::RequiresMemory {
+            address: *address,
+            size: *size,
+            space: None,
+            base_type: *base_type,
+        },
+        EvaluationResult::RequiresRegister {
+            register,
+            base_type,
+        } => EvaluationResult::RequiresRegister {
+            register: *register,
+            base_type: *base_type,
+        },
+        EvaluationResult::RequiresFrameBase => EvaluationResult::RequiresFrameBase,
+        EvaluationResult::RequiresCallFrameCfa => EvaluationResult::RequiresCallFrameCfa,
+        EvaluationResult::RequiresEntryValue(expression) => EvaluationResult::RequiresEntryValue(
+            *expression,
+        ),
+        _ => *replied,
+    }
+}
+
+/// Hands the reply of a machine to the caller: a request as a copy, of which Rattle's compiler makes faster code than of
+/// a move. What was asked is noted.
 #[inline(always)]
 pub(crate) fn reply<R: Reader + Copy, S: EvaluationStorage<R>>(
     machine: &mut Machine<R, S>,
@@ -57,7 +94,35 @@ pub(crate) fn reply<R: Reader + Copy, S: EvaluationStorage<R>>(
     requires has { HasReply machine.old.status }
     requires asks { AsksFor (Some request) machine.old.status }
     ensures alone { asking waiting.new.asked.request machine.new ≡ machine.old }
-    ensures kind { waiting.new.kind ≡ open_kind machine.old.status }
+    ensures kind { kept_kind waiting.new.kind machine.new.status ≡ open_kind machine.old.status }
+    ensures reply { IsReplied (reply_of R.text R.Offset.number result)
+        machine.old.status }
+    ensures ends { IsEndedBy result machine.old.status }
+    ensures rests { IsAtRest machine.old }
+    ensures admits { IfOk result (λ replied. Admits replied machine.old.status) }
+{
+    waiting.kind = None;
+    match machine.state() {
+        EvaluationState::Waiting(request) => {
+            waiting.asked = Asked::new();
+            Ok(copy_of_result(request))
+        }
+        EvaluationState::Failed(error) => Err(*error),
+        _ => Ok(EvaluationResult::Complete),
+    }
+}
+
+/// Does the same, and hands out a request by a move. Its kind is kept, and what was asked is noted.
+#[inline(always)]
+pub(crate) fn reply_by_move<R: Reader + Copy, S: EvaluationStorage<R>>(
+    machine: &mut Machine<R, S>,
+    waiting: &mut OpenRequest,
+) -> Result<EvaluationResult<R>>
+    ghost request: { Request }
+    requires has { HasReply machine.old.status }
+    requires asks { AsksFor (Some request) machine.old.status }
+    ensures alone { asking waiting.new.asked.request machine.new ≡ machine.old }
+    ensures kind { kept_kind waiting.new.kind machine.new.status ≡ open_kind machine.old.status }
     ensures reply { IsReplied (reply_of R.text R.Offset.number result)
         machine.old.status }
     ensures ends { IsEndedBy result machine.old.status }
@@ -65,11 +130,11 @@ pub(crate) fn reply<R: Reader + Copy, S: EvaluationStorage<R>>(
     ensures admits { IfOk result (λ replied. Admits replied machine.old.status) }
 {
     // Most replies are requests. A test of that first costs less than a jump by a table.
-    if let EvaluationState::Replied(replied) = machine.state() {
-        waiting.kind = kind_of(replied);
+    if let EvaluationState::Waiting(request) = machine.state() {
+        waiting.kind = kind_of(request);
         if waiting.kind.is_some() {
             waiting.asked = Asked::new();
-            return Ok(machine.hand_out());
+            return Ok(machine.move_out());
         }
         return Ok(EvaluationResult::Complete);
     }

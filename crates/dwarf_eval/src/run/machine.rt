@@ -284,10 +284,7 @@ impl<R: Reader + Copy, S: EvaluationStorage<R>> Machine<R, S> {
     pub(crate) fn end(&mut self, value: Option<Value>)
         ensures { self.new ≡ with_status (CompleteStatus value) self.old }
     {
-        match value {
-            Some(value) => self.state = EvaluationState::Complete(value),
-            None => self.state = EvaluationState::Replied(EvaluationResult::Complete),
-        }
+        self.state = EvaluationState::Complete(value);
     }
 
     /// Asks this, to do that with the answer.
@@ -301,32 +298,19 @@ impl<R: Reader + Copy, S: EvaluationStorage<R>> Machine<R, S> {
         ensures asks { Asks (request_in R.text R.Offset.number request) (on_answer_of R.text on_answer)
             self.old self.new }
     {
-        self.state = EvaluationState::Replied(request);
+        self.state = EvaluationState::Waiting(request);
         self.on_answer = on_answer;
     }
 
-    /// Hands out the open request as a copy, of which Rattle's compiler makes faster code than of a move.
-    #[inline(always)]
-    pub(crate) fn hand_out(&mut self) -> EvaluationResult<R>
-        requires { IsWaiting self.old.status }
-        ensures request { AsksFor (request_in R.text R.Offset.number result) self.old.status }
-        ensures alone { (other : requests.Request) × (self.new ≡ asking other self.old) }
-    {
-        let EvaluationState::Replied(request) = self.state else {
-            unreachable!()
-        };
-        request
-    }
-
-    /// Hands out the open request by a move. What stands in its place is another one.
+    /// Hands out the open request by a move. Another one stands in its place then.
     #[inline(always)]
     pub(crate) fn move_out(&mut self) -> EvaluationResult<R>
         requires { IsWaiting self.old.status }
         ensures request { AsksFor (request_in R.text R.Offset.number result) self.old.status }
         ensures alone { (other : requests.Request) × (self.new ≡ asking other self.old) }
     {
-        let other = EvaluationState::Replied(EvaluationResult::RequiresFrameBase);
-        let EvaluationState::Replied(request) = mem::replace(&mut self.state, other) else {
+        let other = EvaluationState::Waiting(EvaluationResult::RequiresFrameBase);
+        let EvaluationState::Waiting(request) = mem::replace(&mut self.state, other) else {
             unreachable!()
         };
         request

@@ -55,10 +55,10 @@ pub(crate) enum EvaluationState<R: Reader, O = <R as Reader>::Offset> {
     Start(Option<u64>),
     /// It runs. Between calls it never does.
     Running,
-    /// It replied that it is complete, without a value, or a request, which is open.
-    Replied(EvaluationResult<R, O>),
-    /// It is complete, with the value that was on top of the stack.
-    Complete(Value),
+    /// It waits for the answer to this request.
+    Waiting(EvaluationResult<R, O>),
+    /// It is complete, with the value that was on top of the stack if there is one.
+    Complete(Option<Value>),
     /// It met a fault.
     Failed(Error),
 }

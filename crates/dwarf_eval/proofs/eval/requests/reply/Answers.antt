@@ -1,26 +1,29 @@
-use Rattle.std.proofs.Common.{ap, sym, ◌∙◌}
-use Rattle.dwarf_eval.specs.Evaluation.{request_in}
-use Rattle.dwarf_eval.specs.inner.Answers.{open_kind}
+use Rattle.std.proofs.Common.{ap, subst, sym, ◌∙◌}
+use Rattle.std.specs.Prelude.{Ok}
+use Rattle.dwarf_eval.specs.Evaluation.{IsReplied, ok_reply}
+use Rattle.dwarf_eval.specs.Permits.{Admits}
+use Rattle.dwarf_eval.specs.inner.Answers.{IsEndedBy}
 use Rattle.dwarf_eval.specs.inner.Machine.{status_of}
-use Rattle.dwarf_eval.proofs.Asking.{admits_by, ended_waits, kind_in, kinds_alike, replied_as, waits_kept}
+use Rattle.dwarf_eval.proofs.Asking.{result_admits, result_ends, result_replied}
 use Rattle.dwarf_eval.proofs.eval.requests.reply.Goals as goal
 
-pub returns-then-is_some-clause-kind : goal.returns-then-is_some-clause-kind
-returns-then-is_some-clause-kind g c =
+pub returns-in-Waiting-clause-reply : goal.returns-in-Waiting-clause-reply
+returns-in-Waiting-clause-reply g c =
     let text = g.R.Reader.text in
     let number = g.R.Offset.ReaderOffset.number in
-    let is = sym c.state.ensures.1 ∙ ap (λ s. status_of text number s c.state.ensures.0) c.in-Replied.is in
-    c.kind_of-waiting.ensures ∙ (kind_in (request_in text number c.in-Replied.replied) c.state.ensures.0 ∙ ap open_kind (sym is))
+    let is = sym c.state.ensures.1 ∙ ap (λ s. status_of text number s c.state.ensures.0) c.in-Waiting.is in
+    rw c.copy_of_result.ensures (subst (IsReplied (ok_reply text number c.in-Waiting.request)) (sym is) (result_replied text number c.state.ensures.0 c.in-Waiting.request))
 
-pub returns-then-is_some-clause-reply : goal.returns-then-is_some-clause-reply
-returns-then-is_some-clause-reply g c =
-    replied_as _ c.args.machine.now.status (waits_kept _ _ _ _ _ _ _ c.state.ensures.1 c.in-Replied.is c.kind_of-waiting.ensures (sym c.is_some.ensures ∙ c.if-is_some.true)) c.hand_out.ensures.request
+pub returns-in-Waiting-clause-ends : goal.returns-in-Waiting-clause-ends
+returns-in-Waiting-clause-ends g c =
+    let text = g.R.Reader.text in
+    let number = g.R.Offset.ReaderOffset.number in
+    let is = sym c.state.ensures.1 ∙ ap (λ s. status_of text number s c.state.ensures.0) c.in-Waiting.is in
+    rw c.copy_of_result.ensures (subst (IsEndedBy (Ok c.in-Waiting.request)) (sym is) (result_ends text number c.state.ensures.0 c.in-Waiting.request))
 
-pub returns-then-is_some-clause-ends : goal.returns-then-is_some-clause-ends
-returns-then-is_some-clause-ends g c =
-    ended_waits _ c.args.machine.now.status (waits_kept _ _ _ _ _ _ _ c.state.ensures.1 c.in-Replied.is c.kind_of-waiting.ensures (sym c.is_some.ensures ∙ c.if-is_some.true))
-
-pub returns-then-is_some-clause-admits : goal.returns-then-is_some-clause-admits
-returns-then-is_some-clause-admits g c =
-    admits_by _ _ c.args.machine.now.status (kinds_alike g.R.Reader.text _ g.R.Offset.ReaderOffset.number _ c.hand_out.result) c.hand_out.ensures.request
-    (waits_kept _ _ _ _ _ _ _ c.state.ensures.1 c.in-Replied.is c.kind_of-waiting.ensures (sym c.is_some.ensures ∙ c.if-is_some.true))
+pub returns-in-Waiting-clause-admits : goal.returns-in-Waiting-clause-admits
+returns-in-Waiting-clause-admits g c =
+    let text = g.R.Reader.text in
+    let number = g.R.Offset.ReaderOffset.number in
+    let is = sym c.state.ensures.1 ∙ ap (λ s. status_of text number s c.state.ensures.0) c.in-Waiting.is in
+    rw c.copy_of_result.ensures (subst (Admits c.in-Waiting.request) (sym is) (result_admits text number c.state.ensures.0 c.in-Waiting.request))

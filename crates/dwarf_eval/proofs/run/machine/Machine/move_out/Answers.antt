@@ -12,5 +12,5 @@ returns-clause-alone g c =
     let text = g.R.Reader.text in
     let number = g.R.Offset.ReaderOffset.number in
     let on_answer = on_answer_of text c.self.inside.on_answer in
-    let is = sym (ap (λ (z : State). z.status) c.self.view_is) ∙ ap (λ s. status_of text number s on_answer) (sym c.in-Replied.ensures.value) in
-    (RequiresFrameBase, rw c.replace.ensures.after (ap (with_status (RequestStatus RequiresFrameBase on_answer)) c.self.view_is ∙ leaves c.args.self.now (request_in text number c.in-Replied.request) on_answer is c.requires))
+    let is = sym (ap (λ (z : State). z.status) c.self.view_is) ∙ ap (λ s. status_of text number s on_answer) (sym c.in-Waiting.ensures.value) in
+    (RequiresFrameBase, rw c.replace.ensures.after (ap (with_status (RequestStatus RequiresFrameBase on_answer)) c.self.view_is ∙ leaves c.args.self.now (request_in text number c.in-Waiting.request) on_answer is c.requires))

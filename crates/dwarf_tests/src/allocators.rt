@@ -23,9 +23,14 @@ impl<B: Allocator> RefusesGrowth<B> {
         }
     }
 
-    /// How many growths there were, of one that was made with this many before the refused one.
-    pub(crate) fn growths(&self, before: u64) -> u64 {
-        before.wrapping_sub(self.before.get())
+    /// How many growths are to come before the refused one.
+    pub(crate) fn left(&self) -> u64 {
+        self.before.get()
+    }
+
+    /// Whether a growth was refused, and none came after it.
+    pub(crate) fn has_refused_last(&self) -> bool {
+        self.before.get() == u64::MAX
     }
 
     /// Whether a growth was refused.

@@ -1,4 +1,4 @@
-//! Tests of calls that neither the program nor the archive makes.
+//! Tests of what neither the program nor the archive can show.
 #![tactic(auto)]
 
 #[cfg(test)]
@@ -8,7 +8,7 @@ mod equality;
 #[cfg(test)]
 mod evaluation;
 #[cfg(test)]
-mod memory;
+mod lists;
 #[cfg(test)]
 mod operations;
 #[cfg(test)]

@@ -1,0 +1,110 @@
+//! Lists without a limit: those of an evaluation that refuse a push, and those on the heap.
+
+ghost use Rattle.std.specs.Prelude.{◌≡◌, [], None};
+
+use crate::allocators::{NEVER, RefusesGrowth};
+use dwarf_base::Reader;
+use dwarf_eval::op::Piece;
+use dwarf_eval::store::{ArrayLike, EvaluationStorage};
+use dwarf_value::Value;
+use std::alloc::Global;
+use std::process::Abort;
+
+/// A list without a limit, one push of which is refused.
+#[derive(Drop)]
+pub(crate) struct RefusesOne<T> {
+    items: Vec<T>,
+    // How many pushes come before the refused one.
+    before: u64,
+}
+
+impl<T> RefusesOne<T> {
+    /// A new list, which takes this many pushes before the refused one.
+    pub(crate) fn new(alloc: Global, before: u64) -> Self
+        ensures { result.items.items ≡ [] }
+    {
+        RefusesOne {
+            items: Vec::new(alloc),
+            before,
+        }
+    }
+}
+
+impl<T: Copy> ArrayLike for RefusesOne<T> {
+    type Item = T;
+
+    ghost items = { λ list. list.items.items };
+
+    ghost limit = { λ _. None };
+
+    fn len(&self) -> usize {
+        self.items.len()
+    }
+
+    fn as_slice(&self) -> &[T] {
+        self.items.as_slice()
+    }
+
+    fn pop(&mut self) -> Option<T> {
+        self.items.pop()
+    }
+
+    fn push(&mut self, item: T) -> Result<(), T> {
+        if self.before == 0 {
+            self.before = NEVER;
+            return Err(item);
+        }
+        self.before -= 1;
+        self.items.push(item).map_err(|failed| failed.value)
+    }
+}
+
+pub(crate) struct ListsOfTests;
+
+impl<R: Reader + Copy> EvaluationStorage<R> for ListsOfTests {
+    type Stack = RefusesOne<Value>;
+
+    type ExpressionStack = RefusesOne<(R, R)>;
+
+    type Result = RefusesOne<Piece<R>>;
+}
+
+// Takes 5,000 items, but for one that is handed back if a growth is refused. Emptied, it takes as many in the memory
+// that it has.
+fn expect_list<L: ArrayLike<Item = u64>>(
+    rt: &impl Abort,
+    list: &mut L,
+    memory: &RefusesGrowth<Global>,
+) {
+    let mut refused = false;
+    for item in 0..5_000 {
+        if list.push(item).is_err() {
+            assert!(rt; !refused && memory.has_refused());
+            refused = true;
+            assert!(rt; list.push(item).is_ok());
+        }
+    }
+    assert!(rt; refused == memory.has_refused());
+    let growths = memory.left();
+    for _ in 0..5_000 {
+        assert!(rt; list.pop().is_some());
+    }
+    for item in 0..5_000 {
+        assert!(rt; list.push(item).is_ok());
+    }
+    assert!(rt; memory.left() == growths);
+}
+
+// Each growth of a list on the heap is refused in turn.
+#[test]
+fn lists_on_the_heap(rt: HostRuntime) {
+    let mut refused = 0;
+    for before in 0..20 {
+        let memory = RefusesGrowth::new(rt.alloc(), before);
+        expect_list(&rt, &mut Vec::new(&memory), &memory);
+        if memory.has_refused() {
+            refused = before;
+        }
+    }
+    assert!(rt; 8 < refused && refused < 18);
+}

@@ -7,23 +7,29 @@ ghost use Rattle.dwexpr_c.specs.CodedOperations.{Decodes, IsBlockAt, undecoded_o
 ghost use Rattle.dwexpr_c.specs.Encodings.{IsEncoding, encoding_in, is_big_in};
 ghost use Rattle.dwexpr_c.specs.declared.faults.TheConstants as codes;
 
-use crate::encodings::{DwexprEncoding, Reading, reading_of};
+use crate::encodings::{DwexprEncoding, reading_of};
 use crate::faults::{BAD_ENCODING, BAD_OFFSET, numbers_of};
 use crate::operations::{DwexprOperation, disallow, show, show_fault};
-use dwarf_base::{EndianSlice, Reader};
+use dwarf_base::{Encoding, EndianSlice, Reader, RunTimeEndian};
 use dwarf_op::Operation;
 
 /// Shows what stands at an offset that has a byte.
-fn decode_at(bytes: &[u8], reading: Reading, offset: usize, shown: &mut DwexprOperation)
+fn decode_at(
+    bytes: &[u8],
+    encoding: Encoding,
+    order: RunTimeEndian,
+    offset: usize,
+    shown: &mut DwexprOperation,
+)
     requires { offset < length bytes.now }
     ensures { Decodes offset (slice_index bytes.now offset) (length (drop offset bytes.now))
-        (operation_at reading.encoding 64
-        (record { bytes = drop offset bytes.now; is_big = is_big_of reading.order })) shown.new }
+        (operation_at encoding 64
+        (record { bytes = drop offset bytes.now; is_big = is_big_of order })) shown.new }
 {
     let opcode = bytes[offset];
-    let front = EndianSlice::new(&bytes[offset..], reading.order);
+    let front = EndianSlice::new(&bytes[offset..], order);
     let mut rest = front;
-    match Operation::parse(&mut rest, reading.encoding) {
+    match Operation::parse(&mut rest, encoding) {
         Ok(operation) => show(operation, offset, opcode, rest.offset_from(&front), shown),
         Err(error) => *shown = show_fault(offset, opcode, numbers_of(error)),
     }
@@ -58,7 +64,7 @@ pub extern "C" fn dwexpr_decode(
     match reading_of(encoding) {
         None => *operation = disallow(offset, BAD_ENCODING),
         Some(_) if offset >= bytes.len() => *operation = disallow(offset, BAD_OFFSET),
-        Some(reading) => decode_at(bytes, reading, offset, operation),
+        Some((encoding, order)) => decode_at(bytes, encoding, order, offset, operation),
     }
     operation.fault
 }

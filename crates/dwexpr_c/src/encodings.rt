@@ -20,13 +20,6 @@ pub struct DwexprEncoding {
     pub version: u8,
 }
 
-/// How bytes are to be read.
-#[derive(Clone, Copy)]
-pub(crate) struct Reading {
-    pub(crate) encoding: Encoding,
-    pub(crate) order: RunTimeEndian,
-}
-
 fn format_of(offset_size: u8) -> Option<Format>
     ensures some { IfSome result
         (λ format. ((offset_size ≡ 4) ⊎ (offset_size ≡ 8))
@@ -54,14 +47,14 @@ pub(crate) fn order_of(big_endian: u8) -> Option<RunTimeEndian>
     }
 }
 
-/// How bytes are to be read, if the numbers say that.
-pub(crate) fn reading_of(numbers: DwexprEncoding) -> Option<Reading>
+/// The encoding and the byte order that the numbers say, if they say both.
+pub(crate) fn reading_of(numbers: DwexprEncoding) -> Option<(Encoding, RunTimeEndian)>
     ensures some { IfSome result
-        (λ reading. IsEncoding numbers × (reading.encoding ≡ encoding_in numbers)
-        × (is_big_of reading.order ≡ is_big_in numbers)) }
+        (λ reading. IsEncoding numbers × (reading.0 ≡ encoding_in numbers)
+        × (is_big_of reading.1 ≡ is_big_in numbers)) }
     ensures none { IfNone result (IsEncoding numbers → ⊥) }
     ensures size { IfSome result
-        (λ reading. (0 < reading.encoding.address_size) × (reading.encoding.address_size ≤ 8)) }
+        (λ reading. (0 < reading.0.address_size) × (reading.0.address_size ≤ 8)) }
 {
     if numbers.address_size == 0 || numbers.address_size > 8 {
         return None;
@@ -69,12 +62,10 @@ pub(crate) fn reading_of(numbers: DwexprEncoding) -> Option<Reading>
     if numbers.version < 2 || numbers.version > 5 {
         return None;
     }
-    Some(Reading {
-        encoding: Encoding {
-            address_size: numbers.address_size,
-            format: format_of(numbers.offset_size)?,
-            version: u16::from(numbers.version),
-        },
-        order: order_of(numbers.big_endian)?,
-    })
+    let encoding = Encoding {
+        address_size: numbers.address_size,
+        format: format_of(numbers.offset_size)?,
+        version: u16::from(numbers.version),
+    };
+    Some((encoding, order_of(numbers.big_endian)?))
 }

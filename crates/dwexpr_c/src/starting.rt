@@ -1,18 +1,16 @@
 //! The start of an evaluation, and the call that keeps nothing.
 
 ghost use Rattle.std.specs.Prelude.{◌≡◌, ◌<◌, ◌≤◌};
-ghost use Rattle.dwarf_base.specs.ByteOrder.{is_big_of};
 ghost use Rattle.dwarf_meaning.specs.Inputs.{fresh_state};
 ghost use Rattle.dwexpr_c.specs.Encodings.{IsEncoding, encoding_in, is_big_in};
-ghost use Rattle.dwexpr_c.specs.Evaluated.{EvaluatesGiven, EvaluatesFirst, beginning, limited_setup};
-ghost use Rattle.dwexpr_c.specs.Held.{HasCapacities, StandsAfter, StandsAfterFirst};
+ghost use Rattle.dwexpr_c.specs.Evaluated.{EvaluatesFirst, limited_setup};
+ghost use Rattle.dwexpr_c.specs.Held.{HasCapacities, StandsAfterFirst};
 ghost use Rattle.dwexpr_c.specs.Outcomes.{ended_outcome};
 ghost use Rattle.dwexpr_c.specs.Settings.{steps_in};
 ghost use Rattle.dwexpr_c.specs.CallerTexts.{text_at, text_of_placed};
-ghost use Rattle.dwexpr_c.specs.inner.Runs.{IsGiven};
 ghost use Rattle.dwexpr_c.specs.declared.faults.TheConstants as codes;
 
-use crate::encodings::{DwexprEncoding, Reading, reading_of};
+use crate::encodings::{DwexprEncoding, reading_of};
 use crate::evaluating::{evaluate_set, evaluate_steps};
 use crate::faults::{BAD_ENCODING, BAD_TEXT, code_alone};
 use crate::held::{Held, fresh_held};
@@ -21,54 +19,20 @@ use crate::pieces::DwexprPiece;
 use crate::places::Placed;
 use crate::settings::DwexprSettings;
 use crate::steps::{DwexprStep, DwexprText, text_at};
+use dwarf_base::{Encoding, RunTimeEndian};
 
 /// Has an evaluation stand at the beginning of a text.
 #[inline(always)]
-fn restart<'a>(held: &mut Held<'a>, text: Placed<'a>, reading: Reading)
+fn restart<'a>(held: &mut Held<'a>, text: Placed<'a>, encoding: Encoding, order: RunTimeEndian)
     requires capacities { HasCapacities held.old.evaluation }
-    requires some { 0 < reading.encoding.address_size }
-    requires fits { reading.encoding.address_size ≤ 8 }
-    ensures order { held.new.order ≡ reading.order }
+    requires some { 0 < encoding.address_size }
+    requires fits { encoding.address_size ≤ 8 }
+    ensures order { held.new.order ≡ order }
     ensures fresh { held.new.evaluation
-        ≡ fresh_state (limited_setup reading.encoding) (text_of_placed text.entry) }
+        ≡ fresh_state (limited_setup encoding) (text_of_placed text.entry) }
 {
-    held.order = reading.order;
-    held.evaluation.restart(text, reading.encoding);
-}
-
-/// Shows what the steps of a text come to.
-fn start_text<'a>(
-    held: &mut Held<'a>,
-    texts: &[DwexprText<'a>],
-    text: Placed<'a>,
-    reading: Reading,
-    steps: &[DwexprStep],
-    outcome: &mut DwexprOutcome,
-    places: &mut [DwexprPiece],
-)
-    requires capacities { HasCapacities held.old.evaluation }
-    requires some { 0 < reading.encoding.address_size }
-    requires fits { reading.encoding.address_size ≤ 8 }
-    requires order { (text_of_placed text).is_big ≡ is_big_of reading.order }
-    requires given { IsGiven texts.now (text_of_placed text).bytes }
-    ensures capacities { HasCapacities held.new.evaluation }
-    ensures evaluates { EvaluatesGiven
-        (beginning reading.encoding (text_of_placed text.entry) texts.now) steps.now outcome.new
-        places.old places.new }
-    ensures order { is_big_of held.new.order ≡ (text_of_placed text.entry).is_big }
-    ensures stands { StandsAfter
-        (fresh_state (limited_setup reading.encoding) (text_of_placed text.entry)) texts.now
-        steps.now held.new.evaluation outcome.new }
-{
-    restart(held, text, reading);
-    evaluate_steps(
-        &mut held.evaluation,
-        texts,
-        reading.order,
-        steps,
-        outcome,
-        places,
-    );
+    held.order = order;
+    held.evaluation.restart(text, encoding);
 }
 
 /// Shows what the steps of the first of the texts come to; the evaluation then stands where they lead.
@@ -94,40 +58,14 @@ pub(crate) fn start<'a>(
 {
     match reading_of(numbers) {
         None => *outcome = show_end(code_alone(BAD_ENCODING), 0),
-        Some(reading) => match text_at(texts, reading.order, 0) {
+        Some((encoding, order)) => match text_at(texts, order, 0) {
             None => *outcome = show_end(code_alone(BAD_TEXT), 0),
-            Some(text) => start_text(held, texts, text, reading, steps, outcome, places),
+            Some(text) => {
+                restart(held, text, encoding, order);
+                evaluate_steps(&mut held.evaluation, texts, order, steps, outcome, places);
+            }
         },
     }
-}
-
-/// Shows what the settings come to, once a text is started with them.
-#[inline(always)]
-fn evaluate_text<'a>(
-    held: &mut Held<'a>,
-    texts: &[DwexprText<'a>],
-    text: Placed<'a>,
-    reading: Reading,
-    settings: &DwexprSettings,
-    outcome: &mut DwexprOutcome,
-    places: &mut [DwexprPiece],
-)
-    requires capacities { HasCapacities held.old.evaluation }
-    requires some { 0 < reading.encoding.address_size }
-    requires fits { reading.encoding.address_size ≤ 8 }
-    requires order { (text_of_placed text).is_big ≡ is_big_of reading.order }
-    requires given { IsGiven texts.now (text_of_placed text).bytes }
-    ensures capacities { HasCapacities held.new.evaluation }
-    ensures evaluates { EvaluatesGiven
-        (beginning reading.encoding (text_of_placed text.entry) texts.now) (steps_in settings.now)
-        outcome.new places.old places.new }
-    ensures order { is_big_of held.new.order ≡ (text_of_placed text.entry).is_big }
-    ensures stands { StandsAfter
-        (fresh_state (limited_setup reading.encoding) (text_of_placed text.entry)) texts.now
-        (steps_in settings.now) held.new.evaluation outcome.new }
-{
-    restart(held, text, reading);
-    evaluate_set(&mut held.evaluation, texts, settings, outcome, places);
 }
 
 /// Shows what the settings come to; the evaluation of the first of the texts then stands where they lead.
@@ -154,9 +92,12 @@ pub(crate) fn evaluate_first<'a>(
 {
     match reading_of(numbers) {
         None => *outcome = show_end(code_alone(BAD_ENCODING), 0),
-        Some(reading) => match text_at(texts, reading.order, 0) {
+        Some((encoding, order)) => match text_at(texts, order, 0) {
             None => *outcome = show_end(code_alone(BAD_TEXT), 0),
-            Some(text) => evaluate_text(held, texts, text, reading, settings, outcome, places),
+            Some(text) => {
+                restart(held, text, encoding, order);
+                evaluate_set(&mut held.evaluation, texts, settings, outcome, places);
+            }
         },
     }
 }

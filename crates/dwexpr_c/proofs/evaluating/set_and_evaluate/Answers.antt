@@ -1,4 +1,3 @@
-use Rattle.std.proofs.Common.{sym, subst}
 use Rattle.dwarf_meaning.specs.Steps.{Evaluate}
 use Rattle.dwexpr_c.proofs.SettingsDone.{runs}
 use Rattle.dwexpr_c.proofs.evaluating.set_and_evaluate.Goals as goal

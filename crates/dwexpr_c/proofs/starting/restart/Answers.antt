@@ -8,4 +8,4 @@ use Rattle.dwexpr_c.proofs.starting.restart.Goals as goal
 pub returns-clause-fresh : goal.returns-clause-fresh
 returns-clause-fresh c =
     c.restart.ensures
-    ∙ ap (λ (l : Limits). fresh_state (setup_of c.args.reading.encoding 64 l.values l.callers l.pieces) (text_of_placed c.args.text)) c.requires.capacities
+    ∙ ap (λ (l : Limits). fresh_state (setup_of c.args.encoding 64 l.values l.callers l.pieces) (text_of_placed c.args.text)) c.requires.capacities

@@ -1,6 +1,8 @@
 -- What the program's words and the lines of its input say, next to what std's calls answer for them.
 use Rattle.std.proofs.Common.{◌≡◌, ◌≢◌, ℕ, ◌^◌, ◌<◌, ◌≤◌, ◌==◌, Bool, true, false, List, [], ◌∷◌, drop, get_or, Option, Some, None, Result, Ok, Err, OkIff, Decides, option_map, option_and_then, nat_lt, refl, sym, ◌∙◌, ap, arith, ltb-true, lt-ltb, le-ltb, lit≤, codes, ◌-◌, ℤ, pos, negsuc, neg_ℤ, FitsSigned, slice_index, w8, w16, w32, w64, if◌then◌else◌, ◌%◌, length, map, IsSome, zero, suc, ◌+◌, ◌++◌, length-append, append_assoc, append-nil, eqb-true}
 use Rattle.std.specs.Result.{result_ok}
+use Rattle.std.specs.Map.{lookup}
+use native.Mathlib.Numerals.{unary_clauses}
 use Rattle.std.specs.Char.{digit_value, is_digit}
 use Rattle.std.specs.List.{list_all, AllPass}
 use Rattle.std.specs.Str.Parse.{AllDigits, IsNumeral, digits_value, ParsesUnsigned, ParsesSigned}
@@ -181,6 +183,17 @@ six_words view _ a b c d e f least most i j k l m n = absurd (omega (arith, leas
 pub not_six : {X : Type 0} (view : X → List ℕ) (words : List X) → (length words ≡ 6 → ⊥) → invocation_in (map view words) ≡ None
 not_six view (u ∷ v ∷ w ∷ x ∷ y ∷ z ∷ []) other = absurd (other refl)
 not_six view _ other = refl
+
+-- ---- steps
+
+-- the row at an index isn't the one that is looked for
+pub passed : {X V : Type 0} (test : List ℕ → Bool) (view : X → List ℕ × V) (rows : List X) (d : X) (i : ℕ) → i < length rows
+    → test (view (get_or rows i d)).0 ≡ false
+    → lookup test (map view (drop i rows)) ≡ lookup test (map view (drop (i + 1) rows))
+passed test view [] d i some e = absurd (omega (arith, some))
+passed test view (row ∷ rows) d zero some e = rw e refl
+passed test view (row ∷ rows) d (suc i) some e =
+    let before = passed test view rows d i (omega (arith, some)) e in simp unary_clauses (simp unary_clauses at before)
 
 -- ---- lines
 

@@ -13,7 +13,7 @@ use Rattle.std.specs.Str.Lines.{strip_carriage_return}
 use Rattle.std.specs.Str.{is_utf8}
 use Rattle.dwarf_meaning.specs.declared.kinds.WaitingKind.{WaitingKind}
 use Rattle.dwarf_meaning.specs.declared.kinds.WaitingKind.TheVariants as kind
-use Rattle.dwarf_meaning.specs.Requests as requests
+use Rattle.dwarf_meaning.specs.Requests.{ValueAnswer, NumberAnswer, LocationAnswer, BaseTypeAnswer}
 use Rattle.dwarf_meaning.specs.Steps.{Step, InitialValue, ObjectAddress, MaxIterations, Evaluate, Resume}
 use Rattle.dwexpr.specs.Words.{bytes_in}
 
@@ -98,42 +98,33 @@ lines_in input = lines_within (length input) input
 
 -- ---- steps
 
--- an answer of a kind that a value answers, with the value of the word
-abbrev pub value_step : WaitingKind → (word : List ℕ) → Option Step
-value_step kind word = option_map (λ v. Resume (requests.ValueAnswer kind v)) (value_in word)
+-- the kind of request that the answer of this name is for
+abbrev pub answer_kind_in : List ℕ → Option WaitingKind
+answer_kind_in name =
+    lookup (bytes_eq name) ((codes "memory", kind.Memory) ∷ (codes "register", kind.Register)
+    ∷ (codes "wasm", kind.WasmValue) ∷ (codes "entry", kind.EntryValue) ∷ (codes "frame", kind.FrameBase)
+    ∷ (codes "tls", kind.Tls) ∷ (codes "cfa", kind.CallFrameCfa) ∷ (codes "parameter", kind.ParameterRef)
+    ∷ (codes "relocated", kind.RelocatedAddress) ∷ (codes "indexed", kind.IndexedAddress)
+    ∷ (codes "location", kind.AtLocation) ∷ (codes "type", kind.BaseType) ∷ [])
 
--- an answer of a kind that a number answers, with the number of the word
-abbrev pub number_step : WaitingKind → (word : List ℕ) → Option Step
-number_step kind word = option_map (λ n. Resume (requests.NumberAnswer kind n)) (number_in word)
-
--- the steps whose word is a number, a value or a type
-abbrev pub textless_step_in : (name word : List ℕ) → Option Step
-textless_step_in name word =
-    if bytes_eq name (codes "initial") then option_map InitialValue (number_in word)
-    else if bytes_eq name (codes "object") then option_map ObjectAddress (number_in word)
-    else if bytes_eq name (codes "max") then option_map MaxIterations (option_and_then (below 32) (number_in word))
-    else if bytes_eq name (codes "memory") then value_step kind.Memory word
-    else if bytes_eq name (codes "register") then value_step kind.Register word
-    else if bytes_eq name (codes "wasm") then value_step kind.WasmValue word
-    else if bytes_eq name (codes "entry") then value_step kind.EntryValue word
-    else if bytes_eq name (codes "frame") then number_step kind.FrameBase word
-    else if bytes_eq name (codes "tls") then number_step kind.Tls word
-    else if bytes_eq name (codes "cfa") then number_step kind.CallFrameCfa word
-    else if bytes_eq name (codes "parameter") then number_step kind.ParameterRef word
-    else if bytes_eq name (codes "relocated") then number_step kind.RelocatedAddress word
-    else if bytes_eq name (codes "indexed") then number_step kind.IndexedAddress word
-    else if bytes_eq name (codes "type") then option_map (λ t. Resume (requests.BaseTypeAnswer t)) (type_in word)
-    else None
-
--- the answer that is a text, in the byte order of the words
-abbrev pub location_step : (big : Bool) → List ℕ → Step
-location_step big bytes = Resume (requests.LocationAnswer (record { bytes = bytes; is_big = big }))
+-- the answer to a request of this kind: a value, a text in the byte order of the words, a type or a number
+abbrev pub answer_step_in : (big : Bool) → WaitingKind → (word : List ℕ) → Option Step
+answer_step_in big kind.Memory word = option_map (λ v. Resume (ValueAnswer kind.Memory v)) (value_in word)
+answer_step_in big kind.Register word = option_map (λ v. Resume (ValueAnswer kind.Register v)) (value_in word)
+answer_step_in big kind.WasmValue word = option_map (λ v. Resume (ValueAnswer kind.WasmValue v)) (value_in word)
+answer_step_in big kind.EntryValue word = option_map (λ v. Resume (ValueAnswer kind.EntryValue v)) (value_in word)
+answer_step_in big kind.AtLocation word =
+    option_map (λ bytes. Resume (LocationAnswer (record { bytes = bytes; is_big = big }))) (bytes_in word)
+answer_step_in big kind.BaseType word = option_map (λ t. Resume (BaseTypeAnswer t)) (type_in word)
+answer_step_in big other word = option_map (λ n. Resume (NumberAnswer other n)) (number_in word)
 
 -- the step of this name and word
 abbrev pub named_step_in : (big : Bool) → (name word : List ℕ) → Option Step
 named_step_in big name word =
-    if bytes_eq name (codes "location") then option_map (location_step big) (bytes_in word)
-    else textless_step_in name word
+    if bytes_eq name (codes "initial") then option_map InitialValue (number_in word)
+    else if bytes_eq name (codes "object") then option_map ObjectAddress (number_in word)
+    else if bytes_eq name (codes "max") then option_map MaxIterations (option_and_then (below 32) (number_in word))
+    else option_and_then (λ asked. answer_step_in big asked word) (answer_kind_in name)
 
 -- `evaluate`, or a name, a blank (32) and a word
 abbrev pub text_step_in : (big : Bool) → List ℕ → Option Step

@@ -3,7 +3,7 @@
 // What the program says on standard error. No contract speaks of it, and what can't be written there is lost.
 ghost use Rattle.std.specs.Prelude.{◌≡◌};
 
-use crate::steps::{BadLine, BadStep, answer_to};
+use crate::steps::{ANSWERS, BadLine, BadStep};
 use crate::words::BadWords;
 use dwarf_eval::eval::Status;
 use std::fmt::{Display, Formatter};
@@ -107,7 +107,12 @@ impl Display for BadStep {
                 Status::Start { initial: true } | Status::Complete => "evaluate, object N or max N",
                 Status::Failed(_) => "evaluate, object N, max N or an answer",
                 Status::Waiting(kind) => {
-                    return write!(f, "{}, object N or max N", answer_to(kind));
+                    for (name, form, asked) in &ANSWERS {
+                        if *asked == kind {
+                            return write!(f, "{name} {form}, object N or max N");
+                        }
+                    }
+                    "object N or max N"
                 }
             },
         };

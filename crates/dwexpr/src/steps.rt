@@ -65,50 +65,64 @@ fn value(word: &str) -> Result<Value, BadStep>
     value_of(word).ok_or(BadStep::Value)
 }
 
-/// The step of this name, with the word that follows it, unless it has a text.
-fn textless_step(name: &str, word: &str) -> Result<Step<Bytes<'static>>, BadStep>
-    ensures { option_map (step_of slice_text) (result_ok result)
-        ≡ spec.textless_step_in name.now word.now }
+/// The name of each answer, the form of its word, and the kind of request that it is for.
+pub(crate) const ANSWERS: [(&str, &str, WaitingKind); 12] = [
+    ("memory", "V", WaitingKind::Memory),
+    ("register", "V", WaitingKind::Register),
+    ("wasm", "V", WaitingKind::WasmValue),
+    ("entry", "V", WaitingKind::EntryValue),
+    ("frame", "N", WaitingKind::FrameBase),
+    ("tls", "N", WaitingKind::Tls),
+    ("cfa", "N", WaitingKind::CallFrameCfa),
+    ("parameter", "N", WaitingKind::ParameterRef),
+    ("relocated", "N", WaitingKind::RelocatedAddress),
+    ("indexed", "N", WaitingKind::IndexedAddress),
+    ("location", "HEX", WaitingKind::AtLocation),
+    ("type", "T", WaitingKind::BaseType),
+];
+
+/// The kind of request that the answer of this name is for.
+fn kind_of(name: &str) -> Option<WaitingKind>
+    ensures { result ≡ spec.answer_kind_in name.now }
 {
-    Ok(match name {
-        "evaluate" => return Err(BadStep::NotAlone),
-        "initial" => Step::InitialValue(number(word)?),
-        "object" => Step::ObjectAddress(number(word)?),
-        "max" => Step::MaxIterations(maximum(word)?),
-        "memory" => Step::Memory(value(word)?),
-        "register" => Step::Register(value(word)?),
-        "wasm" => Step::WasmValue(value(word)?),
-        "entry" => Step::EntryValue(value(word)?),
-        "frame" => Step::FrameBase(number(word)?),
-        "tls" => Step::Tls(number(word)?),
-        "cfa" => Step::CallFrameCfa(number(word)?),
-        "parameter" => Step::ParameterRef(number(word)?),
-        "relocated" => Step::RelocatedAddress(number(word)?),
-        "indexed" => Step::IndexedAddress(number(word)?),
-        "type" => Step::BaseType(type_of(word).ok_or(BadStep::Type)?),
-        _ => return Err(BadStep::Unknown),
-    })
+    for (known, _, kind) in &ANSWERS {
+        if name == *known {
+            return Some(*kind);
+        }
+    }
+    None
 }
 
-/// The form of the step that answers a request of this kind.
-pub(crate) fn answer_to(kind: WaitingKind) -> &'static str {
+/// The answer of this kind, with the word that follows its name. A text is read in this order, and kept until the
+/// program ends.
+fn answer<'t, A: Allocator + 't>(
+    alloc: A,
+    order: RunTimeEndian,
+    kind: WaitingKind,
+    word: &str,
+) -> Result<Step<Bytes<'t>>, ReadFault<BadStep>>
+    ensures { Reads (step_of slice_text) (spec.answer_step_in (is_big_of order) kind word.now) result }
+{
     match kind {
-        WaitingKind::Memory => "memory V",
-        WaitingKind::Register => "register V",
-        WaitingKind::WasmValue => "wasm V",
-        WaitingKind::EntryValue => "entry V",
-        WaitingKind::FrameBase => "frame N",
-        WaitingKind::Tls => "tls N",
-        WaitingKind::CallFrameCfa => "cfa N",
-        WaitingKind::ParameterRef => "parameter N",
-        WaitingKind::RelocatedAddress => "relocated N",
-        WaitingKind::IndexedAddress => "indexed N",
-        WaitingKind::AtLocation => "location HEX",
-        WaitingKind::BaseType => "type T",
+        WaitingKind::Memory => Ok(Step::Memory(value(word)?)),
+        WaitingKind::Register => Ok(Step::Register(value(word)?)),
+        WaitingKind::WasmValue => Ok(Step::WasmValue(value(word)?)),
+        WaitingKind::EntryValue => Ok(Step::EntryValue(value(word)?)),
+        WaitingKind::FrameBase => Ok(Step::FrameBase(number(word)?)),
+        WaitingKind::Tls => Ok(Step::Tls(number(word)?)),
+        WaitingKind::CallFrameCfa => Ok(Step::CallFrameCfa(number(word)?)),
+        WaitingKind::ParameterRef => Ok(Step::ParameterRef(number(word)?)),
+        WaitingKind::RelocatedAddress => Ok(Step::RelocatedAddress(number(word)?)),
+        WaitingKind::IndexedAddress => Ok(Step::IndexedAddress(number(word)?)),
+        WaitingKind::AtLocation => {
+            let bytes = bytes_or(alloc, word, BadStep::Bytes)?.leak();
+            Ok(Step::AtLocation(EndianSlice::new(bytes, order)))
+        }
+        WaitingKind::BaseType => Ok(Step::BaseType(type_of(word).ok_or(BadStep::Type)?)),
     }
 }
 
-/// The step of this name, with the word that follows it. A text is read in this order, and kept until the program ends.
+/// The step of this name, with the word that follows it.
 fn named_step<'t, A: Allocator + 't>(
     alloc: A,
     order: RunTimeEndian,
@@ -118,11 +132,13 @@ fn named_step<'t, A: Allocator + 't>(
     ensures { Reads (step_of slice_text) (spec.named_step_in (is_big_of order) name.now word.now)
         result }
 {
-    if name == "location" {
-        let bytes = bytes_or(alloc, word, BadStep::Bytes)?.leak();
-        return Ok(Step::AtLocation(EndianSlice::new(bytes, order)));
+    match name {
+        "evaluate" => Err(ReadFault::Bad(BadStep::NotAlone)),
+        "initial" => Ok(Step::InitialValue(number(word)?)),
+        "object" => Ok(Step::ObjectAddress(number(word)?)),
+        "max" => Ok(Step::MaxIterations(maximum(word)?)),
+        _ => answer(alloc, order, kind_of(name).ok_or(BadStep::Unknown)?, word),
     }
-    Ok(textless_step(name, word)?)
 }
 
 /// The step that a text says, in words parted by one space.

@@ -11,7 +11,7 @@ pub mod Performing
 pub mod Finishing
 pub mod Holding
 pub mod AnswerUses
-pub mod Asking
+pub mod Replying
 pub mod Resuming
 pub mod Placing
 pub mod Loads

@@ -23,8 +23,8 @@ use Rattle.dwarf_meaning.proofs.Effects.{IsUseOf, use_is}
 use Rattle.dwarf_meaning.specs.Bounds.{waiting, faults_in}
 use Rattle.dwarf_meaning.specs.Inputs.{input_of, with_status}
 use Rattle.dwarf_eval.specs.inner.StateChanges.{Total, total_after, total_used, ChangesStoreBy, Refused, Stays, Pops, TriesChange, HasTriedChange, Enters, TriesToEnter, ComesToState, ComesToStateBy, TakesAnswer, with_last, with_values, before_pushes}
-use Rattle.dwarf_eval.specs.inner.Answers.{IsWaiting, asking, asking_status}
-use Rattle.dwarf_eval.proofs.Asking.{comes_asking}
+use Rattle.dwarf_eval.specs.Permits.{IsOpenFor}
+use Rattle.dwarf_eval.specs.inner.Answers.{IsWaiting}
 use Rattle.dwarf_eval.proofs.AnswerUses.{IsOpen, IsOpenTo, open_in}
 use Rattle.dwarf_meaning.proofs.Choices.{answer_ok, answer_err, top_none, top_some}
 use Rattle.dwarf_eval.proofs.Computes.{width_old}
@@ -191,14 +191,16 @@ module _ (x : State) (waits : IsWaiting x.status) (on_answer : OnAnswer) (answer
     pub text_takes : (mid new : State) (done : Bool) → mid ≡ with_status Running x → TriesToEnter callee mid new done → TakesAnswer on_answer answer x new
     text_takes mid new done e h = text_takes_by new done (subst (λ (z : State). TriesToEnter callee z new done) e h)
 
--- an answer to a request in the place of the open one, if it is of that one's kind
-pub answer_asked : (x : State) (waits : IsWaiting x.status) (on_answer : OnAnswer) (answer : Answer) (request : Request) (new : State) → ((open_now : Request) (wanted : OnAnswer) → x.status ≡ RequestStatus open_now wanted → wanted ≡ on_answer) → kind_of_request request ≡ kind_of_answer answer → TakesAnswer on_answer answer x new
-    → ComesToState (asking request x) (total_after (asking request x) (input_of (asking request x) answer)) new
-answer_asked x waits on_answer answer request new kept fits h =
+-- an answer of the kind of the open request
+pub answer_open : (x : State) (waits : IsWaiting x.status) (on_answer : OnAnswer) (answer : Answer) (new : State) → ((open_now : Request) (wanted : OnAnswer) → x.status ≡ RequestStatus open_now wanted → wanted ≡ on_answer) → IsOpenFor (kind_of_answer answer) x.status → TakesAnswer on_answer answer x new
+    → ComesToState x (total_after x (input_of x answer)) new
+answer_open x waits on_answer answer new kept is_open h =
     let now = open_in x.status waits in
-    let is = ap (asking_status request) now.is ∙ ap (RequestStatus request) (kept now.request now.on_answer now.is) in
-    answer_comes (asking request x) on_answer answer new (record { request = request; is = is; fits = fits })
-    (comes_asking x now request (total_used x (use_of (address_bits x.setup) on_answer answer x.store.values)) new h)
+    answer_comes x on_answer answer new (record {
+      request = now.request;
+      is = now.is ∙ ap (RequestStatus now.request) (kept now.request now.on_answer now.is);
+      fits = subst (IsOpenFor (kind_of_answer answer)) now.is is_open;
+    }) h
 
 -- ---- the top becomes a value of a type
 

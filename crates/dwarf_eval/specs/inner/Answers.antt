@@ -25,29 +25,10 @@ abbrev pub IsWaiting : rest.Status → Type 0
 IsWaiting (RequestStatus request on_answer) = Unit {0}
 IsWaiting _ = ⊥
 
--- the status, if this was asked in place of what it asks
-abbrev pub asking_status : requests.Request → rest.Status → rest.Status
-asking_status request (RequestStatus other on_answer) = RequestStatus request on_answer
-asking_status request status = status
-
--- the state, if this was asked in place of what it asks
-abbrev pub asking : requests.Request → rest.State → rest.State
-asking request x = with_status (asking_status request x.status) x
-
--- if a request is open, it is this one
-abbrev pub AsksFor : Option requests.Request → rest.Status → Type 0
-AsksFor asked (RequestStatus request on_answer) = asked ≡ Some request
-AsksFor asked _ = Unit {0}
-
 -- the kind of the open request, if there is one
 abbrev pub open_kind : rest.Status → Option WaitingKind
 open_kind (RequestStatus request on_answer) = Some (kind_of_request request)
 open_kind _ = None
-
--- the kind that is kept, or else that of the open request
-abbrev pub kept_kind : Option WaitingKind → rest.Status → Option WaitingKind
-kept_kind (Some kind) status = Some kind
-kept_kind None status = open_kind status
 
 -- by the status: at the start it is fresh but for what was set, and it doesn't run
 abbrev pub IsAtRestBy : rest.State → rest.Status → Type 0
@@ -59,11 +40,6 @@ IsAtRestBy x _ = Unit {0}
 -- between calls nothing runs
 abbrev pub IsAtRest : rest.State → Type 0
 IsAtRest x = IsAtRestBy x x.status
-
--- between calls: what was asked, its kind if it is kept, and the machine
-pub record IsKept (asked : requests.Request) (kind : Option WaitingKind) (x : rest.State) : Type 0 where
-  pub rests : IsAtRest x
-  pub kind_is : kept_kind kind x.status ≡ open_kind (asking_status asked x.status)
 
 -- after the end the result is completion, and after a fault that fault
 abbrev pub IsEndedBy : {R O P : Type 0} → Result (EvaluationResult R O P) Error → rest.Status → Type 0

@@ -12,10 +12,9 @@ ghost use Rattle.dwarf_eval.specs.Evaluation.{Evaluates, HasResult, IsClosed, Is
 ghost use Rattle.dwarf_meaning.specs.Stores.{setup_of};
 ghost use Rattle.dwarf_op.specs.Views.{piece_of};
 
-use crate::eval::requests::{OpenRequest, kind_of, reply};
+use crate::eval::requests::{kind_of, reply};
 use crate::eval::states::Status;
 use crate::op::{EvaluationResult, Piece};
-use crate::run::asked::Asked;
 use crate::run::machine::Machine;
 use crate::run::states::{EvaluationState, Given};
 use crate::store::EvaluationStorage;
@@ -32,8 +31,6 @@ use std::marker::Model;
 #[derive(Drop)]
 pub struct Evaluation<R: Reader + Copy, S: EvaluationStorage<R>> {
     machine: Machine<R, S>,
-    // The machine may have another request in its place, once it is handed out.
-    waiting: OpenRequest,
 }
 
 impl<R: Reader + Copy, S: EvaluationStorage<R>> Model for Evaluation<R, S> {
@@ -41,11 +38,11 @@ impl<R: Reader + Copy, S: EvaluationStorage<R>> Model for Evaluation<R, S> {
 
     ghost Value = { State };
 
-    ghost use Rattle.dwarf_eval.specs.inner.Answers.{IsAtRest, IsKept, asking};
+    ghost use Rattle.dwarf_eval.specs.inner.Answers.{IsAtRest};
 
-    ghost view = { λ e. asking e.waiting.asked.request e.machine };
+    ghost view = { λ e. e.machine };
 
-    ghost invariant = { λ e. IsKept e.waiting.asked.request e.waiting.kind e.machine };
+    ghost invariant = { λ e. IsAtRest e.machine };
 }
 
 impl<R: Reader + Copy, S: EvaluationStorage<R>> Evaluation<R, S> {
@@ -69,10 +66,6 @@ impl<R: Reader + Copy, S: EvaluationStorage<R>> Evaluation<R, S> {
     {
         Evaluation {
             machine: Machine::new_in(bytecode, encoding, stack, expression_stack, pieces),
-            waiting: OpenRequest {
-                kind: None,
-                asked: Asked::new(),
-            },
         }
     }
 
@@ -90,7 +83,6 @@ impl<R: Reader + Copy, S: EvaluationStorage<R>> Evaluation<R, S> {
             self.old.setup.limits.pieces) (R.text bytecode) }
     {
         self.machine.restart(bytecode, encoding);
-        self.waiting.kind = None;
     }
 
     /// The kind of the open request, if there is one.
@@ -98,9 +90,6 @@ impl<R: Reader + Copy, S: EvaluationStorage<R>> Evaluation<R, S> {
     fn open_kind(&self) -> Option<WaitingKind>
         ensures { result ≡ open_kind self.now.status }
     {
-        if self.waiting.kind.is_some() {
-            return self.waiting.kind;
-        }
         match self.machine.state() {
             EvaluationState::Waiting(request) => kind_of(request),
             _ => None,
@@ -190,25 +179,25 @@ impl<R: Reader + Copy, S: EvaluationStorage<R>> Evaluation<R, S> {
         ensures admits { IfOk result (λ replied. Admits replied self.new.status) }
     {
         let EvaluationState::Start(initial_value) = *self.machine.state() else {
-            return reply(&mut self.machine, &mut self.waiting);
+            return reply(&self.machine);
         };
         self.machine.start(initial_value);
-        reply(&mut self.machine, &mut self.waiting)
+        reply(&self.machine)
     }
 
     /// Goes on with an answer.
     #[inline(always)]
     fn resume(&mut self, given: Given<R>) -> Result<EvaluationResult<R>>
-        ghost open_kind: { WaitingKind }
-        requires { IsOpenFor (kind_of_answer (answer_of R.text open_kind given)) self.old.status }
-        ensures { AnswersWith R.text R.Offset.number (answer_of R.text open_kind given)
+        ghost kind: { WaitingKind }
+        requires { IsOpenFor (kind_of_answer (answer_of R.text kind given)) self.old.status }
+        ensures { AnswersWith R.text R.Offset.number (answer_of R.text kind given)
             self.old self.new result }
     {
         if let EvaluationState::Failed(error) = self.machine.state() {
             return Err(*error);
         }
         self.machine.resume(given);
-        reply(&mut self.machine, &mut self.waiting)
+        reply(&self.machine)
     }
 
     /// Goes on with what memory holds, after `RequiresMemory`.

@@ -1,10 +1,10 @@
-ghost use Rattle.std.specs.Prelude.{◌≡◌};
 ghost use Rattle.dwarf_meaning.specs.declared.kinds.WaitingKind.{WaitingKind};
-ghost use Rattle.dwarf_meaning.specs.Kinds.{kind_of_answer, kind_of_request};
+ghost use Rattle.dwarf_meaning.specs.Kinds.{kind_of_answer};
 ghost use Rattle.dwarf_meaning.specs.Requests as requests;
 ghost use Rattle.dwarf_meaning.specs.Rest.{Running};
 ghost use Rattle.dwarf_meaning.specs.Stores.{Pushed, push_value};
-ghost use Rattle.dwarf_eval.specs.inner.Answers.{IsWaiting, answer_of, asking};
+ghost use Rattle.dwarf_eval.specs.Permits.{IsOpenFor};
+ghost use Rattle.dwarf_eval.specs.inner.Answers.{IsWaiting, answer_of};
 ghost use Rattle.dwarf_eval.specs.inner.Machine.{on_answer_of};
 ghost use Rattle.dwarf_meaning.specs.Inputs.{input_of, with_status};
 ghost use Rattle.dwarf_eval.specs.inner.StateChanges.{ComesToState, HasReply, TakesAnswer, HasTriedChange, total_after, with_last};
@@ -173,11 +173,10 @@ impl<R: Reader + Copy, S: EvaluationStorage<R>> Machine<R, S> {
     #[inline(always)]
     pub(crate) fn resume(&mut self, given: Given<R>)
         requires { IsWaiting self.old.status }
-        ensures comes { (kind : WaitingKind) → (request : requests.Request)
-            → kind_of_request request ≡ kind_of_answer (answer_of R.text kind given)
-            → ComesToState (asking request self.old)
-            (total_after (asking request self.old)
-            (input_of self.old (answer_of R.text kind given))) self.new }
+        ensures comes { (kind : WaitingKind)
+            → IsOpenFor (kind_of_answer (answer_of R.text kind given)) self.old.status
+            → ComesToState self.old
+            (total_after self.old (input_of self.old (answer_of R.text kind given))) self.new }
         ensures replies { HasReply self.new.status }
     {
         self.take(self.on_answer(), given);

@@ -2,27 +2,26 @@ use Rattle.std.proofs.Common.{sym, ◌∙◌}
 use Rattle.dwarf_meaning.specs.declared.kinds.WaitingKind.TheVariants as kind
 use Rattle.dwarf_meaning.specs.Acts.{use_of}
 use Rattle.dwarf_meaning.specs.Inputs.{input_of}
-use Rattle.dwarf_meaning.specs.Rest.{State}
 use Rattle.dwarf_meaning.specs.Stores.{address_bits}
-use Rattle.dwarf_eval.specs.inner.Answers.{answer_of, asking}
+use Rattle.dwarf_eval.specs.inner.Answers.{answer_of}
 use Rattle.dwarf_eval.specs.inner.Machine.{on_answer_of}
 use Rattle.dwarf_eval.specs.inner.StateChanges.{total_after, total_used}
 use Rattle.dwarf_eval.proofs.Reaching.{comes_more, comes_over}
-use Rattle.dwarf_eval.proofs.Resuming.{answer_asked}
+use Rattle.dwarf_eval.proofs.Resuming.{answer_open}
 use Rattle.dwarf_eval.proofs.run.machine.Machine.resume.Goals as goal
 
 pub returns-then-is_running-clause-comes : goal.returns-then-is_running-clause-comes
-returns-then-is_running-clause-comes g c = λ kind request fits.
+returns-then-is_running-clause-comes g c = λ kind is_open.
+    let x = c.args.self.now in
     let text = g.R.Reader.text in
-    let asked : State = asking request c.args.self.now in
     let answer = answer_of text kind c.args.given in
-    comes_more asked (total_after asked (input_of asked answer)) c.take.new.self c.run_on.new.self (sym c.is_running.ensures ∙ c.if-is_running.true)
-    (answer_asked c.args.self.now c.requires (on_answer_of text c.on_answer.result) answer request c.take.new.self c.on_answer.ensures fits (c.take.ensures kind)) c.run_on.ensures.comes
+    comes_more x (total_after x (input_of x answer)) c.take.new.self c.run_on.new.self (sym c.is_running.ensures ∙ c.if-is_running.true)
+    (answer_open x c.requires (on_answer_of text c.on_answer.result) answer c.take.new.self c.on_answer.ensures is_open (c.take.ensures kind)) c.run_on.ensures.comes
 
 pub returns-else-is_running-clause-comes : goal.returns-else-is_running-clause-comes
-returns-else-is_running-clause-comes g c = λ kind request fits.
+returns-else-is_running-clause-comes g c = λ kind is_open.
     let text = g.R.Reader.text in
-    answer_asked c.args.self.now c.requires (on_answer_of text c.on_answer.result) (answer_of text kind c.args.given) request c.take.new.self c.on_answer.ensures fits (c.take.ensures kind)
+    answer_open c.args.self.now c.requires (on_answer_of text c.on_answer.result) (answer_of text kind c.args.given) c.take.new.self c.on_answer.ensures is_open (c.take.ensures kind)
 
 -- an answer of any kind is used alike
 pub returns-else-is_running-clause-replies : goal.returns-else-is_running-clause-replies

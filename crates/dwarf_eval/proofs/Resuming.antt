@@ -22,7 +22,7 @@ use Rattle.dwarf_meaning.specs.Refusals.{Refusal, Never, After, refusal_after_in
 use Rattle.dwarf_meaning.proofs.Effects.{IsUseOf, use_is}
 use Rattle.dwarf_meaning.specs.Bounds.{waiting, faults_in}
 use Rattle.dwarf_meaning.specs.Inputs.{input_of, with_status}
-use Rattle.dwarf_eval.specs.inner.StateChanges.{Total, total_after, total_used, ChangesStoreBy, Refused, Stays, Pops, TriesChange, HasTriedChange, Enters, TriesToEnter, ComesToState, ComesToStateBy, TakesAnswer, with_last, with_values, before_pushes}
+use Rattle.dwarf_eval.specs.inner.StateChanges.{Total, total_after, total_used, ChangesStoreBy, Refused, Stays, Pops, TriesChange, HasTriedChange, Enters, TriesToEnter, ComesToState, ComesToStateBy, TakesAnswer, AnswersOpenRequest, with_last, with_values, before_pushes}
 use Rattle.dwarf_eval.specs.Permits.{IsOpenFor}
 use Rattle.dwarf_eval.specs.inner.Answers.{IsWaiting}
 use Rattle.dwarf_eval.proofs.AnswerUses.{IsOpen, IsOpenTo, open_in}
@@ -192,15 +192,12 @@ module _ (x : State) (waits : IsWaiting x.status) (on_answer : OnAnswer) (answer
     text_takes mid new done e h = text_takes_by new done (subst (λ (z : State). TriesToEnter callee z new done) e h)
 
 -- an answer of the kind of the open request
-pub answer_open : (x : State) (waits : IsWaiting x.status) (on_answer : OnAnswer) (answer : Answer) (new : State) → ((open_now : Request) (wanted : OnAnswer) → x.status ≡ RequestStatus open_now wanted → wanted ≡ on_answer) → IsOpenFor (kind_of_answer answer) x.status → TakesAnswer on_answer answer x new
-    → ComesToState x (total_after x (input_of x answer)) new
-answer_open x waits on_answer answer new kept is_open h =
+pub answer_open : (x : State) (waits : IsWaiting x.status) (answer : Answer) (new : State) → IsOpenFor (kind_of_answer answer) x.status → AnswersOpenRequest answer x new → ComesToState x (total_after x (input_of x answer)) new
+answer_open x waits answer new is_open h =
     let now = open_in x.status waits in
-    answer_comes x on_answer answer new (record {
-      request = now.request;
-      is = now.is ∙ ap (RequestStatus now.request) (kept now.request now.on_answer now.is);
-      fits = subst (IsOpenFor (kind_of_answer answer)) now.is is_open;
-    }) h
+    answer_comes x now.on_answer answer new
+    (record { request = now.request; is = now.is; fits = subst (IsOpenFor (kind_of_answer answer)) now.is is_open })
+    (h now.request now.on_answer now.is)
 
 -- ---- the top becomes a value of a type
 

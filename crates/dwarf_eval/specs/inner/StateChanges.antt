@@ -342,3 +342,9 @@ total_used x used refusal inputs =
 abbrev pub TakesAnswer : OnAnswer → Answer → State → State → Type 0
 TakesAnswer on_answer answer old new =
     ComesToState old (total_used old (use_of (address_bits old.setup) on_answer answer old.store.values)) new
+
+-- what the open request wants is done with the answer
+abbrev pub AnswersOpenRequest : Answer → State → State → Type 0
+AnswersOpenRequest answer old new =
+    (request : Request) → (on_answer : OnAnswer) → old.status ≡ RequestStatus request on_answer
+    → TakesAnswer on_answer answer old new

@@ -5,14 +5,13 @@ ghost use Rattle.dwarf_meaning.specs.Rest.{Running};
 ghost use Rattle.dwarf_meaning.specs.Stores.{Pushed, push_value};
 ghost use Rattle.dwarf_eval.specs.Permits.{IsOpenFor};
 ghost use Rattle.dwarf_eval.specs.inner.Answers.{IsWaiting, answer_of};
-ghost use Rattle.dwarf_eval.specs.inner.Machine.{on_answer_of};
 ghost use Rattle.dwarf_meaning.specs.Inputs.{input_of, with_status};
-ghost use Rattle.dwarf_eval.specs.inner.StateChanges.{ComesToState, HasReply, TakesAnswer, HasTriedChange, total_after, with_last};
+ghost use Rattle.dwarf_eval.specs.inner.StateChanges.{ComesToState, HasReply, TakesAnswer, AnswersOpenRequest, HasTriedChange, total_after, with_last};
 
 use crate::run::machine::Machine;
 use crate::run::states::{Given, OnAnswer};
 use crate::store::EvaluationStorage;
-use dwarf_base::Reader;
+use dwarf_base::{Reader, copy_of};
 use dwarf_value::{Value, ValueType};
 
 impl<R: Reader + Copy, S: EvaluationStorage<R>> Machine<R, S> {
@@ -29,13 +28,11 @@ impl<R: Reader + Copy, S: EvaluationStorage<R>> Machine<R, S> {
 
     /// Pushes a value, or its sum with the offset.
     #[inline(always)]
-    fn take_value(&mut self, on_answer: OnAnswer<R>, value: Value)
+    fn take_value(&mut self, value: Value)
         requires { IsWaiting self.old.status }
-        ensures { (kind : WaitingKind) →
-            TakesAnswer (on_answer_of R.text on_answer) (requests.ValueAnswer kind value)
-            self.old self.new }
+        ensures { (kind : WaitingKind) → AnswersOpenRequest (requests.ValueAnswer kind value) self.old self.new }
     {
-        match on_answer {
+        match *self.on_answer() {
             OnAnswer::Add(offset) => self.take_value_sum(value, offset),
             _ => self.push_answer(value),
         }
@@ -56,13 +53,11 @@ impl<R: Reader + Copy, S: EvaluationStorage<R>> Machine<R, S> {
 
     /// Pushes a number, or its sum with the offset.
     #[inline(always)]
-    fn take_number(&mut self, on_answer: OnAnswer<R>, number: u64)
+    fn take_number(&mut self, number: u64)
         requires { IsWaiting self.old.status }
-        ensures { (kind : WaitingKind) →
-            TakesAnswer (on_answer_of R.text on_answer) (requests.NumberAnswer kind number)
-            self.old self.new }
+        ensures { (kind : WaitingKind) → AnswersOpenRequest (requests.NumberAnswer kind number) self.old self.new }
     {
-        match on_answer {
+        match *self.on_answer() {
             OnAnswer::Add(offset) => self.take_number_sum(number, offset),
             _ => self.push_answer(Value::Generic(number)),
         }
@@ -81,13 +76,15 @@ impl<R: Reader + Copy, S: EvaluationStorage<R>> Machine<R, S> {
 
     /// Makes a value of the type: of the literal, or of the top.
     #[inline(always)]
-    fn take_base_type(&mut self, on_answer: OnAnswer<R>, base_type: ValueType)
+    fn take_base_type(&mut self, base_type: ValueType)
         requires { IsWaiting self.old.status }
-        ensures { TakesAnswer (on_answer_of R.text on_answer) (requests.BaseTypeAnswer base_type)
-            self.old self.new }
+        ensures { AnswersOpenRequest (requests.BaseTypeAnswer base_type) self.old self.new }
     {
-        match on_answer {
-            OnAnswer::Parse(literal) => self.take_literal(base_type, literal),
+        match self.on_answer() {
+            OnAnswer::Parse(literal) => {
+                let literal = copy_of(literal);
+                self.take_literal(base_type, literal)
+            }
             OnAnswer::Convert => self.take_conversion(base_type),
             _ => self.take_reinterpretation(base_type),
         }
@@ -153,19 +150,17 @@ impl<R: Reader + Copy, S: EvaluationStorage<R>> Machine<R, S> {
         self.push_caller(callee);
     }
 
-    /// Takes an answer, to do this with it.
+    /// Takes an answer, to do with it what the open request wants.
     #[inline(always)]
-    fn take(&mut self, on_answer: OnAnswer<R>, given: Given<R>)
+    fn take(&mut self, given: Given<R>)
         requires { IsWaiting self.old.status }
-        ensures { (kind : WaitingKind) →
-            TakesAnswer (on_answer_of R.text on_answer) (answer_of R.text kind given)
-            self.old self.new }
+        ensures { (kind : WaitingKind) → AnswersOpenRequest (answer_of R.text kind given) self.old self.new }
     {
         match given {
-            Given::Value(value) => self.take_value(on_answer, value),
-            Given::Number(number) => self.take_number(on_answer, number),
+            Given::Value(value) => self.take_value(value),
+            Given::Number(number) => self.take_number(number),
             Given::Location(callee) => self.take_location(callee),
-            Given::BaseType(base_type) => self.take_base_type(on_answer, base_type),
+            Given::BaseType(base_type) => self.take_base_type(base_type),
         }
     }
 
@@ -179,7 +174,7 @@ impl<R: Reader + Copy, S: EvaluationStorage<R>> Machine<R, S> {
             (total_after self.old (input_of self.old (answer_of R.text kind given))) self.new }
         ensures replies { HasReply self.new.status }
     {
-        self.take(self.on_answer(), given);
+        self.take(given);
         if self.is_running() {
             self.run_on();
         }

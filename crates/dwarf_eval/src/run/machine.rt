@@ -326,12 +326,12 @@ impl<R: Reader + Copy, S: EvaluationStorage<R>> Machine<R, S> {
 
     /// What is done with the answer to the open request.
     #[inline(always)]
-    pub(crate) fn on_answer(&self) -> OnAnswer<R>
+    pub(crate) fn on_answer(&self) -> &OnAnswer<R>
         ensures { (request : requests.Request) → (wanted : requests.OnAnswer)
             → self.now.status ≡ RequestStatus request wanted
-            → wanted ≡ on_answer_of R.text result }
+            → wanted ≡ on_answer_of R.text result.now }
     {
-        copy_of(&self.on_answer)
+        &self.on_answer
     }
 
     /// Whether the run goes on.

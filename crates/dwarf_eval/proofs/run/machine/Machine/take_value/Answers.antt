@@ -9,14 +9,15 @@ use Rattle.dwarf_eval.proofs.Resuming.{value_takes}
 use Rattle.dwarf_eval.proofs.run.machine.Machine.take_value.Goals as goal
 
 pub returns-in-Add : goal.returns-in-Add
-returns-in-Add g c = λ kind.
+returns-in-Add g c = λ kind request on_answer open_now.
     let fits : SFits w64 c.in-Add.offset = search rules in
-    subst (λ (o : OnAnswer). TakesAnswer o (ValueAnswer kind c.args.value) c.args.self.now c.take_value_sum.new.self) (ap Add (to_z-of_z w64 c.in-Add.offset fits) ∙ sym (ap (on_answer_of g.R.Reader.text) c.in-Add.is))
+    subst (λ (o : OnAnswer). TakesAnswer o (ValueAnswer kind c.args.value) c.args.self.now c.take_value_sum.new.self) (ap Add (to_z-of_z w64 c.in-Add.offset fits) ∙ sym (ap (on_answer_of g.R.Reader.text) c.in-Add.is) ∙ sym (c.on_answer.ensures request on_answer open_now))
     (c.take_value_sum.ensures kind)
 
 pub returns-in_default : goal.returns-in_default
-returns-in_default g c = λ kind.
+returns-in_default g c = λ kind request on_answer open_now.
     let text = g.R.Reader.text in
     let x = c.args.self.now in
-    value_takes x c.requires (on_answer_of text c.args.on_answer) (ValueAnswer kind c.args.value) x.store.values c.args.value
-    (plain _ x.store.values text kind c.args.value 0 c.args.on_answer c.in_default.not-Add).0 x c.push_answer.new.self refl c.push_answer.ensures
+    subst (λ (o : OnAnswer). TakesAnswer o (ValueAnswer kind c.args.value) x c.push_answer.new.self) (sym (c.on_answer.ensures request on_answer open_now))
+    (value_takes x c.requires (on_answer_of text c.on_answer.result.now) (ValueAnswer kind c.args.value) x.store.values c.args.value
+    (plain _ x.store.values text kind c.args.value 0 c.on_answer.result.now c.in_default.not-Add).0 x c.push_answer.new.self refl c.push_answer.ensures)

@@ -26,8 +26,8 @@ def build(target=HERE):
         return
     remarks = [f"commit {commit()}", f"kit {commands.run('rt', 'version').strip()}"]
     compiler.build_libraries(CRATE)
-    with compiler.building(path_of(target), CRATE, remarks):
-        words = ["--crate-type", "staticlib", "--target", target, "--toolchain", compiler.kit() / "toolchain"]
+    with compiler.building(path_of(target), CRATE, remarks), compiler.toolchain_of_placed_jumps() as toolchain:
+        words = ["--crate-type", "staticlib", "--target", target, "--toolchain", toolchain]
         compiler.run(CRATE, *compiler.build_words(CRATE, *words, "-o", path_of(target)))
 
 

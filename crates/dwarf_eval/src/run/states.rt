@@ -55,12 +55,12 @@ pub(crate) enum EvaluationState<R: Reader, O = <R as Reader>::Offset> {
     Start(Option<u64>),
     /// It runs. Between calls it never does.
     Running,
-    /// It waits for the answer to this request.
-    Waiting(EvaluationResult<R, O>),
     /// It is complete, with the value that was on top of the stack if there is one.
     Complete(Option<Value>),
     /// It met a fault.
     Failed(Error),
+    /// It waits for the answer to this request. As the last variant it is told by one comparison in Rust.
+    Waiting(EvaluationResult<R, O>),
 }
 
 impl<R: Reader + Copy, O: Copy> Clone for EvaluationState<R, O> {

@@ -27,7 +27,7 @@ PATIENCE = 20
 
 # The programs that are running, each with a group of processes of its own.
 running = set()
-guard = threading.RLock()
+guard = threading.Lock()
 is_stopping = False
 
 
@@ -47,12 +47,16 @@ class Stopped(BaseException):
 def stop(number, _frame):
     """Stops the programs that are running, and this command."""
     global is_stopping
+    # A program is being started, which isn't among those that run yet, so the signal comes again.
+    if not guard.acquire(blocking=False):
+        threading.Timer(0.01, signal.pthread_kill, (threading.main_thread().ident, number)).start()
+        return
     for each in STOPPING:
         signal.signal(each, signal.SIG_IGN)
-    with guard:
-        is_stopping = True
-        for program in running:
-            send(program, signal.SIGTERM)
+    is_stopping = True
+    for program in tuple(running):
+        send(program, signal.SIGTERM)
+    guard.release()
     raise Stopped(signal.Signals(number))
 
 
@@ -62,31 +66,38 @@ def send(program, number):
         os.killpg(program.pid, number)
 
 
+def wait_for(program):
+    """Closes the pipes to a program, and waits for its end."""
+    with program:
+        pass
+
+
 @contextlib.contextmanager
 def started(words, **settings):
     """A running program. If the block ends before it does, the program is stopped, with those that it runs."""
     words = [str(word) for word in words]
-    with guard:
-        if is_stopping:
-            raise Failure(f"{words[0]} isn't started any more")
-        try:
-            program = subprocess.Popen(words, start_new_session=True, **settings)
-        except FileNotFoundError as error:
-            raise Failure(f"{error.filename} isn't there", status=127) from None
-        except OSError as error:
-            raise Failure(f"{words[0]}: {error.strerror}", status=127) from None
-        running.add(program)
+    program = None
     try:
-        # It ends by waiting for the program.
-        with program:
+        with guard:
+            if is_stopping:
+                raise Failure(f"{words[0]} isn't started any more")
             try:
-                yield program
-            except BaseException:
-                send(program, signal.SIGTERM)
-                with contextlib.suppress(subprocess.TimeoutExpired):
-                    program.wait(PATIENCE)
-                send(program, signal.SIGKILL)
-                raise
+                program = subprocess.Popen(words, start_new_session=True, **settings)
+            except FileNotFoundError as error:
+                raise Failure(f"{error.filename} isn't there", status=127) from None
+            except OSError as error:
+                raise Failure(f"{words[0]}: {error.strerror}", status=127) from None
+            running.add(program)
+        yield program
+        wait_for(program)
+    except BaseException:
+        if program:
+            send(program, signal.SIGTERM)
+            with contextlib.suppress(subprocess.TimeoutExpired):
+                program.wait(PATIENCE)
+            send(program, signal.SIGKILL)
+            wait_for(program)
+        raise
     finally:
         running.discard(program)
 

@@ -256,7 +256,7 @@ fn rest_of_uleb128_on_copy<R: Reader + Copy>(reader: &mut R, low: u64) -> Result
 {
     let mut copy = copy_of(reader);
     let number = rest_of_uleb128(&mut copy, low);
-    *reader = copy;
+    *reader = copy_of(&copy);
     number
 }
 
@@ -292,7 +292,7 @@ fn rest_of_sleb128_on_copy<R: Reader + Copy>(reader: &mut R, low: u64) -> Result
 {
     let mut copy = copy_of(reader);
     let number = rest_of_sleb128(&mut copy, low);
-    *reader = copy;
+    *reader = copy_of(&copy);
     number
 }
 

@@ -4,11 +4,14 @@ ghost use Rattle.std.specs.Prelude.{◌≡◌, ◌<◌, length, OnOk};
 ghost use Rattle.dwarf_base.specs.declared.common.Encoding.{Encoding};
 ghost use Rattle.dwarf_base.specs.Reads.{Reads};
 ghost use Rattle.dwarf_meaning.specs.Decoding.{operation_at};
+ghost use Rattle.dwarf_meaning.specs.Opcodes.{row_of};
 ghost use Rattle.dwarf_op.specs.inner.Entries.{entry_row, operands_in, rare_row};
 ghost use Rattle.dwarf_op.specs.inner.Entries as entries;
 ghost use Rattle.dwarf_op.specs.Views.{operation_of};
 
-use crate::opcodes::{Entry, Fieldless, FromOffset, Offset, Rare, Signed, Unsigned, entry_at};
+use crate::opcodes::{
+    BREG0, BREG31, Entry, Fieldless, FromOffset, Offset, Rare, Signed, Unsigned, entry_at,
+};
 use crate::operands::{
     generic_type, read_block, read_i16, read_offset, read_register, read_signed, read_u8,
     read_unsigned,
@@ -270,7 +273,7 @@ fn read_offset_on_copy<R: Reader + Copy>(
 {
     let mut copy = copy_of(bytes);
     let operation = read_offset_operation(shape, make, &mut copy, encoding);
-    *bytes = copy;
+    *bytes = copy_of(&copy);
     operation
 }
 
@@ -335,7 +338,7 @@ fn read_rare_on_copy<R: Reader + Copy>(
 {
     let mut copy = copy_of(bytes);
     let operation = read_rare_operands(entry, &mut copy, encoding);
-    *bytes = copy;
+    *bytes = copy_of(&copy);
     operation
 }
 
@@ -418,6 +421,24 @@ fn read_operands_in_run<R: Reader + Copy>(
         Entry::Rare(entry) => Ok(read_rare_on_copy(entry, bytes, encoding)?),
         entry => read_operands(entry, opcode, bytes, encoding),
     }
+}
+
+// Reads the operands of an opcode. Base registers are met often: of a branch for them rustc makes a jump less by a
+// table, which is mispredicted more. The kit's compiler makes slower code of it.
+#[inline(always)]
+fn read_operands_by_branch<R: Reader + Copy>(
+    opcode: u8,
+    bytes: &mut R,
+    encoding: Encoding,
+) -> Result<Operation<R>>
+    ensures { Reads (operation_of R.text R.Offset.number)
+        (R.text bytes.old) (R.text bytes.new) result
+        (operands_in R.Offset.BITS (R.text bytes.old) (row_of encoding opcode)) }
+{
+    if let BREG0..=BREG31 = opcode {
+        return read_operands(entry_at(opcode), opcode, bytes, encoding);
+    }
+    read_operands(entry_at(opcode), opcode, bytes, encoding)
 }
 
 impl<R: Reader + Copy> Operation<R> {

@@ -16,9 +16,9 @@ const REG0: u8 = DW_OP_reg0.0;
 
 const REG31: u8 = DW_OP_reg31.0;
 
-const BREG0: u8 = DW_OP_breg0.0;
+pub(crate) const BREG0: u8 = DW_OP_breg0.0;
 
-const BREG31: u8 = DW_OP_breg31.0;
+pub(crate) const BREG31: u8 = DW_OP_breg31.0;
 
 // An operation without fields.
 #[derive(Clone, Copy)]

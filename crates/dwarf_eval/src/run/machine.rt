@@ -249,23 +249,9 @@ impl<R: Reader + Copy, S: EvaluationStorage<R>> Machine<R, S> {
         &self.location
     }
 
-    /// Takes a copy of the location that waits for its piece, which the last operation ended.
+    /// Takes the location that waits for its piece, which the last operation ended.
     #[inline(always)]
     pub(crate) fn take_located(&mut self) -> Location<R>
-        requires { is_free self.old.store.last ≡ false }
-        ensures located { self.old.store.last
-            ≡ Located (location_of R.text R.Offset.number result) }
-        ensures pieced { self.new ≡ with_last Pieced self.old }
-    {
-        let location = copy_of(&self.location);
-        self.mark_pieced();
-        location
-    }
-
-    /// Takes the location that waits for its piece, which the last operation ended, by a move. rustc makes faster code
-    /// of that than of a copy.
-    #[inline(always)]
-    pub(crate) fn take_located_by_move(&mut self) -> Location<R>
         requires { is_free self.old.store.last ≡ false }
         ensures located { self.old.store.last
             ≡ Located (location_of R.text R.Offset.number result) }

@@ -1,6 +1,6 @@
 //! The turns of a run: operations, the pieces after them, and ends.
 
-ghost use Rattle.std.specs.Prelude.{◌≡◌, ◌<◌, length, false};
+ghost use Rattle.std.specs.Prelude.{◌≡◌, ◌<◌, None, length, false};
 ghost use Rattle.dwarf_base.specs.Reads.{IsRestOf};
 ghost use Rattle.dwarf_meaning.specs.Operations as meant;
 ghost use Rattle.dwarf_meaning.specs.Meaning.{whole_piece as meant_whole, finish, finish_value};
@@ -189,6 +189,18 @@ impl<R: Reader + Copy, S: EvaluationStorage<R>> Machine<R, S> {
         self.complete_at(value);
     }
 
+    /// Ends the run with the location that waits for its piece. It has a function of its own, since rustc copies a
+    /// location by a jump by a table.
+    #[inline(never)]
+    fn complete_located(&mut self)
+        requires runs { self.old.status ≡ Running }
+        requires waits { is_free self.old.store.last ≡ false }
+        ensures { (location : _) → self.old.store.last ≡ Located location →
+            CompletesWith (meant_whole location) None self.old self.new }
+    {
+        self.complete(whole(copy_of(self.location())), None);
+    }
+
     /// Ends the run: with the pieces, if its last operation may follow them, or else with one piece.
     #[inline(never)]
     fn finish(&mut self)
@@ -210,12 +222,17 @@ impl<R: Reader + Copy, S: EvaluationStorage<R>> Machine<R, S> {
             self.finish_value();
             return;
         }
-        // Most are registers. One that is built anew is stored as it was, and not copied as a whole.
+        // Most are registers, and of the others most are values. One that is built anew is stored as it was, and not
+        // copied as a whole.
         if let Location::Register { register } = *self.location() {
             self.complete(whole(Location::Register { register }), None);
             return;
         }
-        self.complete(whole(copy_of(self.location())), None);
+        if let Location::Value { value } = *self.location() {
+            self.complete(whole(Location::Value { value }), None);
+            return;
+        }
+        self.complete_located();
     }
 
     /// Leaves the running text at its end.

@@ -1,6 +1,6 @@
 use Rattle.std.proofs.Common.{ap, refl, sym, ◌∙◌, None}
 use Rattle.dwarf_base.specs.declared.errors.Error.TheVariants.{InvalidPiece}
-use Rattle.dwarf_meaning.specs.Locations.{InRegister}
+use Rattle.dwarf_meaning.specs.Locations.{HoldsValue, InRegister}
 use Rattle.dwarf_meaning.specs.Meaning.{FaultOutcome, completion_of, finish_value, whole_piece}
 use Rattle.dwarf_meaning.specs.Stores.{Nothing, Plain, Pieced, Pushed, Called, Located, push_piece}
 use Rattle.dwarf_op.specs.Views.{location_of}
@@ -42,10 +42,16 @@ returns-in-Register g c =
     (closes_else 1 (λ s. FaultOutcome InvalidPiece) (λ s. completion_of None (push_piece c.args.self.now.setup (whole_piece location) s)) c.args.self.now c.complete.new.self (sym c.has_pieces.ensures ∙ c.if-has_pieces.false)
     (closes_with None _ (whole_piece location) c.args.self.now c.complete.new.self c.whole.ensures c.complete.ensures))
 
+pub returns-in-Value : goal.returns-in-Value
+returns-in-Value g c =
+    let location = HoldsValue c.in-Value.value in
+    finish_as (Located location) c.args.self.now c.complete-in-Value.new.self (c.location-2.ensures ∙ ap (λ l. Located (location_of g.R.Reader.text g.R.Offset.ReaderOffset.number l)) c.in-Value.is)
+    (closes_else 1 (λ s. FaultOutcome InvalidPiece) (λ s. completion_of None (push_piece c.args.self.now.setup (whole_piece location) s)) c.args.self.now c.complete-in-Value.new.self (sym c.has_pieces.ensures ∙ c.if-has_pieces.false)
+    (closes_with None _ (whole_piece location) c.args.self.now c.complete-in-Value.new.self c.whole-in-Value.ensures c.complete-in-Value.ensures))
+
 pub returns : goal.returns
 returns g c =
-    let location = location_of g.R.Reader.text g.R.Offset.ReaderOffset.number c.location-2.result.now in
-    let piece = whole_piece location in
-    finish_as (Located location) c.args.self.now c.complete-2.new.self c.location-2.ensures
-    (closes_else 1 (λ s. FaultOutcome InvalidPiece) (λ s. completion_of None (push_piece c.args.self.now.setup piece s)) c.args.self.now c.complete-2.new.self (sym c.has_pieces.ensures ∙ c.if-has_pieces.false)
-    (closes_with None _ piece c.args.self.now c.complete-2.new.self (rw c.copy_of.ensures at c.whole-2.ensures) c.complete-2.ensures))
+    let location = location_of g.R.Reader.text g.R.Offset.ReaderOffset.number c.location.result.now in
+    finish_as (Located location) c.args.self.now c.complete_located.new.self c.location.ensures
+    (closes_else 1 (λ s. FaultOutcome InvalidPiece) (λ s. completion_of None (push_piece c.args.self.now.setup (whole_piece location) s)) c.args.self.now c.complete_located.new.self (sym c.has_pieces.ensures ∙ c.if-has_pieces.false)
+    (c.complete_located.ensures location c.location.ensures))

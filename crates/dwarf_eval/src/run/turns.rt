@@ -1,9 +1,9 @@
 //! The turns of a run: operations, the pieces after them, and ends.
 
-ghost use Rattle.std.specs.Prelude.{◌≡◌, ◌<◌, None, length, false};
+ghost use Rattle.std.specs.Prelude.{◌≡◌, ◌<◌, None, length, false, true};
 ghost use Rattle.dwarf_base.specs.Reads.{IsRestOf};
 ghost use Rattle.dwarf_meaning.specs.Operations as meant;
-ghost use Rattle.dwarf_meaning.specs.Meaning.{whole_piece as meant_whole, finish, finish_value};
+ghost use Rattle.dwarf_meaning.specs.Meaning.{whole_piece as meant_whole, finish, finish_value, has_pieces};
 ghost use Rattle.dwarf_eval.specs.inner.Answers.{IsAtRestBy};
 ghost use Rattle.dwarf_meaning.specs.Rest.{Running, Start};
 ghost use Rattle.dwarf_meaning.specs.RunLaws.{waits_of};
@@ -173,6 +173,7 @@ impl<R: Reader + Copy, S: EvaluationStorage<R>> Machine<R, S> {
     }
 
     /// Ends the run with the value on top.
+    #[inline(never)]
     fn finish_value(&mut self)
         requires { self.old.status ≡ Running }
         ensures { Closes 0 (finish_value self.old.setup) self.old self.new }
@@ -201,21 +202,32 @@ impl<R: Reader + Copy, S: EvaluationStorage<R>> Machine<R, S> {
         self.complete(whole(copy_of(self.location())), None);
     }
 
-    /// Ends the run: with the pieces, if its last operation may follow them, or else with one piece.
+    /// Ends the run with the pieces, if its last operation may follow them.
+    #[inline(never)]
+    fn finish_pieces(&mut self)
+        requires runs { self.old.status ≡ Running }
+        requires pieces { has_pieces self.old.store.pieces ≡ true }
+        ensures { Closes (waits_of self.old.store.last) (finish self.old.setup) self.old self.new }
+    {
+        match self.last() {
+            LastOperation::Nothing => self.end(None),
+            LastOperation::Plain => self.fail(Error::InvalidPiece),
+            LastOperation::Pieced => self.end(None),
+            LastOperation::Pushed => self.fail(Error::InvalidPiece),
+            LastOperation::Called => self.end(None),
+            LastOperation::Located => self.fail(Error::InvalidPiece),
+        }
+    }
+
+    /// Ends the run: with the pieces, if there are any, or else with one piece. Its calls are its last acts, so it saves
+    /// no register.
     #[inline(never)]
     fn finish(&mut self)
         requires { self.old.status ≡ Running }
         ensures { Closes (waits_of self.old.store.last) (finish self.old.setup) self.old self.new }
     {
         if self.has_pieces() {
-            match self.last() {
-                LastOperation::Nothing => self.end(None),
-                LastOperation::Plain => self.fail(Error::InvalidPiece),
-                LastOperation::Pieced => self.end(None),
-                LastOperation::Pushed => self.fail(Error::InvalidPiece),
-                LastOperation::Called => self.end(None),
-                LastOperation::Located => self.fail(Error::InvalidPiece),
-            }
+            self.finish_pieces();
             return;
         }
         if self.is_free() {

@@ -12,11 +12,7 @@ static int answer(const dwexpr_outcome *asked, const dwexpr_texts *texts, const 
 {
     uint64_t *number = &step->number;
     dwexpr_text block;
-    /* not the answer before, if a callback writes none */
     step->value_type = asked->base_type ? DWEXPR_NO_TYPE : DWEXPR_GENERIC;
-    step->number = 0;
-    called->bytes = NULL;
-    called->length = 0;
     if (asked->base_type) {
         int failed = calls->base_type ? calls->base_type(context, asked->base_type, &step->value_type) : -1;
         if (failed || step->value_type == DWEXPR_NO_TYPE)
@@ -42,6 +38,8 @@ static int answer(const dwexpr_outcome *asked, const dwexpr_texts *texts, const 
         return calls->cfa ? calls->cfa(context, number) : -1;
     case DWEXPR_WANTS_LOCATION:
         step->kind = DWEXPR_ANSWER_LOCATION;
+        called->bytes = NULL;
+        called->length = 0;
         return calls->location ? calls->location(context, asked->flag != 0, asked->number, called) : -1;
     case DWEXPR_WANTS_ENTRY_VALUE:
         step->kind = DWEXPR_ANSWER_ENTRY_VALUE;
@@ -82,12 +80,13 @@ uint32_t dwexpr_run_in(dwexpr_evaluation *evaluation, const dwexpr_settings *set
                        dwexpr_encoding encoding, const dwexpr_callbacks *calls, void *context, int *refusal,
                        dwexpr_texts *texts, dwexpr_outcome *outcome, dwexpr_piece *pieces, size_t pieces_length)
 {
-    dwexpr_step step = {DWEXPR_EVALUATE, DWEXPR_NO_TYPE, 0, 0};
     uint32_t code;
     texts->items[0] = text;
     texts->length = 1;
     code = dwexpr_evaluation_evaluate(evaluation, texts->items, 1, encoding, settings, outcome, pieces, pieces_length);
     while (code == DWEXPR_OK && outcome->request != DWEXPR_COMPLETE) {
+        /* not the answer before, if a callback writes none */
+        dwexpr_step step = {0};
         dwexpr_text called;
         int refused = answer(outcome, texts, calls, context, &step, &called);
         if (refused) {

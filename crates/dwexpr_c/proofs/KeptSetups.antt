@@ -5,8 +5,9 @@ use Rattle.dwarf_meaning.specs.Kinds.{kind_of_answer}
 use Rattle.dwarf_meaning.specs.Requests as requests
 use Rattle.dwarf_meaning.specs.Rest.{State, Status, Start, RequestStatus, CompleteStatus, FaultStatus}
 use Rattle.dwarf_meaning.specs.Stores.{Setup}
-use Rattle.dwarf_meaning.specs.Steps.{Step, InitialValue, ObjectAddress, MaxIterations, Evaluate, Resume}
-use Rattle.dwarf_eval.specs.Evaluation.{Evaluates, Resumes, input_of, IsClosed, IsReplied, reply_of}
+use Rattle.dwarf_meaning.specs.Steps.{Step, InitialValue, ObjectAddress, MaxIterations, Evaluate, Resume, CompleteReply, RequestReply, FaultReply}
+use Rattle.dwarf_base.specs.Faults.{fault_of}
+use Rattle.dwarf_eval.specs.Evaluation.{Evaluates, Resumes, input_of, IsClosed, IsComplete, IsReplied, reply_of}
 use Rattle.dwarf_eval.specs.Permits.{IsOpenFor}
 use Rattle.dwarf_eval.specs.declared.op.results.EvaluationResult.{EvaluationResult}
 use Rattle.dwarf_eval.specs.declared.op.results.EvaluationResult.TheVariants as replied
@@ -22,6 +23,13 @@ use Rattle.dwexpr_c.specs.declared.outcomes.DwexprOutcome.{DwexprOutcome}
 use Rattle.dwexpr_c.specs.declared.places.Placed.{Placed}
 use Rattle.dwexpr_c.specs.declared.steps.DwexprStep.{DwexprStep}
 use Rattle.dwexpr_c.specs.declared.steps.DwexprText.{DwexprText}
+
+-- after the reply that it is complete
+pub complete_by : (status : Status) → IsReplied CompleteReply status → IsComplete status
+complete_by (CompleteStatus value) e = tt
+complete_by (RequestStatus request on_answer) e = absurd (let s : CompleteReply ≡ RequestReply request = e in cc)
+complete_by (FaultStatus error) e = absurd (let s : CompleteReply ≡ FaultReply (fault_of error) = e in cc)
+complete_by _ e = absurd e
 
 module _ (x new : State) where
   same_keeps : new ≡ x → new.setup ≡ x.setup
@@ -80,6 +88,10 @@ module _ (x new : State) where
     step_keeps (Ok step) index before after Complete h = (replied_by (Ok replied.Complete) step h).setup
     step_keeps (Err code) index before after Set h = absurd h.0
     step_keeps (Err code) index before after _ h = absurd h
+
+    pub step_completes : (said : Result Step ℕ) (index : ℕ) (before after : DwexprOutcome) → DoesStep texts said index x new before after Complete → IsComplete new.status
+    step_completes (Ok step) index before after h = complete_by new.status (replied_by (Ok replied.Complete) step h).status
+    step_completes (Err code) index before after h = absurd h
 
 -- the limits stay as the steps lead on
 pub limits_stay : (first : State) (texts : List DwexprText) (numbers : List DwexprStep) (new : State) (out : DwexprOutcome) → StandsAfter first texts numbers new out → new.setup.limits ≡ first.setup.limits

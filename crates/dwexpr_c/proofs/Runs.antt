@@ -9,8 +9,8 @@ use Rattle.dwarf_meaning.specs.Meaning.{Outcome, RequestOutcome, FaultOutcome, C
 use Rattle.dwarf_meaning.specs.Requests.{Request}
 use Rattle.dwarf_meaning.specs.Rest.{State, Status, Start, RequestStatus, CompleteStatus, FaultStatus}
 use Rattle.dwarf_meaning.specs.Steps as meaning
-use Rattle.dwarf_meaning.specs.Steps.{Step, InitialValue, ObjectAddress, MaxIterations, Log, Reply, CompleteReply, RequestReply, FaultReply, Allows, AllAllowed, after_steps, outcome_of}
-use Rattle.dwarf_eval.specs.Evaluation.{IsReplied, reply_of, ok_reply}
+use Rattle.dwarf_meaning.specs.Steps.{Step, InitialValue, ObjectAddress, MaxIterations, Log, Reply, FaultReply, Allows, AllAllowed, after_steps, outcome_of}
+use Rattle.dwarf_eval.specs.Evaluation.{IsComplete, IsReplied, reply_of, ok_reply}
 use Rattle.dwarf_eval.specs.declared.op.results.EvaluationResult.{EvaluationResult}
 use Rattle.dwarf_eval.specs.declared.op.results.EvaluationResult.TheVariants as replied
 use Rattle.dwarf_replay.specs.Replays.{StandsAt, IsInRequest, IsInFault}
@@ -32,7 +32,7 @@ use Rattle.dwexpr_c.specs.declared.places.Placed.{Placed}
 use Rattle.dwexpr_c.specs.declared.steps.DwexprStep.{DwexprStep}
 use Rattle.dwexpr_c.specs.declared.steps.DwexprText.{DwexprText}
 use Rattle.dwexpr_c.proofs.Given.{asks_somewhere, pieces_somewhere}
-use Rattle.dwexpr_c.proofs.KeptSetups.{replied_by, set_keeps}
+use Rattle.dwexpr_c.proofs.KeptSetups.{complete_by, replied_by, set_keeps}
 use Rattle.dwexpr_c.proofs.StepsDone.{Done, done_never, fault_replied, has_done, refused, replied_there, stands_by, stops_more}
 use Rattle.dwarf_meaning.specs.Locations.{Piece}
 use Rattle.dwexpr_c.specs.declared.pieces.DwexprPiece.{DwexprPiece}
@@ -45,10 +45,8 @@ shows_asked texts out reply (CompleteStatus value) e h = absurd (subst (λ (r : 
 shows_asked texts out reply (FaultStatus error) e h = absurd (subst (λ (r : Reply). ShowsReply texts r out) e h)
 shows_asked texts out reply _ e h = absurd e
 
-shows_complete : (texts : List DwexprText) (out : DwexprOutcome) (status : Status) → IsReplied CompleteReply status → ShowsStatus texts status Complete out
+shows_complete : (texts : List DwexprText) (out : DwexprOutcome) (status : Status) → IsComplete status → ShowsStatus texts status Complete out
 shows_complete texts out (CompleteStatus value) e = refl
-shows_complete texts out (RequestStatus request on_answer) e = absurd (let s : CompleteReply ≡ RequestReply request = e in cc)
-shows_complete texts out (FaultStatus error) e = absurd (let s : CompleteReply ≡ FaultReply (fault_of error) = e in cc)
 shows_complete texts out _ e = absurd e
 
 -- a setting changes nothing of what is shown
@@ -129,7 +127,7 @@ module _ (texts : List DwexprText) (all : List DwexprStep) (index : ℕ) (at : D
     next_by now (Ok step) Asked is h goes_on =
         next_called now Asked step is h.result h.called (shows_asked texts now (ok_reply text_of_placed (λ x. x) h.result) new.status (replied_by x new (Ok h.result) step h.called).status h.shown)
     next_by now (Ok step) Complete is h goes_on =
-        next_called now Complete step is replied.Complete h (shows_complete texts now new.status (replied_by x new (Ok replied.Complete) step h).status)
+        next_called now Complete step is replied.Complete h (shows_complete texts now new.status (complete_by new.status (replied_by x new (Ok replied.Complete) step h).status))
     next_by now (Ok step) Ended is h goes_on = absurd (goes_on refl)
     next_by now (Err code) Set is h goes_on = absurd h.0
     next_by now (Err code) Ended is h goes_on = absurd (goes_on refl)

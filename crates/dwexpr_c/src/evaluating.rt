@@ -3,7 +3,7 @@
 ghost use Rattle.std.specs.Prelude.{◌≡◌, Bool, IfNone, IfSome, IsOkAnd, List, None, Ok, Some, option_map, slice_get};
 ghost use Rattle.dwarf_base.specs.ByteOrder.{is_big_of};
 ghost use Rattle.dwarf_meaning.specs.Inputs.{with_maximum, with_object, with_status};
-ghost use Rattle.dwarf_eval.specs.Evaluation.{IsClosed};
+ghost use Rattle.dwarf_eval.specs.Evaluation.{IsClosed, IsComplete};
 ghost use Rattle.dwarf_meaning.specs.Rest.{Start, State};
 ghost use Rattle.dwarf_meaning.specs.Steps.{MaxIterations, Step};
 ghost use Rattle.dwarf_replay.specs.Stepping.{HasReplied};
@@ -24,7 +24,7 @@ use crate::settings::DwexprSettings;
 use crate::step_kinds;
 use crate::steps::{DwexprStep, DwexprText, generic_in, step_of};
 use dwarf_base::{Result, RunTimeEndian};
-use dwarf_eval::eval::{Evaluation, Status, WaitingKind};
+use dwarf_eval::eval::{Evaluation, WaitingKind};
 use dwarf_eval::op::EvaluationResult;
 use dwarf_eval::store::EvaluationStorage;
 use dwarf_op::Piece;
@@ -308,28 +308,23 @@ fn set_and_evaluate<'a, S: EvaluationStorage<Placed<'a>>>(
     show_reply(texts, evaluation.evaluate(), 1 + objects + values, outcome)
 }
 
-/// Shows the value and the pieces of an evaluation that is complete, or that some bytes are nowhere, which never comes
-/// of a start.
+/// Shows the value and the pieces of a complete evaluation, or that some bytes are nowhere, which never comes of a start.
 #[inline(always)]
-pub(crate) fn show_status<'a, S: EvaluationStorage<Placed<'a>>>(
+pub(crate) fn show_results<'a, S: EvaluationStorage<Placed<'a>>>(
     evaluation: &Evaluation<Placed<'a>, S>,
     texts: &[DwexprText<'a>],
     count: usize,
     outcome: &mut DwexprOutcome,
     places: &mut [DwexprPiece],
 )
+    requires { IsComplete evaluation.now.status }
     ensures { FinishesOutcome texts.now count evaluation.now.store.pieces outcome.old outcome.new
         places.old places.new evaluation.now.status }
 {
-    match evaluation.status() {
-        Status::Complete => {
-            let pieces = evaluation.as_result();
-            *outcome = show_complete(pieces.len(), evaluation.value_result());
-            if !write_pieces(texts, pieces, places) {
-                *outcome = show_end(code_alone(LOST_TEXT), count);
-            }
-        }
-        _ => {}
+    let pieces = evaluation.as_result();
+    *outcome = show_complete(pieces.len(), evaluation.value_result());
+    if !write_pieces(texts, pieces, places) {
+        *outcome = show_end(code_alone(LOST_TEXT), count);
     }
 }
 
@@ -352,7 +347,7 @@ pub(crate) fn evaluate_set<'a, S: EvaluationStorage<Placed<'a>>>(
 {
     match set_and_evaluate(evaluation, texts, settings, outcome) {
         Progress::Set => *outcome = BLANK,
-        Progress::Complete => show_status(evaluation, texts, 0, outcome, places),
+        Progress::Complete => show_results(evaluation, texts, 0, outcome, places),
         Progress::Asked | Progress::Ended => {}
     }
 }
@@ -376,7 +371,7 @@ pub(crate) fn evaluate_steps<'a, S: EvaluationStorage<Placed<'a>>>(
 {
     match do_steps(evaluation, texts, order, steps, outcome) {
         Progress::Set => *outcome = BLANK,
-        Progress::Complete => show_status(evaluation, texts, steps.len(), outcome, places),
+        Progress::Complete => show_results(evaluation, texts, steps.len(), outcome, places),
         Progress::Asked | Progress::Ended => {}
     }
 }

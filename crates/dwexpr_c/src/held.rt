@@ -4,9 +4,10 @@ ghost use Rattle.std.specs.Prelude.{◌≡◌, Option, None, Some};
 ghost use Rattle.dwexpr_c.specs.declared.held.Held.{Held};
 ghost use Rattle.dwexpr_c.specs.Held.{IsUnstarted};
 
+use crate::encodings::{DwexprEncoding, KeptEncoding};
 use crate::places::Placed;
 use arrayvec::ArrayVec;
-use dwarf_base::{Encoding, Format, Reader, RunTimeEndian};
+use dwarf_base::{Reader, RunTimeEndian};
 use dwarf_eval::eval::Evaluation;
 use dwarf_eval::store::EvaluationStorage;
 use dwarf_op::Piece;
@@ -24,32 +25,37 @@ impl<R: Reader + Copy + Default> EvaluationStorage<R> for Fixed {
     type Result = ArrayVec<Piece<R>, 32>;
 }
 
-/// An evaluation, and the byte order of its texts.
+/// An evaluation, the byte order of its texts, and the encoding of the last of them.
 #[derive(Drop)]
 pub struct Held<'a> {
     pub(crate) evaluation: Evaluation<Placed<'a>, Fixed>,
     pub(crate) order: RunTimeEndian,
+    pub(crate) encoding: KeptEncoding,
 }
 
 /// An evaluation of no bytes, before it is started with a text.
 pub(crate) fn fresh_held<'a>() -> Held<'a>
     ensures { IsUnstarted result }
 {
-    let order = RunTimeEndian::Little;
-    let encoding = Encoding {
+    let numbers = DwexprEncoding {
         address_size: 8,
-        format: Format::Dwarf32,
+        offset_size: 4,
+        big_endian: 0,
         version: 5,
+    };
+    let Some(encoding) = KeptEncoding::of(numbers) else {
+        unreachable!();
     };
     Held {
         evaluation: Evaluation::new_in(
-            Placed::new(&[], order, 0),
-            encoding,
+            Placed::new(&[], encoding.order(), 0),
+            encoding.encoding(),
             ArrayVec::new(),
             ArrayVec::new(),
             ArrayVec::new(),
         ),
-        order,
+        order: encoding.order(),
+        encoding,
     }
 }
 

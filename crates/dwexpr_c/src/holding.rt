@@ -13,13 +13,14 @@ ghost use Rattle.dwexpr_c.specs.CallerTexts.{text_at};
 ghost use Rattle.dwexpr_c.specs.declared.faults.TheConstants as codes;
 
 use crate::encodings::DwexprEncoding;
-use crate::evaluating::{Progress, do_answer, show_status};
+use crate::evaluating::{Progress, do_answer, show_results};
 use crate::held::{DwexprEvaluation, Held, fresh_held};
 use crate::outcomes::{BLANK, DwexprOutcome};
 use crate::pieces::DwexprPiece;
 use crate::settings::DwexprSettings;
 use crate::starting::{evaluate_first, start};
 use crate::steps::{DwexprStep, DwexprText};
+use dwarf_eval::eval::Status;
 
 /// Shows nothing, or the end.
 #[cold]
@@ -34,7 +35,9 @@ fn show_set<'a>(
         places.old places.new held.now.evaluation.status }
 {
     *outcome = BLANK;
-    show_status(&held.evaluation, texts, 0, outcome, places);
+    if let Status::Complete = held.evaluation.status() {
+        show_results(&held.evaluation, texts, 0, outcome, places);
+    }
 }
 
 /// Takes one more step, and shows what it answered.
@@ -52,7 +55,7 @@ fn resume(
 {
     match do_answer(&mut held.evaluation, texts, held.order, &step, outcome) {
         Progress::Set => show_set(held, texts, outcome, places),
-        Progress::Complete => show_status(&held.evaluation, texts, 0, outcome, places),
+        Progress::Complete => show_results(&held.evaluation, texts, 0, outcome, places),
         Progress::Asked | Progress::Ended => {}
     }
 }

@@ -62,75 +62,120 @@ fn piece_of_kind(kind: u32, size_in_bits: Option<u64>, bit_offset: Option<u64>) 
     }
 }
 
-/// Writes a piece that holds a value.
+/// Writes a piece that holds a value, and gives back that it did.
 #[inline(never)]
-fn show_value(value: Value, size: Option<u64>, offset: Option<u64>, shown: &mut DwexprPiece)
-    ensures { shown.new ≡ record (piece_of_kind piece_kinds.HOLDS_VALUE size offset) {
-      value_type = (shown_value value).value_type;
-      number = (shown_value value).content;
-    } }
+fn show_value(value: &Value, piece: &Piece<Placed<'_>>, shown: &mut DwexprPiece) -> bool
+    ensures shown { shown.new
+        ≡ record (piece_of_kind piece_kinds.HOLDS_VALUE piece.now.size_in_bits piece.now.bit_offset) {
+          value_type = (shown_value value.now).value_type;
+          number = (shown_value value.now).content;
+        } }
+    ensures written { result ≡ true }
 {
-    let numbers = numbers_of_value(value);
+    let numbers = numbers_of_value(*value);
     *shown = DwexprPiece {
         value_type: numbers.value_type,
         number: numbers.content,
-        ..piece_of_kind(piece_kinds::HOLDS_VALUE, size, offset)
+        ..piece_of_kind(
+            piece_kinds::HOLDS_VALUE,
+            piece.size_in_bits,
+            piece.bit_offset,
+        )
     };
+    true
 }
 
 /// Writes a piece that holds bytes; `false` if they are nowhere.
 #[inline(never)]
 fn show_bytes(
     texts: &[DwexprText<'_>],
-    bytes: Placed<'_>,
-    size: Option<u64>,
-    offset: Option<u64>,
+    bytes: &Placed<'_>,
+    piece: &Piece<Placed<'_>>,
     shown: &mut DwexprPiece,
 ) -> bool
     ensures some { result ≡ true
-        → ShowsLocation texts.now size offset (HoldsBytes (text_of_placed bytes.entry)) shown.new }
+        → ShowsLocation texts.now piece.now.size_in_bits piece.now.bit_offset
+        (HoldsBytes (text_of_placed bytes.now)) shown.new }
     ensures none { result ≡ false
-        → IsNowhere texts.now (text_of_placed bytes.entry).bytes }
+        → IsNowhere texts.now (text_of_placed bytes.now).bytes }
 {
-    let Some(place) = place_of(texts, bytes) else {
+    let Some(place) = place_of(texts, *bytes) else {
         return false;
     };
     *shown = DwexprPiece {
         block_text: place.text,
         block_offset: place.offset,
         block_length: bytes.len(),
-        ..piece_of_kind(piece_kinds::HOLDS_BYTES, size, offset)
+        ..piece_of_kind(
+            piece_kinds::HOLDS_BYTES,
+            piece.size_in_bits,
+            piece.bit_offset,
+        )
     };
     true
 }
 
-/// Writes a piece where the caller wants it; `false` if its bytes are nowhere.
-// Its calls are its last acts, so it needs no frame.
-fn show_piece(texts: &[DwexprText<'_>], piece: &Piece<Placed<'_>>, shown: &mut DwexprPiece) -> bool
+/// Writes a piece, whatever it is; `false` if its bytes are nowhere. Its calls are its last acts, so it needs no frame.
+#[inline(never)]
+fn show_any_piece(
+    texts: &[DwexprText<'_>],
+    piece: &Piece<Placed<'_>>,
+    shown: &mut DwexprPiece,
+) -> bool
     ensures some { result ≡ true
         → ShowsPiece texts.now (piece_of text_of_placed (λ x. x) piece.now) shown.new }
     ensures none { result ≡ false
         → HoldsNowhere texts.now (piece_of text_of_placed (λ x. x) piece.now).location }
 {
     let (size, offset) = (piece.size_in_bits, piece.bit_offset);
-    match piece.location {
+    match &piece.location {
         Location::Empty => *shown = piece_of_kind(piece_kinds::EMPTY, size, offset),
         Location::Register { register } => *shown = DwexprPiece {
             number: u64::from(register.0),
             ..piece_of_kind(piece_kinds::IN_REGISTER, size, offset)
         },
         Location::Address { address } => *shown = DwexprPiece {
-            number: address,
+            number: *address,
             ..piece_of_kind(piece_kinds::AT_ADDRESS, size, offset)
         },
-        Location::Value { value } => show_value(value, size, offset, shown),
-        Location::Bytes { value } => return show_bytes(texts, value, size, offset, shown),
+        // Most values are.
+        Location::Value {
+            value: Value::Generic(content),
+        } => *shown = DwexprPiece {
+            value_type: types::GENERIC,
+            number: *content,
+            ..piece_of_kind(piece_kinds::HOLDS_VALUE, size, offset)
+        },
+        Location::Value { value } => return show_value(value, piece, shown),
+        Location::Bytes { value } => return show_bytes(texts, value, piece, shown),
         Location::ImplicitPointer { value, byte_offset } => *shown = DwexprPiece {
             number: value.0 as u64,
-            byte_offset,
+            byte_offset: *byte_offset,
             ..piece_of_kind(piece_kinds::POINTS_INTO, size, offset)
         },
     }
+    true
+}
+
+/// Does the same. Most are registers, which are written in line.
+#[inline(always)]
+fn show_piece(texts: &[DwexprText<'_>], piece: &Piece<Placed<'_>>, shown: &mut DwexprPiece) -> bool
+    ensures some { result ≡ true
+        → ShowsPiece texts.now (piece_of text_of_placed (λ x. x) piece.now) shown.new }
+    ensures none { result ≡ false
+        → HoldsNowhere texts.now (piece_of text_of_placed (λ x. x) piece.now).location }
+{
+    let Location::Register { register } = piece.location else {
+        return show_any_piece(texts, piece, shown);
+    };
+    *shown = DwexprPiece {
+        number: u64::from(register.0),
+        ..piece_of_kind(
+            piece_kinds::IN_REGISTER,
+            piece.size_in_bits,
+            piece.bit_offset,
+        )
+    };
     true
 }
 

@@ -1,2 +1,1 @@
 pub mod EqualOperations
-pub mod Blocks

@@ -1,445 +1,36 @@
-//! Reading the operation at the front of a text.
+//! The operation at the front of a text: the table of opcodes, and what is made of their operands.
 
 ghost use Rattle.std.specs.Prelude.{◌≡◌, ◌<◌, length, OnOk};
-ghost use Rattle.dwarf_base.specs.declared.common.Encoding.{Encoding};
 ghost use Rattle.dwarf_base.specs.Reads.{Reads};
 ghost use Rattle.dwarf_meaning.specs.Decoding.{operation_at};
 ghost use Rattle.dwarf_meaning.specs.Opcodes.{row_of};
-ghost use Rattle.dwarf_op.specs.inner.Entries.{entry_row, operands_in, rare_row};
-ghost use Rattle.dwarf_op.specs.inner.Entries as entries;
+ghost use Rattle.dwarf_op.specs.inner.Entries.{block_operation, operand_of, operands_in, operation_by, row_of_block, row_of_one, row_of_two};
 ghost use Rattle.dwarf_op.specs.Views.{operation_of};
 
-use crate::opcodes::{
-    BREG0, BREG31, Entry, Fieldless, FromOffset, Offset, Rare, Signed, Unsigned, entry_at,
+use crate::operands::Shape::{
+    self, Absent, Address, I8, I16, I32, I64, Offset, PieceSize, Reference, RegisterNumber,
+    SectionOffset, Sleb128, U8, U16, U32, U64, Uleb128, WasmIndex,
 };
-use crate::operands::{
-    generic_type, read_block, read_i16, read_offset, read_register, read_signed, read_u8,
-    read_unsigned,
-};
+use crate::operands::{Operand, WasmPlace, read_operand};
 use crate::operations::{DieReference, Operation};
+use dwarf_base::constants::*;
 use dwarf_base::{
-    DebugAddrIndex, DebugInfoOffset, DwOp, Encoding, Error, Reader, Register, Result, UnitOffset,
-    constants, copy_of,
+    DebugAddrIndex, DebugInfoOffset, Encoding, Error, Reader, ReaderOffset, Register, Result,
+    UnitOffset,
 };
 
-#[inline(always)]
-fn fieldless_operation<R: Reader>(operation: Fieldless) -> Operation<R>
-    ensures { operation_of R.text R.Offset.number result ≡ entries.fieldless_operation operation }
-{
-    match operation {
-        Fieldless::Drop => Operation::Drop,
-        Fieldless::Swap => Operation::Swap,
-        Fieldless::Rot => Operation::Rot,
-        Fieldless::Abs => Operation::Abs,
-        Fieldless::And => Operation::And,
-        Fieldless::Div => Operation::Div,
-        Fieldless::Minus => Operation::Minus,
-        Fieldless::Mod => Operation::Mod,
-        Fieldless::Mul => Operation::Mul,
-        Fieldless::Neg => Operation::Neg,
-        Fieldless::Not => Operation::Not,
-        Fieldless::Or => Operation::Or,
-        Fieldless::Plus => Operation::Plus,
-        Fieldless::Shl => Operation::Shl,
-        Fieldless::Shr => Operation::Shr,
-        Fieldless::Shra => Operation::Shra,
-        Fieldless::Xor => Operation::Xor,
-        Fieldless::Eq => Operation::Eq,
-        Fieldless::Ge => Operation::Ge,
-        Fieldless::Gt => Operation::Gt,
-        Fieldless::Le => Operation::Le,
-        Fieldless::Lt => Operation::Lt,
-        Fieldless::Ne => Operation::Ne,
-        Fieldless::Nop => Operation::Nop,
-        Fieldless::PushObjectAddress => Operation::PushObjectAddress,
-        Fieldless::TLS => Operation::TLS,
-        Fieldless::CallFrameCFA => Operation::CallFrameCFA,
-        Fieldless::StackValue => Operation::StackValue,
-        Fieldless::Uninitialized => Operation::Uninitialized,
-    }
-}
+// The first opcode and the last of each range.
+const LIT0: u8 = DW_OP_lit0.0;
 
-#[inline(always)]
-fn offset_operation<R: Reader>(make: FromOffset, offset: R::Offset) -> Operation<R>
-    ensures { operation_of R.text R.Offset.number result
-        ≡ entries.offset_operation make (R.Offset.number offset) }
-{
-    match make {
-        FromOffset::UnitCall => Operation::Call {
-            offset: DieReference::UnitRef(UnitOffset(offset)),
-        },
-        FromOffset::InfoCall => Operation::Call {
-            offset: DieReference::DebugInfoRef(DebugInfoOffset(offset)),
-        },
-        FromOffset::ParameterRef => Operation::ParameterRef {
-            offset: UnitOffset(offset),
-        },
-        FromOffset::AddressIndex => Operation::AddressIndex {
-            index: DebugAddrIndex(offset),
-        },
-        FromOffset::ConstantIndex => Operation::ConstantIndex {
-            index: DebugAddrIndex(offset),
-        },
-        FromOffset::Convert => Operation::Convert {
-            base_type: UnitOffset(offset),
-        },
-        FromOffset::Reinterpret => Operation::Reinterpret {
-            base_type: UnitOffset(offset),
-        },
-        FromOffset::VariableValue => Operation::VariableValue {
-            offset: DebugInfoOffset(offset),
-        },
-    }
-}
+const LIT31: u8 = DW_OP_lit31.0;
 
-// A register, and an offset from what it holds.
-#[tactic(auto, using(dwarf_base::proofs::Suffixes::suffix_trans))]
-#[inline(always)]
-fn read_named_base_register<R: Reader + Copy>(bytes: &mut R) -> Result<Operation<R>>
-    ensures { (encoding : Encoding) → Reads (operation_of R.text R.Offset.number)
-        (R.text bytes.old) (R.text bytes.new) result
-        (operands_in R.Offset.BITS (R.text bytes.old) (rare_row encoding Rare.NamedBaseRegister)) }
-{
-    let base = read_register(bytes)?;
-    let offset = read_signed(Signed::Sleb128, bytes)?;
-    Ok(Operation::RegisterOffset {
-        register: base,
-        offset,
-        base_type: generic_type(),
-    })
-}
+const REG0: u8 = DW_OP_reg0.0;
 
-// A register, and the type of what it holds.
-#[tactic(auto, using(dwarf_base::proofs::Suffixes::suffix_trans))]
-#[inline(always)]
-fn read_typed_register<R: Reader + Copy>(bytes: &mut R, encoding: Encoding) -> Result<Operation<R>>
-    ensures { Reads (operation_of R.text R.Offset.number)
-        (R.text bytes.old) (R.text bytes.new) result
-        (operands_in R.Offset.BITS (R.text bytes.old) (rare_row encoding Rare.TypedRegister)) }
-{
-    let register = read_register(bytes)?;
-    let base_type = read_offset(Offset::Uleb128, bytes, encoding)?;
-    Ok(Operation::RegisterOffset {
-        register,
-        offset: 0,
-        base_type: UnitOffset(base_type),
-    })
-}
+const REG31: u8 = DW_OP_reg31.0;
 
-// The size of a piece, which stands in bytes.
-#[tactic(auto, using(dwarf_base::proofs::Suffixes::suffix_trans))]
-#[inline(always)]
-fn read_piece<R: Reader + Copy>(bytes: &mut R) -> Result<Operation<R>>
-    ensures { (encoding : Encoding) → Reads (operation_of R.text R.Offset.number)
-        (R.text bytes.old) (R.text bytes.new) result
-        (operands_in R.Offset.BITS (R.text bytes.old) (entry_row encoding 0 Entry.Piece)) }
-{
-    let size = bytes.read_uleb128()?;
-    let Some(size_in_bits) = size.checked_mul(8) else {
-        return Err(Error::InvalidPieceSize(size));
-    };
-    Ok(Operation::Piece {
-        size_in_bits,
-        bit_offset: None,
-    })
-}
+const BREG0: u8 = DW_OP_breg0.0;
 
-// The size of a piece and its offset, in bits.
-#[tactic(auto, using(dwarf_base::proofs::Suffixes::suffix_trans))]
-#[inline(always)]
-fn read_bit_piece<R: Reader + Copy>(bytes: &mut R) -> Result<Operation<R>>
-    ensures { (encoding : Encoding) → Reads (operation_of R.text R.Offset.number)
-        (R.text bytes.old) (R.text bytes.new) result
-        (operands_in R.Offset.BITS (R.text bytes.old) (rare_row encoding Rare.BitPiece)) }
-{
-    let size_in_bits = read_unsigned(Unsigned::Uleb128, bytes)?;
-    let bit_offset = read_unsigned(Unsigned::Uleb128, bytes)?;
-    Ok(Operation::Piece {
-        size_in_bits,
-        bit_offset: Some(bit_offset),
-    })
-}
-
-// A type, and the bytes of a value.
-#[tactic(auto, using(dwarf_base::proofs::Suffixes::suffix_trans))]
-#[inline(always)]
-fn read_typed_literal<R: Reader + Copy>(bytes: &mut R, encoding: Encoding) -> Result<Operation<R>>
-    ensures { Reads (operation_of R.text R.Offset.number)
-        (R.text bytes.old) (R.text bytes.new) result
-        (operands_in R.Offset.BITS (R.text bytes.old) (rare_row encoding Rare.TypedLiteral)) }
-{
-    let base_type = read_offset(Offset::Uleb128, bytes, encoding)?;
-    let value = read_block(Offset::U8, bytes, encoding)?;
-    Ok(Operation::TypedLiteral {
-        base_type: UnitOffset(base_type),
-        value,
-    })
-}
-
-// A size, and the type of what is read.
-#[tactic(auto, using(dwarf_base::proofs::Suffixes::suffix_trans))]
-#[inline(always)]
-fn read_typed_deref<R: Reader + Copy>(
-    space: bool,
-    bytes: &mut R,
-    encoding: Encoding,
-) -> Result<Operation<R>>
-    ensures { Reads (operation_of R.text R.Offset.number)
-        (R.text bytes.old) (R.text bytes.new) result
-        (operands_in R.Offset.BITS (R.text bytes.old) (rare_row encoding (Rare.TypedDeref space))) }
-{
-    let size = read_u8(bytes)?;
-    let base_type = read_offset(Offset::Uleb128, bytes, encoding)?;
-    Ok(Operation::Deref {
-        size,
-        base_type: UnitOffset(base_type),
-        space,
-    })
-}
-
-// A reference into `.debug_info`, and an offset in the object there.
-#[tactic(auto, using(dwarf_base::proofs::Suffixes::suffix_trans))]
-#[inline(always)]
-fn read_implicit_pointer<R: Reader + Copy>(
-    bytes: &mut R,
-    encoding: Encoding,
-) -> Result<Operation<R>>
-    ensures { Reads (operation_of R.text R.Offset.number)
-        (R.text bytes.old) (R.text bytes.new) result
-        (operands_in R.Offset.BITS (R.text bytes.old) (rare_row encoding Rare.ImplicitPointer)) }
-{
-    let value = read_offset(Offset::Reference, bytes, encoding)?;
-    let byte_offset = read_signed(Signed::Sleb128, bytes)?;
-    Ok(Operation::ImplicitPointer {
-        value: DebugInfoOffset(value),
-        byte_offset,
-    })
-}
-
-// Where a value of WebAssembly is, and its index, which stands as the kind of the place says.
-#[tactic(auto, using(dwarf_base::proofs::Suffixes::suffix_trans))]
-#[inline(always)]
-fn read_wasm_location<R: Reader + Copy>(bytes: &mut R) -> Result<Operation<R>>
-    ensures { (encoding : Encoding) → Reads (operation_of R.text R.Offset.number)
-        (R.text bytes.old) (R.text bytes.new) result
-        (operands_in R.Offset.BITS (R.text bytes.old) (rare_row encoding Rare.WasmLocation)) }
-{
-    match read_u8(bytes)? {
-        0 => Ok(Operation::WasmLocal {
-            index: bytes.read_uleb128_u32()?,
-        }),
-        1 => Ok(Operation::WasmGlobal {
-            index: bytes.read_uleb128_u32()?,
-        }),
-        2 => Ok(Operation::WasmStack {
-            index: bytes.read_uleb128_u32()?,
-        }),
-        3 => Ok(Operation::WasmGlobal {
-            index: bytes.read_u32()?,
-        }),
-        _ => Err(Error::InvalidExpression(constants::DW_OP_WASM_location)),
-    }
-}
-
-// In a function of its own: what an offset makes is found by a second jump, and with it in line each other operation
-// has more to keep in registers.
-#[inline(never)]
-fn read_offset_operation<R: Reader + Copy>(
-    shape: Offset,
-    make: FromOffset,
-    bytes: &mut R,
-    encoding: Encoding,
-) -> Result<Operation<R>>
-    ensures { Reads (operation_of R.text R.Offset.number)
-        (R.text bytes.old) (R.text bytes.new) result
-        (operands_in R.Offset.BITS (R.text bytes.old)
-        (entry_row encoding 0 (Entry.Offset shape make))) }
-{
-    Ok(offset_operation(make, read_offset(shape, bytes, encoding)?))
-}
-
-// On a copy of the reader, as what is rare.
-#[inline(always)]
-fn read_offset_on_copy<R: Reader + Copy>(
-    shape: Offset,
-    make: FromOffset,
-    bytes: &mut R,
-    encoding: Encoding,
-) -> Result<Operation<R>>
-    ensures { Reads (operation_of R.text R.Offset.number)
-        (R.text bytes.old) (R.text bytes.new) result
-        (operands_in R.Offset.BITS (R.text bytes.old)
-        (entry_row encoding 0 (Entry.Offset shape make))) }
-{
-    let mut copy = copy_of(bytes);
-    let operation = read_offset_operation(shape, make, &mut copy, encoding);
-    *bytes = copy_of(&copy);
-    operation
-}
-
-// In one function of its own, so that what is read often stays small enough to be read in line.
-#[tactic(auto, using(dwarf_base::proofs::Suffixes::suffix_trans))]
-#[inline(never)]
-fn read_rare_operands<R: Reader + Copy>(
-    entry: Rare,
-    bytes: &mut R,
-    encoding: Encoding,
-) -> Result<Operation<R>>
-    ensures { Reads (operation_of R.text R.Offset.number)
-        (R.text bytes.old) (R.text bytes.new) result
-        (operands_in R.Offset.BITS (R.text bytes.old) (rare_row encoding entry)) }
-{
-    match entry {
-        Rare::Address => Ok(Operation::Address {
-            address: bytes.read_address(encoding.address_size)?,
-        }),
-        Rare::PickByte => Ok(Operation::Pick {
-            index: read_u8(bytes)?,
-        }),
-        Rare::SpaceDeref => Ok(Operation::Deref {
-            size: encoding.address_size,
-            base_type: generic_type(),
-            space: true,
-        }),
-        Rare::SpaceDerefSize => Ok(Operation::Deref {
-            size: read_u8(bytes)?,
-            base_type: generic_type(),
-            space: true,
-        }),
-        Rare::NamedRegister => Ok(Operation::Register {
-            register: read_register(bytes)?,
-        }),
-        Rare::NamedBaseRegister => read_named_base_register(bytes),
-        Rare::TypedRegister => read_typed_register(bytes, encoding),
-        Rare::BitPiece => read_bit_piece(bytes),
-        Rare::ImplicitValue => Ok(Operation::ImplicitValue {
-            bytes: read_block(Offset::Uleb128, bytes, encoding)?,
-        }),
-        Rare::EntryValue => Ok(Operation::EntryValue {
-            expression: read_block(Offset::Uleb128, bytes, encoding)?,
-        }),
-        Rare::TypedLiteral => read_typed_literal(bytes, encoding),
-        Rare::TypedDeref(space) => read_typed_deref(space, bytes, encoding),
-        Rare::ImplicitPointer => read_implicit_pointer(bytes, encoding),
-        Rare::WasmLocation => read_wasm_location(bytes),
-    }
-}
-
-// On a copy of the reader, so that the reader itself needn't stand in memory; the room for the copy is made here alone.
-#[inline(always)]
-fn read_rare_on_copy<R: Reader + Copy>(
-    entry: Rare,
-    bytes: &mut R,
-    encoding: Encoding,
-) -> Result<Operation<R>>
-    ensures { Reads (operation_of R.text R.Offset.number)
-        (R.text bytes.old) (R.text bytes.new) result
-        (operands_in R.Offset.BITS (R.text bytes.old) (rare_row encoding entry)) }
-{
-    let mut copy = copy_of(bytes);
-    let operation = read_rare_operands(entry, &mut copy, encoding);
-    *bytes = copy_of(&copy);
-    operation
-}
-
-#[tactic(auto, using(dwarf_base::proofs::Suffixes::suffix_trans))]
-#[inline(always)]
-fn read_operands<R: Reader + Copy>(
-    entry: Entry,
-    opcode: u8,
-    bytes: &mut R,
-    encoding: Encoding,
-) -> Result<Operation<R>>
-    ensures { Reads (operation_of R.text R.Offset.number)
-        (R.text bytes.old) (R.text bytes.new) result
-        (operands_in R.Offset.BITS (R.text bytes.old) (entry_row encoding opcode entry)) }
-{
-    match entry {
-        Entry::Unknown => Err(Error::InvalidExpression(DwOp(opcode))),
-        Entry::Fieldless(operation) => Ok(fieldless_operation(operation)),
-        Entry::Literal(number) => Ok(Operation::UnsignedConstant {
-            value: u64::from(number),
-        }),
-        Entry::Register(register) => Ok(Operation::Register {
-            register: Register(u16::from(register)),
-        }),
-        Entry::Pick(index) => Ok(Operation::Pick { index }),
-        Entry::Deref => Ok(Operation::Deref {
-            size: encoding.address_size,
-            base_type: generic_type(),
-            space: false,
-        }),
-        Entry::DerefSize => Ok(Operation::Deref {
-            size: read_u8(bytes)?,
-            base_type: generic_type(),
-            space: false,
-        }),
-        Entry::Constant(shape) => Ok(Operation::UnsignedConstant {
-            value: read_unsigned(shape, bytes)?,
-        }),
-        Entry::PlusConstant => Ok(Operation::PlusConstant {
-            value: bytes.read_uleb128()?,
-        }),
-        Entry::SignedConstant(shape) => Ok(Operation::SignedConstant {
-            value: read_signed(shape, bytes)?,
-        }),
-        Entry::FrameOffset => Ok(Operation::FrameOffset {
-            offset: bytes.read_sleb128()?,
-        }),
-        Entry::Bra => Ok(Operation::Bra {
-            target: read_i16(bytes)?,
-        }),
-        Entry::Skip => Ok(Operation::Skip {
-            target: read_i16(bytes)?,
-        }),
-        Entry::BaseRegister(register) => Ok(Operation::RegisterOffset {
-            register: Register(u16::from(register)),
-            offset: bytes.read_sleb128()?,
-            base_type: generic_type(),
-        }),
-        Entry::Piece => read_piece(bytes),
-        Entry::Offset(shape, make) => read_offset_on_copy(shape, make, bytes, encoding),
-        Entry::Rare(entry) => read_rare_on_copy(entry, bytes, encoding),
-    }
-}
-
-// Does what `read_operands` does. What a call reads is moved out of its result, so that in a loop no operation has to
-// stand in memory.
-#[inline(always)]
-fn read_operands_in_run<R: Reader + Copy>(
-    entry: Entry,
-    opcode: u8,
-    bytes: &mut R,
-    encoding: Encoding,
-) -> Result<Operation<R>>
-    ensures { Reads (operation_of R.text R.Offset.number)
-        (R.text bytes.old) (R.text bytes.new) result
-        (operands_in R.Offset.BITS (R.text bytes.old) (entry_row encoding opcode entry)) }
-{
-    match entry {
-        Entry::Offset(shape, make) => Ok(read_offset_on_copy(shape, make, bytes, encoding)?),
-        Entry::Rare(entry) => Ok(read_rare_on_copy(entry, bytes, encoding)?),
-        entry => read_operands(entry, opcode, bytes, encoding),
-    }
-}
-
-// Reads the operands of an opcode. Base registers are met often: of a branch for them rustc makes a jump less by a
-// table, which is mispredicted more. The kit's compiler makes slower code of it.
-#[inline(always)]
-fn read_operands_by_branch<R: Reader + Copy>(
-    opcode: u8,
-    bytes: &mut R,
-    encoding: Encoding,
-) -> Result<Operation<R>>
-    ensures { Reads (operation_of R.text R.Offset.number)
-        (R.text bytes.old) (R.text bytes.new) result
-        (operands_in R.Offset.BITS (R.text bytes.old) (row_of encoding opcode)) }
-{
-    if let BREG0..=BREG31 = opcode {
-        return read_operands(entry_at(opcode), opcode, bytes, encoding);
-    }
-    read_operands(entry_at(opcode), opcode, bytes, encoding)
-}
+const BREG31: u8 = DW_OP_breg31.0;
 
 impl<R: Reader + Copy> Operation<R> {
     /// Reads the operation at the front of `bytes` (DWARF 5, sections 2.5 and 7.7.1).
@@ -457,19 +48,375 @@ impl<R: Reader + Copy> Operation<R> {
             (length (R.text bytes.new).bytes < length (R.text bytes.old).bytes) }
     {
         let opcode = bytes.read_u8()?;
-        read_operands(entry_at(opcode), opcode, bytes, encoding)
+        read_row(opcode, bytes, encoding)
     }
+}
 
-    /// Does what [`Operation::parse`] does, in a form that rustc makes faster code of in a loop over operations.
-    #[tactic(auto, using(dwarf_base::proofs::Suffixes::suffix_trans), unfolding(dwarf_meaning::specs::Decoding::operation_at))]
-    #[inline(always)]
-    pub fn parse_in_run(bytes: &mut R, encoding: Encoding) -> Result<Operation<R>>
-        ensures reads { Reads (operation_of R.text R.Offset.number) (R.text bytes.old)
-            (R.text bytes.new) result (operation_at encoding R.Offset.BITS (R.text bytes.old)) }
-        ensures less { OnOk result
-            (length (R.text bytes.new).bytes < length (R.text bytes.old).bytes) }
-    {
-        let opcode = bytes.read_u8()?;
-        read_operands_in_run(entry_at(opcode), opcode, bytes, encoding)
+/// The table of opcodes (DWARF 5, section 7.7.1): the operation of each, or the shapes of its operands, in order, and
+/// what is made of them.
+///
+/// Each row is a constant where it is read, so that the compiler knows its shapes.
+#[tactic(auto, unfolding(dwarf_meaning::specs::Opcodes::row_of))]
+#[inline(always)]
+fn read_row<R: Reader + Copy>(opcode: u8, bytes: &mut R, encoding: Encoding) -> Result<Operation<R>>
+    ensures { Reads (operation_of R.text R.Offset.number)
+        (R.text bytes.old) (R.text bytes.new) result
+        (operands_in R.Offset.BITS (R.text bytes.old) (row_of encoding opcode)) }
+{
+    match DwOp(opcode) {
+        DW_OP_addr => one(Address, Maker::Address, bytes, encoding),
+        DW_OP_deref => Ok(Operation::Deref {
+            size: encoding.address_size,
+            base_type: generic_type(),
+            space: false,
+        }),
+        DW_OP_const1u => one(U8, Maker::UnsignedConstant, bytes, encoding),
+        DW_OP_const1s => one(I8, Maker::SignedConstant, bytes, encoding),
+        DW_OP_const2u => one(U16, Maker::UnsignedConstant, bytes, encoding),
+        DW_OP_const2s => one(I16, Maker::SignedConstant, bytes, encoding),
+        DW_OP_const4u => one(U32, Maker::UnsignedConstant, bytes, encoding),
+        DW_OP_const4s => one(I32, Maker::SignedConstant, bytes, encoding),
+        DW_OP_const8u => one(U64, Maker::UnsignedConstant, bytes, encoding),
+        DW_OP_const8s => one(I64, Maker::SignedConstant, bytes, encoding),
+        DW_OP_constu => one(Uleb128, Maker::UnsignedConstant, bytes, encoding),
+        DW_OP_consts => one(Sleb128, Maker::SignedConstant, bytes, encoding),
+        DW_OP_dup => Ok(Operation::Pick { index: 0 }),
+        DW_OP_drop => Ok(Operation::Drop),
+        DW_OP_over => Ok(Operation::Pick { index: 1 }),
+        DW_OP_pick => one(U8, Maker::Pick, bytes, encoding),
+        DW_OP_swap => Ok(Operation::Swap),
+        DW_OP_rot => Ok(Operation::Rot),
+        DW_OP_xderef => Ok(Operation::Deref {
+            size: encoding.address_size,
+            base_type: generic_type(),
+            space: true,
+        }),
+        DW_OP_abs => Ok(Operation::Abs),
+        DW_OP_and => Ok(Operation::And),
+        DW_OP_div => Ok(Operation::Div),
+        DW_OP_minus => Ok(Operation::Minus),
+        DW_OP_mod => Ok(Operation::Mod),
+        DW_OP_mul => Ok(Operation::Mul),
+        DW_OP_neg => Ok(Operation::Neg),
+        DW_OP_not => Ok(Operation::Not),
+        DW_OP_or => Ok(Operation::Or),
+        DW_OP_plus => Ok(Operation::Plus),
+        DW_OP_plus_uconst => one(Uleb128, Maker::PlusConstant, bytes, encoding),
+        DW_OP_shl => Ok(Operation::Shl),
+        DW_OP_shr => Ok(Operation::Shr),
+        DW_OP_shra => Ok(Operation::Shra),
+        DW_OP_xor => Ok(Operation::Xor),
+        DW_OP_bra => one(I16, Maker::Bra, bytes, encoding),
+        DW_OP_eq => Ok(Operation::Eq),
+        DW_OP_ge => Ok(Operation::Ge),
+        DW_OP_gt => Ok(Operation::Gt),
+        DW_OP_le => Ok(Operation::Le),
+        DW_OP_lt => Ok(Operation::Lt),
+        DW_OP_ne => Ok(Operation::Ne),
+        DW_OP_skip => one(I16, Maker::Skip, bytes, encoding),
+        DwOp(LIT0..=LIT31) => Ok(Operation::UnsignedConstant {
+            value: u64::from(opcode - LIT0),
+        }),
+        DwOp(REG0..=REG31) => Ok(Operation::Register {
+            register: Register(u16::from(opcode - REG0)),
+        }),
+        DwOp(BREG0..=BREG31) => one(
+            Sleb128,
+            Maker::BaseRegister(opcode - BREG0),
+            bytes,
+            encoding,
+        ),
+        DW_OP_regx => one(RegisterNumber, Maker::Register, bytes, encoding),
+        DW_OP_fbreg => one(Sleb128, Maker::FrameOffset, bytes, encoding),
+        DW_OP_bregx => two(
+            RegisterNumber,
+            Sleb128,
+            Maker::RegisterOffset,
+            bytes,
+            encoding,
+        ),
+        DW_OP_piece => one(PieceSize, Maker::Piece, bytes, encoding),
+        DW_OP_deref_size => one(U8, Maker::Deref { space: false }, bytes, encoding),
+        DW_OP_xderef_size => one(U8, Maker::Deref { space: true }, bytes, encoding),
+        DW_OP_nop => Ok(Operation::Nop),
+        DW_OP_push_object_address => Ok(Operation::PushObjectAddress),
+        DW_OP_call2 => one(U16, Maker::UnitCall, bytes, encoding),
+        DW_OP_call4 => one(U32, Maker::UnitCall, bytes, encoding),
+        DW_OP_call_ref => one(SectionOffset, Maker::InfoCall, bytes, encoding),
+        DW_OP_form_tls_address | DW_OP_GNU_push_tls_address => Ok(Operation::TLS),
+        DW_OP_call_frame_cfa => Ok(Operation::CallFrameCFA),
+        DW_OP_bit_piece => two(Uleb128, Uleb128, Maker::BitPiece, bytes, encoding),
+        DW_OP_implicit_value => block(Absent, Offset, BlockMaker::ImplicitValue, bytes, encoding),
+        DW_OP_stack_value => Ok(Operation::StackValue),
+        DW_OP_implicit_pointer | DW_OP_GNU_implicit_pointer => two(
+            Reference,
+            Sleb128,
+            Maker::ImplicitPointer,
+            bytes,
+            encoding,
+        ),
+        DW_OP_addrx | DW_OP_GNU_addr_index => one(Offset, Maker::AddressIndex, bytes, encoding),
+        DW_OP_constx | DW_OP_GNU_const_index => one(Offset, Maker::ConstantIndex, bytes, encoding),
+        DW_OP_entry_value | DW_OP_GNU_entry_value => block(
+            Absent,
+            Offset,
+            BlockMaker::EntryValue,
+            bytes,
+            encoding,
+        ),
+        DW_OP_const_type | DW_OP_GNU_const_type => block(
+            Offset,
+            U8,
+            BlockMaker::TypedLiteral,
+            bytes,
+            encoding,
+        ),
+        DW_OP_regval_type | DW_OP_GNU_regval_type => two(
+            RegisterNumber,
+            Offset,
+            Maker::TypedRegister,
+            bytes,
+            encoding,
+        ),
+        DW_OP_deref_type | DW_OP_GNU_deref_type => two(
+            U8,
+            Offset,
+            Maker::Deref { space: false },
+            bytes,
+            encoding,
+        ),
+        DW_OP_xderef_type => two(U8, Offset, Maker::Deref { space: true }, bytes, encoding),
+        DW_OP_convert | DW_OP_GNU_convert => one(Offset, Maker::Convert, bytes, encoding),
+        DW_OP_reinterpret | DW_OP_GNU_reinterpret => one(
+            Offset,
+            Maker::Reinterpret,
+            bytes,
+            encoding,
+        ),
+        DW_OP_WASM_location => two(U8, WasmIndex, Maker::Wasm, bytes, encoding),
+        DW_OP_GNU_uninit => Ok(Operation::Uninitialized),
+        DW_OP_GNU_parameter_ref => one(U32, Maker::ParameterRef, bytes, encoding),
+        DW_OP_GNU_variable_value => one(SectionOffset, Maker::VariableValue, bytes, encoding),
+        _ => Err(Error::InvalidExpression(DwOp(opcode))),
+    }
+}
+
+/// Reads one operand, of which the operation is made.
+#[tactic(auto, using(dwarf_base::proofs::Suffixes::suffix_trans))]
+#[inline(always)]
+fn one<R: Reader + Copy>(
+    first: Shape,
+    maker: Maker,
+    bytes: &mut R,
+    encoding: Encoding,
+) -> Result<Operation<R>>
+    ensures { Reads (operation_of R.text R.Offset.number)
+        (R.text bytes.old) (R.text bytes.new) result
+        (operands_in R.Offset.BITS (R.text bytes.old) (row_of_one encoding first maker)) }
+{
+    let first = read_operand(first, Operand::none(), bytes, encoding)?;
+    Ok(make(maker, first, Operand::none()))
+}
+
+/// Reads two operands, of which the operation is made.
+#[tactic(auto, using(dwarf_base::proofs::Suffixes::suffix_trans))]
+#[inline(always)]
+fn two<R: Reader + Copy>(
+    first: Shape,
+    second: Shape,
+    maker: Maker,
+    bytes: &mut R,
+    encoding: Encoding,
+) -> Result<Operation<R>>
+    ensures { Reads (operation_of R.text R.Offset.number)
+        (R.text bytes.old) (R.text bytes.new) result
+        (operands_in R.Offset.BITS (R.text bytes.old) (row_of_two encoding first second maker)) }
+{
+    let first = read_operand(first, Operand::none(), bytes, encoding)?;
+    let second = read_operand(second, first, bytes, encoding)?;
+    Ok(make(maker, first, second))
+}
+
+/// Reads an operand or none, the size of a block, and its bytes, of which the operation is made.
+#[tactic(auto, using(dwarf_base::proofs::Suffixes::suffix_trans))]
+#[inline(always)]
+fn block<R: Reader + Copy>(
+    first: Shape,
+    size: Shape,
+    maker: BlockMaker,
+    bytes: &mut R,
+    encoding: Encoding,
+) -> Result<Operation<R>>
+    ensures { Reads (operation_of R.text R.Offset.number)
+        (R.text bytes.old) (R.text bytes.new) result
+        (operands_in R.Offset.BITS (R.text bytes.old) (row_of_block encoding first size maker)) }
+{
+    let first = read_operand(first, Operand::none(), bytes, encoding)?;
+    let size = read_operand(size, first, bytes, encoding)?;
+    let block = bytes.split(size.offset)?;
+    Ok(match maker {
+        BlockMaker::ImplicitValue => Operation::ImplicitValue { bytes: block },
+        BlockMaker::EntryValue => Operation::EntryValue { expression: block },
+        BlockMaker::TypedLiteral => Operation::TypedLiteral {
+            base_type: UnitOffset(first.offset),
+            value: block,
+        },
+    })
+}
+
+/// What is made of one operand or two.
+#[derive(Clone, Copy)]
+enum Maker {
+    Deref { space: bool },
+    Pick,
+    PlusConstant,
+    Bra,
+    Skip,
+    UnsignedConstant,
+    SignedConstant,
+    Register,
+    /// `RegisterOffset` of the register with this number.
+    BaseRegister(u8),
+    RegisterOffset,
+    /// `RegisterOffset` of a base type.
+    TypedRegister,
+    FrameOffset,
+    /// `Call` of an entry of the unit.
+    UnitCall,
+    /// `Call` of an entry of `.debug_info`.
+    InfoCall,
+    /// `Piece` that begins at the next byte boundary.
+    Piece,
+    BitPiece,
+    ImplicitPointer,
+    ParameterRef,
+    Address,
+    AddressIndex,
+    ConstantIndex,
+    Convert,
+    Reinterpret,
+    Wasm,
+    VariableValue,
+}
+
+/// What is made of a block.
+#[derive(Clone, Copy)]
+enum BlockMaker {
+    ImplicitValue,
+    EntryValue,
+    TypedLiteral,
+}
+
+/// The generic type: the base type at offset 0.
+#[inline(always)]
+fn generic_type<O: ReaderOffset>() -> UnitOffset<O>
+    ensures { O.number result.0 ≡ 0 }
+{
+    UnitOffset(O::from_u8(0))
+}
+
+/// Makes the operation of one operand or two.
+#[inline(always)]
+fn make<R: Reader>(
+    maker: Maker,
+    first: Operand<R::Offset>,
+    second: Operand<R::Offset>,
+) -> Operation<R>
+    ensures { operation_of R.text R.Offset.number result
+        ≡ operation_by maker (operand_of R.Offset.number first) (operand_of R.Offset.number second) }
+{
+    match maker {
+        Maker::Deref { space } => Operation::Deref {
+            size: first.byte,
+            base_type: UnitOffset(second.offset),
+            space,
+        },
+        Maker::Pick => Operation::Pick { index: first.byte },
+        Maker::PlusConstant => Operation::PlusConstant {
+            value: first.unsigned,
+        },
+        Maker::Bra => Operation::Bra {
+            target: first.short,
+        },
+        Maker::Skip => Operation::Skip {
+            target: first.short,
+        },
+        Maker::UnsignedConstant => Operation::UnsignedConstant {
+            value: first.unsigned,
+        },
+        Maker::SignedConstant => Operation::SignedConstant {
+            value: first.signed,
+        },
+        Maker::Register => Operation::Register {
+            register: first.register,
+        },
+        Maker::RegisterOffset => Operation::RegisterOffset {
+            register: first.register,
+            offset: second.signed,
+            base_type: generic_type(),
+        },
+        Maker::BaseRegister(register) => Operation::RegisterOffset {
+            register: Register(u16::from(register)),
+            offset: first.signed,
+            base_type: generic_type(),
+        },
+        Maker::TypedRegister => Operation::RegisterOffset {
+            register: first.register,
+            offset: 0,
+            base_type: UnitOffset(second.offset),
+        },
+        Maker::FrameOffset => Operation::FrameOffset {
+            offset: first.signed,
+        },
+        Maker::UnitCall => Operation::Call {
+            offset: DieReference::UnitRef(UnitOffset(first.offset)),
+        },
+        Maker::InfoCall => Operation::Call {
+            offset: DieReference::DebugInfoRef(DebugInfoOffset(first.offset)),
+        },
+        Maker::Piece => Operation::Piece {
+            size_in_bits: first.unsigned,
+            bit_offset: None,
+        },
+        Maker::BitPiece => Operation::Piece {
+            size_in_bits: first.unsigned,
+            bit_offset: Some(second.unsigned),
+        },
+        Maker::ImplicitPointer => Operation::ImplicitPointer {
+            value: DebugInfoOffset(first.offset),
+            byte_offset: second.signed,
+        },
+        Maker::ParameterRef => Operation::ParameterRef {
+            offset: UnitOffset(first.offset),
+        },
+        Maker::Address => Operation::Address {
+            address: first.unsigned,
+        },
+        Maker::AddressIndex => Operation::AddressIndex {
+            index: DebugAddrIndex(first.offset),
+        },
+        Maker::ConstantIndex => Operation::ConstantIndex {
+            index: DebugAddrIndex(first.offset),
+        },
+        Maker::Convert => Operation::Convert {
+            base_type: UnitOffset(first.offset),
+        },
+        Maker::Reinterpret => Operation::Reinterpret {
+            base_type: UnitOffset(first.offset),
+        },
+        Maker::Wasm => match second.place {
+            WasmPlace::Local => Operation::WasmLocal {
+                index: second.index,
+            },
+            WasmPlace::Global => Operation::WasmGlobal {
+                index: second.index,
+            },
+            WasmPlace::Stack => Operation::WasmStack {
+                index: second.index,
+            },
+        },
+        Maker::VariableValue => Operation::VariableValue {
+            offset: DebugInfoOffset(first.offset),
+        },
     }
 }

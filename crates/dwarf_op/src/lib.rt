@@ -4,7 +4,6 @@
 mod decoding;
 mod equality;
 mod locations;
-mod opcodes;
 mod operands;
 mod operations;
 

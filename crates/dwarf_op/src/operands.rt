@@ -1,124 +1,204 @@
-//! Reading the operands after an opcode, a function for each shape (DWARF 5, section 7.7.1).
+//! The shapes of operands, and how one is read (DWARF 5, sections 7.5.1, 7.6 and 7.7.1).
 
 ghost use Rattle.std.specs.Prelude.{◌≡◌};
-ghost use Rattle.dwarf_base.specs.Reads.{Reads, fixed_at, signed_at};
-ghost use Rattle.dwarf_meaning.specs.Decoding.{unsigned_at, integer_at};
-ghost use Rattle.dwarf_op.specs.inner.Entries.{
-  block_in,
-  offset_form,
-  register_at,
-  signed_form,
-  unsigned_form,
-};
+ghost use Rattle.dwarf_op.specs.inner.Entries.{GoesOn, no_operand, operand_of, shape_row};
 
-use crate::opcodes::{Offset, Signed, Unsigned};
-use dwarf_base::{Encoding, Reader, ReaderOffset, Register, Result, UnitOffset};
+use dwarf_base::{Encoding, Error, Reader, ReaderOffset, Register, Result, constants};
 
-// A number of one byte.
-#[tactic(auto, using(dwarf_base::proofs::FixedNumbers::fixed_one))]
-#[inline(always)]
-pub(crate) fn read_u8<R: Reader>(bytes: &mut R) -> Result<u8>
-    ensures { Reads (λ n. n) (R.text bytes.old) (R.text bytes.new) result
-        (fixed_at (R.text bytes.old).is_big 1 (R.text bytes.old).bytes) }
-{
-    bytes.read_u8()
+/// How the bytes of an operand are laid out, and which numbers they may be.
+#[derive(Clone, Copy)]
+pub(crate) enum Shape {
+    /// There is no operand.
+    Absent,
+    U8,
+    U16,
+    U32,
+    U64,
+    I8,
+    I16,
+    I32,
+    I64,
+    Uleb128,
+    Sleb128,
+    /// An unsigned LEB128 number that fits the reader's offsets.
+    Offset,
+    /// An unsigned LEB128 number that fits a register.
+    RegisterNumber,
+    /// An unsigned LEB128 number of bytes, whose bits fit 64 bits.
+    PieceSize,
+    /// An offset into a section, as wide as the format says.
+    SectionOffset,
+    /// An offset into `.debug_info`: as a section's, but in version 2 as wide as an address.
+    Reference,
+    Address,
+    /// The index of a value of WebAssembly, laid out as the byte before it says.
+    WasmIndex,
 }
 
-// A signed number of two bytes.
-#[inline(always)]
-pub(crate) fn read_i16<R: Reader>(bytes: &mut R) -> Result<i16>
-    ensures { Reads (λ n. n) (R.text bytes.old) (R.text bytes.new) result
-        (signed_at (R.text bytes.old).is_big 2 (R.text bytes.old).bytes) }
-{
-    bytes.read_i16()
+/// Where WebAssembly keeps a value.
+#[derive(Clone, Copy)]
+pub(crate) enum WasmPlace {
+    Local,
+    Global,
+    Stack,
 }
 
-// An unsigned number.
-#[inline(always)]
-pub(crate) fn read_unsigned<R: Reader + Copy>(shape: Unsigned, bytes: &mut R) -> Result<u64>
-    ensures { Reads (λ n. n) (R.text bytes.old) (R.text bytes.new) result
-        (unsigned_at R.Offset.BITS (R.text bytes.old).is_big
-        (unsigned_form shape) (R.text bytes.old).bytes) }
-{
-    match shape {
-        Unsigned::U8 => Ok(u64::from(read_u8(bytes)?)),
-        Unsigned::U16 => Ok(u64::from(bytes.read_u16()?)),
-        Unsigned::U32 => Ok(u64::from(bytes.read_u32()?)),
-        Unsigned::U64 => bytes.read_u64(),
-        Unsigned::Uleb128 => bytes.read_uleb128(),
+/// An operand that was read, in each type that a field of an operation may have. Those that its shape doesn't give are
+/// zero.
+#[derive(Clone, Copy)]
+pub(crate) struct Operand<O> {
+    pub(crate) byte: u8,
+    pub(crate) short: i16,
+    pub(crate) unsigned: u64,
+    pub(crate) signed: i64,
+    pub(crate) register: Register,
+    pub(crate) offset: O,
+    pub(crate) place: WasmPlace,
+    pub(crate) index: u32,
+}
+
+impl<O: ReaderOffset> Operand<O> {
+    /// An operand that is absent.
+    #[inline(always)]
+    pub(crate) fn none() -> Self
+        ensures { operand_of O.number result ≡ no_operand }
+    {
+        Operand {
+            byte: 0,
+            short: 0,
+            unsigned: 0,
+            signed: 0,
+            register: Register(0),
+            offset: O::from_u8(0),
+            place: WasmPlace::Local,
+            index: 0,
+        }
     }
-}
 
-// A signed number.
-#[inline(always)]
-pub(crate) fn read_signed<R: Reader + Copy>(shape: Signed, bytes: &mut R) -> Result<i64>
-    ensures { Reads (λ n. n) (R.text bytes.old) (R.text bytes.new) result
-        (integer_at (R.text bytes.old).is_big (signed_form shape) (R.text bytes.old).bytes) }
-{
-    match shape {
-        Signed::I8 => Ok(i64::from(bytes.read_i8()?)),
-        Signed::I16 => Ok(i64::from(read_i16(bytes)?)),
-        Signed::I32 => Ok(i64::from(bytes.read_i32()?)),
-        Signed::I64 => bytes.read_i64(),
-        Signed::Sleb128 => bytes.read_sleb128(),
+    #[inline(always)]
+    fn of_unsigned(unsigned: u64) -> Self
+        ensures { operand_of O.number result ≡ record no_operand { unsigned = unsigned } }
+    {
+        Operand {
+            unsigned,
+            ..Operand::none()
+        }
     }
-}
 
-// A number that has to fit the reader's offsets.
-#[inline(always)]
-pub(crate) fn read_offset<R: Reader + Copy>(
-    shape: Offset,
-    bytes: &mut R,
-    encoding: Encoding,
-) -> Result<R::Offset>
-    ensures { Reads R.Offset.number (R.text bytes.old) (R.text bytes.new) result
-        (unsigned_at R.Offset.BITS (R.text bytes.old).is_big
-        (offset_form encoding shape) (R.text bytes.old).bytes) }
-{
-    match shape {
-        Offset::U8 => Ok(R::Offset::from_u8(read_u8(bytes)?)),
-        Offset::U16 => Ok(R::Offset::from_u16(bytes.read_u16()?)),
-        Offset::U32 => Ok(R::Offset::from_u32(bytes.read_u32()?)),
-        Offset::Uleb128 => R::Offset::from_u64(read_unsigned(Unsigned::Uleb128, bytes)?),
-        Offset::Section => bytes.read_offset(encoding.format),
-        Offset::Reference => {
-            if encoding.version == 2 {
-                R::Offset::from_u64(bytes.read_address(encoding.address_size)?)
-            } else {
-                bytes.read_offset(encoding.format)
-            }
+    #[inline(always)]
+    fn of_signed(signed: i64) -> Self
+        ensures { operand_of O.number result ≡ record no_operand { signed = signed } }
+    {
+        Operand {
+            signed,
+            ..Operand::none()
+        }
+    }
+
+    #[inline(always)]
+    fn of_offset(offset: O) -> Self
+        ensures { operand_of O.number result ≡ record no_operand { offset = O.number offset } }
+    {
+        Operand {
+            offset,
+            ..Operand::none()
+        }
+    }
+
+    #[inline(always)]
+    fn of_place(place: WasmPlace, index: u32) -> Self
+        ensures { operand_of O.number result ≡ record no_operand { place = place; index = index } }
+    {
+        Operand {
+            place,
+            index,
+            ..Operand::none()
         }
     }
 }
 
-// A register's number.
+/// Reads an operand in its shape. `before` is the operand before it.
+#[tactic(auto, using(dwarf_base::proofs::FixedNumbers::fixed_one))]
 #[inline(always)]
-pub(crate) fn read_register<R: Reader + Copy>(bytes: &mut R) -> Result<Register>
-    ensures { Reads (λ r. r.0) (R.text bytes.old) (R.text bytes.new) result
-        (register_at (R.text bytes.old).bytes) }
-{
-    Register::from_u64(read_unsigned(Unsigned::Uleb128, bytes)?)
-}
-
-// The generic type: the base type at offset 0.
-#[inline(always)]
-pub(crate) fn generic_type<O: ReaderOffset>() -> UnitOffset<O>
-    ensures { O.number result.0 ≡ 0 }
-{
-    UnitOffset(O::from_u8(0))
-}
-
-// The size of a block, and the block.
-#[tactic(auto, using(dwarf_base::proofs::Suffixes::suffix_trans))]
-#[inline(always)]
-pub(crate) fn read_block<R: Reader + Copy>(
-    size: Offset,
+pub(crate) fn read_operand<R: Reader + Copy>(
+    shape: Shape,
+    before: Operand<R::Offset>,
     bytes: &mut R,
     encoding: Encoding,
-) -> Result<R>
-    ensures { Reads R.text (R.text bytes.old) (R.text bytes.new) result
-        (block_in R.Offset.BITS (R.text bytes.old) (offset_form encoding size)) }
+) -> Result<Operand<R::Offset>>
+    ensures { GoesOn R.Offset.BITS (operand_of R.Offset.number)
+        (R.text bytes.old) (R.text bytes.new) result
+        (shape_row encoding shape (operand_of R.Offset.number before)) }
 {
-    let size = read_offset(size, bytes, encoding)?;
-    bytes.split(size)
+    match shape {
+        Shape::Absent => Ok(Operand::none()),
+        Shape::U8 => {
+            let byte = bytes.read_u8()?;
+            Ok(Operand {
+                byte,
+                unsigned: u64::from(byte),
+                offset: R::Offset::from_u8(byte),
+                ..Operand::none()
+            })
+        }
+        Shape::U16 => {
+            let number = bytes.read_u16()?;
+            Ok(Operand {
+                unsigned: u64::from(number),
+                offset: R::Offset::from_u16(number),
+                ..Operand::none()
+            })
+        }
+        Shape::U32 => {
+            let number = bytes.read_u32()?;
+            Ok(Operand {
+                unsigned: u64::from(number),
+                offset: R::Offset::from_u32(number),
+                ..Operand::none()
+            })
+        }
+        Shape::U64 => Ok(Operand::of_unsigned(bytes.read_u64()?)),
+        Shape::I8 => Ok(Operand::of_signed(i64::from(bytes.read_i8()?))),
+        Shape::I16 => {
+            let short = bytes.read_i16()?;
+            Ok(Operand {
+                short,
+                signed: i64::from(short),
+                ..Operand::none()
+            })
+        }
+        Shape::I32 => Ok(Operand::of_signed(i64::from(bytes.read_i32()?))),
+        Shape::I64 => Ok(Operand::of_signed(bytes.read_i64()?)),
+        Shape::Uleb128 => Ok(Operand::of_unsigned(bytes.read_uleb128()?)),
+        Shape::Sleb128 => Ok(Operand::of_signed(bytes.read_sleb128()?)),
+        Shape::Offset => Ok(Operand::of_offset(R::Offset::from_u64(bytes.read_uleb128()?)?)),
+        Shape::RegisterNumber => Ok(Operand {
+            register: Register::from_u64(bytes.read_uleb128()?)?,
+            ..Operand::none()
+        }),
+        Shape::PieceSize => {
+            let size = bytes.read_uleb128()?;
+            match size.checked_mul(8) {
+                Some(bits) => Ok(Operand::of_unsigned(bits)),
+                None => Err(Error::InvalidPieceSize(size)),
+            }
+        }
+        Shape::SectionOffset => Ok(Operand::of_offset(bytes.read_offset(encoding.format)?)),
+        Shape::Reference => {
+            if encoding.version == 2 {
+                let address = bytes.read_address(encoding.address_size)?;
+                Ok(Operand::of_offset(R::Offset::from_u64(address)?))
+            } else {
+                Ok(Operand::of_offset(bytes.read_offset(encoding.format)?))
+            }
+        }
+        Shape::Address => Ok(Operand::of_unsigned(bytes.read_address(encoding.address_size)?)),
+        Shape::WasmIndex => match before.byte {
+            0 => Ok(Operand::of_place(WasmPlace::Local, bytes.read_uleb128_u32()?)),
+            1 => Ok(Operand::of_place(WasmPlace::Global, bytes.read_uleb128_u32()?)),
+            2 => Ok(Operand::of_place(WasmPlace::Stack, bytes.read_uleb128_u32()?)),
+            3 => Ok(Operand::of_place(WasmPlace::Global, bytes.read_u32()?)),
+            _ => Err(Error::InvalidExpression(constants::DW_OP_WASM_location)),
+        },
+    }
 }

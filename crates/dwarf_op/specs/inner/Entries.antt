@@ -1,152 +1,164 @@
--- What the entries of the code's table of opcodes stand for: rows of the standard's table.
-use Rattle.std.specs.Prelude.{ℕ, ◌*◌, pos, List, Some, None, Result, Ok, true, false}
-use Rattle.dwarf_base.specs.Faults.{Fault, ◌>>=◌}
-use Rattle.dwarf_base.specs.Leb.{uleb_at}
-use Rattle.dwarf_base.specs.Numbers.{register_of}
+-- What the decoder's operands and makers stand for: rows of the standard's table.
+use Rattle.std.specs.Prelude.{ℕ, ◌≡◌, ◌*◌, pos, List, [], ◌∷◌, Some, None, Result, Ok, Err}
+use Rattle.dwarf_base.specs.declared.errors.Error.{Error}
+use Rattle.dwarf_base.specs.Faults.{Fault, fault_of}
 use Rattle.dwarf_base.specs.declared.common.Encoding.{Encoding}
-use Rattle.dwarf_base.specs.Reads.{offset_size, Text, split_at}
+use Rattle.dwarf_base.specs.Reads.{offset_size, IsSuffix, Text}
 use Rattle.dwarf_meaning.specs.Operations as meaning
-use Rattle.dwarf_meaning.specs.Decoding.{operands_at, unsigned_at}
-use Rattle.dwarf_meaning.specs.Operands.{Layout, Range, Bytes, Leb128, Any, Offset, Register, PieceSize, ref_size}
-use Rattle.dwarf_meaning.specs.Opcodes.{Row, Makes, Unsigned, Invalid, unsigned, signed, sized_block, wasm_row}
-use Rattle.dwarf_op.specs.declared.opcodes.Fieldless.{Fieldless}
-use Rattle.dwarf_op.specs.declared.opcodes.Fieldless.TheVariants as fieldless
-use Rattle.dwarf_op.specs.declared.opcodes.Unsigned as shapes
-use Rattle.dwarf_op.specs.declared.opcodes.Unsigned.TheVariants as unsigned_shape
-use Rattle.dwarf_op.specs.declared.opcodes.Signed as signed_shapes
-use Rattle.dwarf_op.specs.declared.opcodes.Signed.TheVariants as signed_shape
-use Rattle.dwarf_op.specs.declared.opcodes.Offset as offset_shapes
-use Rattle.dwarf_op.specs.declared.opcodes.Offset.TheVariants as offset_shape
-use Rattle.dwarf_op.specs.declared.opcodes.FromOffset.{FromOffset}
-use Rattle.dwarf_op.specs.declared.opcodes.FromOffset.TheVariants as from_offset
-use Rattle.dwarf_op.specs.declared.opcodes.Entry.{Entry}
-use Rattle.dwarf_op.specs.declared.opcodes.Entry.TheVariants as entry
-use Rattle.dwarf_op.specs.declared.opcodes.Rare.{Rare}
-use Rattle.dwarf_op.specs.declared.opcodes.Rare.TheVariants as rare_entry
-use Rattle.dwarf_value.specs.Values.{Abs, Neg, Not, Plus, Minus, Mul, Div, Mod, And, Or, Xor, Shl, Shr, Shra, Eq, Ne, Lt, Le, Gt, Ge}
+use Rattle.dwarf_meaning.specs.Decoding.{operands_at}
+use Rattle.dwarf_meaning.specs.Operands.{Bytes, Leb128, Any, Offset, Register, PieceSize, U32, ref_size}
+use Rattle.dwarf_meaning.specs.Opcodes.{Row, Makes, Unsigned, Signed, Block, Invalid, one, row_among}
+use Rattle.dwarf_op.specs.declared.operands.Operand.{Operand}
+use Rattle.dwarf_op.specs.declared.operands.Shape.{Shape}
+use Rattle.dwarf_op.specs.declared.operands.Shape.TheVariants as shape
+use Rattle.dwarf_op.specs.declared.operands.WasmPlace.{WasmPlace}
+use Rattle.dwarf_op.specs.declared.operands.WasmPlace.TheVariants as place
+use Rattle.dwarf_op.specs.declared.decoding.Maker.{Maker}
+use Rattle.dwarf_op.specs.declared.decoding.Maker.TheVariants as maker
+use Rattle.dwarf_op.specs.declared.decoding.BlockMaker.{BlockMaker}
+use Rattle.dwarf_op.specs.declared.decoding.BlockMaker.TheVariants as block_maker
 
--- the operation without operands
-abbrev pub fieldless_operation : Fieldless → meaning.Operation
-fieldless_operation fieldless.Drop = meaning.Drop
-fieldless_operation fieldless.Swap = meaning.Swap
-fieldless_operation fieldless.Rot = meaning.Rot
-fieldless_operation fieldless.Abs = meaning.Unary Abs
-fieldless_operation fieldless.And = meaning.Binary And
-fieldless_operation fieldless.Div = meaning.Binary Div
-fieldless_operation fieldless.Minus = meaning.Binary Minus
-fieldless_operation fieldless.Mod = meaning.Binary Mod
-fieldless_operation fieldless.Mul = meaning.Binary Mul
-fieldless_operation fieldless.Neg = meaning.Unary Neg
-fieldless_operation fieldless.Not = meaning.Unary Not
-fieldless_operation fieldless.Or = meaning.Binary Or
-fieldless_operation fieldless.Plus = meaning.Binary Plus
-fieldless_operation fieldless.Shl = meaning.Binary Shl
-fieldless_operation fieldless.Shr = meaning.Binary Shr
-fieldless_operation fieldless.Shra = meaning.Binary Shra
-fieldless_operation fieldless.Xor = meaning.Binary Xor
-fieldless_operation fieldless.Eq = meaning.Binary Eq
-fieldless_operation fieldless.Ge = meaning.Binary Ge
-fieldless_operation fieldless.Gt = meaning.Binary Gt
-fieldless_operation fieldless.Le = meaning.Binary Le
-fieldless_operation fieldless.Lt = meaning.Binary Lt
-fieldless_operation fieldless.Ne = meaning.Binary Ne
-fieldless_operation fieldless.Nop = meaning.Nop
-fieldless_operation fieldless.PushObjectAddress = meaning.PushObjectAddress
-fieldless_operation fieldless.TLS = meaning.TLS
-fieldless_operation fieldless.CallFrameCFA = meaning.CallFrameCFA
-fieldless_operation fieldless.StackValue = meaning.StackValue
-fieldless_operation fieldless.Uninitialized = meaning.Uninitialized
+-- ---- operands
 
--- the layout and the range of an unsigned operand
-abbrev pub unsigned_form : shapes.Unsigned → Layout × Range
-unsigned_form unsigned_shape.U8 = (Bytes 1, Any)
-unsigned_form unsigned_shape.U16 = (Bytes 2, Any)
-unsigned_form unsigned_shape.U32 = (Bytes 4, Any)
-unsigned_form unsigned_shape.U64 = (Bytes 8, Any)
-unsigned_form unsigned_shape.Uleb128 = (Leb128, Any)
+-- an operand of the code, as the definitions have it
+abbrev pub operand_of : {O : Type 0} → (O → ℕ) → Operand O → Operand ℕ
+operand_of number operand = record {
+  byte = operand.byte;
+  short = operand.short;
+  unsigned = operand.unsigned;
+  signed = operand.signed;
+  register = operand.register;
+  offset = number operand.offset;
+  place = operand.place;
+  index = operand.index;
+}
 
--- the layout of a signed operand
-abbrev pub signed_form : signed_shapes.Signed → Layout
-signed_form signed_shape.I8 = Bytes 1
-signed_form signed_shape.I16 = Bytes 2
-signed_form signed_shape.I32 = Bytes 4
-signed_form signed_shape.I64 = Bytes 8
-signed_form signed_shape.Sleb128 = Leb128
+-- no operand
+abbrev pub no_operand : Operand ℕ
+no_operand = record {
+  byte = 0;
+  short = pos 0;
+  unsigned = 0;
+  signed = pos 0;
+  register = record { 0 = 0 };
+  offset = 0;
+  place = place.Local;
+  index = 0;
+}
 
--- the layout and the range of an offset
-abbrev pub offset_form : Encoding → offset_shapes.Offset → Layout × Range
-offset_form encoding offset_shape.U8 = (Bytes 1, Any)
-offset_form encoding offset_shape.U16 = (Bytes 2, Any)
-offset_form encoding offset_shape.U32 = (Bytes 4, Any)
-offset_form encoding offset_shape.Uleb128 = (Leb128, Offset)
-offset_form encoding offset_shape.Section = (Bytes (offset_size encoding.format), Offset)
-offset_form encoding offset_shape.Reference = (Bytes (ref_size encoding), Offset)
+-- the index of a place of WebAssembly, and the row of what follows it
+abbrev pub wasm_index_row : (kind : ℕ) → (Operand ℕ → Row) → Row
+wasm_index_row kind next =
+    row_among (Invalid 0xed) kind
+    (one 0 (Unsigned (Leb128, U32) (λ n. next (record no_operand { place = place.Local; index = n })))
+    ∷ one 1 (Unsigned (Leb128, U32) (λ n. next (record no_operand { place = place.Global; index = n })))
+    ∷ one 2 (Unsigned (Leb128, U32) (λ n. next (record no_operand { place = place.Stack; index = n })))
+    ∷ one 3 (Unsigned (Bytes 4, Any) (λ n. next (record no_operand { place = place.Global; index = n }))) ∷ [])
 
--- what an offset makes
-abbrev pub offset_operation : FromOffset → ℕ → meaning.Operation
-offset_operation from_offset.UnitCall offset = meaning.Call (meaning.UnitRef offset)
-offset_operation from_offset.InfoCall offset = meaning.Call (meaning.DebugInfoRef offset)
-offset_operation from_offset.ParameterRef offset = meaning.ParameterRef offset
-offset_operation from_offset.AddressIndex offset = meaning.AddressIndex offset
-offset_operation from_offset.ConstantIndex offset = meaning.ConstantIndex offset
-offset_operation from_offset.Convert offset = meaning.Convert offset
-offset_operation from_offset.Reinterpret offset = meaning.Reinterpret offset
-offset_operation from_offset.VariableValue offset = meaning.VariableValue offset
+-- an operand in its shape, after the one before it, and the row of what follows it
+abbrev pub shape_row : Encoding → Shape → (before : Operand ℕ) → (Operand ℕ → Row) → Row
+shape_row encoding shape.Absent before next = next no_operand
+shape_row encoding shape.U8 before next =
+    Unsigned (Bytes 1, Any) (λ n. next (record no_operand { byte = n; unsigned = n; offset = n }))
+shape_row encoding shape.U16 before next =
+    Unsigned (Bytes 2, Any) (λ n. next (record no_operand { unsigned = n; offset = n }))
+shape_row encoding shape.U32 before next =
+    Unsigned (Bytes 4, Any) (λ n. next (record no_operand { unsigned = n; offset = n }))
+shape_row encoding shape.U64 before next = Unsigned (Bytes 8, Any) (λ n. next (record no_operand { unsigned = n }))
+shape_row encoding shape.I8 before next = Signed (Bytes 1) (λ n. next (record no_operand { signed = n }))
+shape_row encoding shape.I16 before next = Signed (Bytes 2) (λ n. next (record no_operand { short = n; signed = n }))
+shape_row encoding shape.I32 before next = Signed (Bytes 4) (λ n. next (record no_operand { signed = n }))
+shape_row encoding shape.I64 before next = Signed (Bytes 8) (λ n. next (record no_operand { signed = n }))
+shape_row encoding shape.Uleb128 before next = Unsigned (Leb128, Any) (λ n. next (record no_operand { unsigned = n }))
+shape_row encoding shape.Sleb128 before next = Signed Leb128 (λ n. next (record no_operand { signed = n }))
+shape_row encoding shape.Offset before next = Unsigned (Leb128, Offset) (λ n. next (record no_operand { offset = n }))
+shape_row encoding shape.RegisterNumber before next =
+    Unsigned (Leb128, Register) (λ n. next (record no_operand { register = record { 0 = n } }))
+shape_row encoding shape.PieceSize before next =
+    Unsigned (Leb128, PieceSize) (λ n. next (record no_operand { unsigned = 8 * n }))
+shape_row encoding shape.SectionOffset before next =
+    Unsigned (Bytes (offset_size encoding.format), Offset) (λ n. next (record no_operand { offset = n }))
+shape_row encoding shape.Reference before next =
+    Unsigned (Bytes (ref_size encoding), Offset) (λ n. next (record no_operand { offset = n }))
+shape_row encoding shape.Address before next =
+    Unsigned (Bytes encoding.address_size, Any) (λ n. next (record no_operand { unsigned = n }))
+shape_row encoding shape.WasmIndex before next = wasm_index_row before.byte next
 
--- the row that a rare entry is
-abbrev pub rare_row : Encoding → Rare → Row
-rare_row encoding rare_entry.Address = unsigned (Bytes encoding.address_size, Any) meaning.Address
-rare_row encoding rare_entry.PickByte = unsigned (Bytes 1, Any) meaning.Pick
-rare_row encoding rare_entry.SpaceDeref = Makes (meaning.Deref 0 encoding.address_size true)
-rare_row encoding rare_entry.SpaceDerefSize = unsigned (Bytes 1, Any) (λ size. meaning.Deref 0 size true)
-rare_row encoding rare_entry.NamedRegister = unsigned (Leb128, Register) meaning.Register
-rare_row encoding rare_entry.NamedBaseRegister =
-    Unsigned (Leb128, Register) (λ register. signed Leb128 (λ offset. meaning.RegisterOffset register offset 0))
-rare_row encoding rare_entry.TypedRegister =
-    Unsigned (Leb128, Register) (λ register. unsigned (Leb128, Offset) (meaning.RegisterOffset register (pos 0)))
-rare_row encoding rare_entry.BitPiece =
-    Unsigned (Leb128, Any) (λ size. unsigned (Leb128, Any) (λ offset. meaning.Piece size (Some offset)))
-rare_row encoding rare_entry.ImplicitValue = sized_block (Leb128, Offset) meaning.ImplicitValue
-rare_row encoding rare_entry.EntryValue = sized_block (Leb128, Offset) meaning.EntryValue
-rare_row encoding rare_entry.TypedLiteral =
-    Unsigned (Leb128, Offset) (λ base_type. sized_block (Bytes 1, Any) (meaning.TypedLiteral base_type))
-rare_row encoding (rare_entry.TypedDeref space) =
-    Unsigned (Bytes 1, Any) (λ size. unsigned (Leb128, Offset) (λ base_type. meaning.Deref base_type size space))
-rare_row encoding rare_entry.ImplicitPointer =
-    Unsigned (Bytes (ref_size encoding), Offset) (λ to. signed Leb128 (meaning.ImplicitPointer to))
-rare_row encoding rare_entry.WasmLocation = Unsigned (Bytes 1, Any) wasm_row
+-- What a read of one operand gives, by its row and any row of what follows: that row is read on, or there is the fault.
+abbrev pub Leads : {X Y : Type 0} → (offset_bits : ℕ) → (X → Y) → (old new : Text) → Result X Error
+    → ((Y → Row) → Row) → Type 0
+Leads {X} {Y} offset_bits view old new (Ok x) row = (next : Y → Row)
+    → operands_at offset_bits old.is_big (row next) old.bytes
+    ≡ operands_at offset_bits old.is_big (next (view x)) new.bytes
+Leads {X} {Y} offset_bits view old new (Err e) row = (next : Y → Row)
+    → operands_at offset_bits old.is_big (row next) old.bytes ≡ Err (fault_of e)
 
--- the row that an entry is at an opcode
-abbrev pub entry_row : Encoding → (opcode : ℕ) → Entry → Row
-entry_row encoding opcode entry.Unknown = Invalid opcode
-entry_row encoding opcode (entry.Fieldless operation) = Makes (fieldless_operation operation)
-entry_row encoding opcode (entry.Literal number) = Makes (meaning.UnsignedConstant number)
-entry_row encoding opcode (entry.Register register) = Makes (meaning.Register register)
-entry_row encoding opcode (entry.Pick index) = Makes (meaning.Pick index)
-entry_row encoding opcode entry.Deref = Makes (meaning.Deref 0 encoding.address_size false)
-entry_row encoding opcode entry.DerefSize = unsigned (Bytes 1, Any) (λ size. meaning.Deref 0 size false)
-entry_row encoding opcode (entry.Constant shape) = unsigned (unsigned_form shape) meaning.UnsignedConstant
-entry_row encoding opcode entry.PlusConstant = unsigned (Leb128, Any) meaning.PlusConstant
-entry_row encoding opcode (entry.SignedConstant shape) = signed (signed_form shape) meaning.SignedConstant
-entry_row encoding opcode entry.FrameOffset = signed Leb128 meaning.FrameOffset
-entry_row encoding opcode entry.Bra = signed (Bytes 2) meaning.Bra
-entry_row encoding opcode entry.Skip = signed (Bytes 2) meaning.Skip
-entry_row encoding opcode (entry.Offset shape make) = unsigned (offset_form encoding shape) (offset_operation make)
-entry_row encoding opcode (entry.BaseRegister register) =
-    signed Leb128 (λ offset. meaning.RegisterOffset register offset 0)
-entry_row encoding opcode entry.Piece = unsigned (Leb128, PieceSize) (λ size. meaning.Piece (8 * size) None)
-entry_row encoding opcode (entry.Rare rare) = rare_row encoding rare
+-- a read of one operand, from the text before to the text after it
+pub record GoesOn {X Y : Type 0} (offset_bits : ℕ) (view : X → Y) (old new : Text) (result : Result X Error)
+    (row : (Y → Row) → Row) : Type 0 where
+  pub leads : Leads offset_bits view old new result row
+  pub rest : IsSuffix new.bytes old.bytes
+  pub order : new.is_big ≡ old.is_big
+
+-- ---- what is made of them
+
+abbrev pub wasm_operation : WasmPlace → (index : ℕ) → meaning.Operation
+wasm_operation place.Local index = meaning.WasmLocal index
+wasm_operation place.Global index = meaning.WasmGlobal index
+wasm_operation place.Stack index = meaning.WasmStack index
+
+-- the operation that is made of one operand or two
+abbrev pub operation_by : Maker → (first second : Operand ℕ) → meaning.Operation
+operation_by (maker.Deref space) first second = meaning.Deref second.offset first.byte space
+operation_by maker.Pick first second = meaning.Pick first.byte
+operation_by maker.PlusConstant first second = meaning.PlusConstant first.unsigned
+operation_by maker.Bra first second = meaning.Bra first.short
+operation_by maker.Skip first second = meaning.Skip first.short
+operation_by maker.UnsignedConstant first second = meaning.UnsignedConstant first.unsigned
+operation_by maker.SignedConstant first second = meaning.SignedConstant first.signed
+operation_by maker.Register first second = meaning.Register first.register.0
+operation_by maker.RegisterOffset first second = meaning.RegisterOffset first.register.0 second.signed 0
+operation_by (maker.BaseRegister register) first second = meaning.RegisterOffset register first.signed 0
+operation_by maker.TypedRegister first second = meaning.RegisterOffset first.register.0 (pos 0) second.offset
+operation_by maker.FrameOffset first second = meaning.FrameOffset first.signed
+operation_by maker.UnitCall first second = meaning.Call (meaning.UnitRef first.offset)
+operation_by maker.InfoCall first second = meaning.Call (meaning.DebugInfoRef first.offset)
+operation_by maker.Piece first second = meaning.Piece first.unsigned None
+operation_by maker.BitPiece first second = meaning.Piece first.unsigned (Some second.unsigned)
+operation_by maker.ImplicitPointer first second = meaning.ImplicitPointer first.offset second.signed
+operation_by maker.ParameterRef first second = meaning.ParameterRef first.offset
+operation_by maker.Address first second = meaning.Address first.unsigned
+operation_by maker.AddressIndex first second = meaning.AddressIndex first.offset
+operation_by maker.ConstantIndex first second = meaning.ConstantIndex first.offset
+operation_by maker.Convert first second = meaning.Convert first.offset
+operation_by maker.Reinterpret first second = meaning.Reinterpret first.offset
+operation_by maker.Wasm first second = wasm_operation second.place second.index
+operation_by maker.VariableValue first second = meaning.VariableValue first.offset
+
+-- the operation that is made of a block, and of the operand before its size
+abbrev pub block_operation : BlockMaker → (first : Operand ℕ) → Text → meaning.Operation
+block_operation block_maker.ImplicitValue first block = meaning.ImplicitValue block
+block_operation block_maker.EntryValue first block = meaning.EntryValue block
+block_operation block_maker.TypedLiteral first block = meaning.TypedLiteral first.offset block
+
+-- ---- rows
+
+-- one operand
+abbrev pub row_of_one : Encoding → Shape → Maker → Row
+row_of_one encoding first make =
+    shape_row encoding first no_operand (λ a. Makes (operation_by make a no_operand))
+
+-- two operands
+abbrev pub row_of_two : Encoding → (first second : Shape) → Maker → Row
+row_of_two encoding first second make =
+    shape_row encoding first no_operand (λ a. shape_row encoding second a (λ b. Makes (operation_by make a b)))
+
+-- an operand or none, the size of a block, and the block
+abbrev pub row_of_block : Encoding → (first size : Shape) → BlockMaker → Row
+row_of_block encoding first size make =
+    shape_row encoding first no_operand (λ a. shape_row encoding size a
+    (λ b. Block b.offset (λ block. Makes (block_operation make a block))))
 
 -- a row's operands at the front of a text
 abbrev pub operands_in : (offset_bits : ℕ) → Text → Row → Result (meaning.Operation × List ℕ) Fault
 operands_in offset_bits text row = operands_at offset_bits text.is_big row text.bytes
-
--- a register's number at the front
-abbrev pub register_at : List ℕ → Result (ℕ × List ℕ) Fault
-register_at bytes = uleb_at bytes >>= λ number. register_of number.0 >>= λ register. Ok (register, number.1)
-
--- a size, and then this many bytes
-abbrev pub block_in : (offset_bits : ℕ) → Text → Layout × Range → Result (Text × List ℕ) Fault
-block_in offset_bits text size =
-    unsigned_at offset_bits text.is_big size text.bytes >>= λ n. split_at n.0 n.1
-    >>= λ block. Ok (record { bytes = block.0; is_big = text.is_big }, block.1)

@@ -1,10 +1,9 @@
-use Rattle.std.proofs.Common.{◌≡◌, ◌≢◌, ℕ, zero, suc, ◌+◌, ◌-◌, ◌<◌, ◌≤◌, inl, inr, List, [], ◌∷◌, refl, subst, arith}
+use Rattle.std.proofs.Common.{rules, ◌≡◌, ◌≢◌, ℕ, zero, suc, ◌+◌, ◌-◌, ◌<◌, ◌≤◌, inl, inr, List, [], ◌∷◌, refl, subst, arith}
 use Rattle.std.proofs.lemmas.Bool.{cases_lt}
 use Rattle.dwarf_base.specs.declared.common.Encoding.{Encoding}
-use Rattle.dwarf_meaning.specs.Operations as operation
-use Rattle.dwarf_meaning.specs.Operands.{Leb128}
-use Rattle.dwarf_meaning.specs.Opcodes.{Row, Makes, Invalid, signed, row_of}
-use Rattle.dwarf_op.proofs.opcodes.entry_at.Goals as goal
+use Rattle.dwarf_meaning.specs.Opcodes.{Row, Invalid, row_of}
+use Rattle.dwarf_op.proofs.decoding.read_row.Goals as goal
+use Rattle.dwarf_op.proofs.decoding.read_row.Goals.{in_default-via-then-this-lt8, in_default-via-else-this-lt8+else-this-lt80+else-this-lt112+else-this-lt144}
 
 -- the rows that a function gives to this many opcodes
 abbrev rows_from : (ℕ → Row) → (from count : ℕ) → List Row
@@ -32,7 +31,7 @@ row_within one other from count opcode same low high =
 
 -- ---- the opcodes of no operation, by the gaps that they lie in
 
-pub unknown_low : (encoding : Encoding) (opcode : ℕ) → opcode < 8 → opcode ≢ 3 → opcode ≢ 6
+unknown_low : (encoding : Encoding) (opcode : ℕ) → opcode < 8 → opcode ≢ 3 → opcode ≢ 6
     → Invalid opcode ≡ row_of encoding opcode
 unfolding row_of
 unknown_low encoding opcode below not_addr not_deref =
@@ -44,7 +43,7 @@ unknown_low encoding opcode below not_addr not_deref =
       ]
     ]
 
-pub unknown_high : (encoding : Encoding) (opcode : ℕ) → 170 ≤ opcode → opcode < 256 → opcode ≢ 224 → opcode ≢ 237
+unknown_high : (encoding : Encoding) (opcode : ℕ) → 170 ≤ opcode → opcode < 256 → opcode ≢ 224 → opcode ≢ 237
     → opcode ≢ 240 → (242 ≤ opcode → 248 ≤ opcode) → (249 ≤ opcode → 254 ≤ opcode) → Invalid opcode ≡ row_of encoding opcode
 unfolding row_of
 unknown_high encoding opcode above below not_tls not_wasm not_uninit no_typed no_index =
@@ -65,24 +64,13 @@ unknown_high encoding opcode above below not_tls not_wasm not_uninit no_typed no
       ]
     ]
 
-pub returns-in-48-to-79 : goal.returns-in-48-to-79
-unfolding row_of
-returns-in-48-to-79 c = λ encoding. row_within (λ n. Makes (operation.UnsignedConstant (n - 48))) (row_of encoding) 48 32 c.args.opcode refl (omega arith) (omega arith)
-
-pub returns-in-80-to-111 : goal.returns-in-80-to-111
-unfolding row_of
-returns-in-80-to-111 c = λ encoding. row_within (λ n. Makes (operation.Register (n - 80))) (row_of encoding) 80 32 c.args.opcode refl (omega arith) (omega arith)
-
-pub returns-in-112-to-143 : goal.returns-in-112-to-143
-unfolding row_of
-returns-in-112-to-143 c = λ encoding.
-    let made : ℕ → Row = λ n. signed Leb128 (λ offset. operation.RegisterOffset (n - 112) offset 0) in
-    row_within made (row_of encoding) 112 32 c.args.opcode refl (omega arith) (omega arith)
-
 pub returns-in_default : goal.returns-in_default
-returns-in_default c = λ encoding. unknown_low encoding c.args.opcode (omega arith) (omega arith) (omega arith)
-
-pub returns-in_default-2 : goal.returns-in_default-2
-returns-in_default-2 c = λ encoding.
-    unknown_high encoding c.args.opcode (omega arith) (omega arith) (omega arith) (omega arith)
-    (omega arith) (omega arith) (omega arith)
+returns-in_default g c =
+    let opcode = c.args.opcode in
+    let invalid : Invalid opcode ≡ row_of c.args.encoding opcode = elim c.in_default.branch [
+      | in_default-via-then-this-lt8 w ↦ unknown_low c.args.encoding opcode (omega arith) (omega arith) (omega arith)
+      | in_default-via-else-this-lt8+else-this-lt80+else-this-lt112+else-this-lt144 w ↦
+          unknown_high c.args.encoding opcode (omega arith) (omega arith) (omega arith) (omega arith) (omega arith)
+          (omega arith) (omega arith)
+    ] in
+    rw (← invalid) (search rules)

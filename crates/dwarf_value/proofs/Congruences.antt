@@ -1,5 +1,5 @@
 -- Integers that differ by a multiple of a number, and their residues.
-use Rattle.std.proofs.Common.{◌≡◌, ℕ, ◌+◌, ◌-◌, ◌*◌, ◌/◌, ◌%◌, ◌^◌, ◌<◌, ◌≤◌, ℤ, pos, negsuc, ◌+ℤ◌, ◌*ℤ◌, neg_ℤ, refl, sym, ap, ◌∙◌, subst, arith, Bool, true, false, if◌then◌else◌}
+use Rattle.std.proofs.Common.{◌≡◌, ℕ, ◌+◌, ◌-◌, ◌*◌, ◌/◌, ◌%◌, ◌^◌, ◌<◌, ◌≤◌, ℤ, pos, negsuc, ◌+ℤ◌, ◌*ℤ◌, neg_ℤ, sym, ap, ◌∙◌, subst, arith}
 use Rattle.std.proofs.lemmas.Int.{ints}
 use Rattle.std.proofs.lemmas.Nat.{pow_pos, mod_below, pow-add, mod-mul-add}
 use borrow.Author.Differences.{up, down, product_is}
@@ -101,8 +101,7 @@ residue-shifted : (x : ℤ) (n : ℕ) → residue 64 x * 2 ^ n % 2 ^ 64 ≡ resi
 residue-shifted x n =
     residue-Congruent 64 (pos (residue 64 x * 2 ^ n)) (x *ℤ pos (2 ^ n)) (Congruent-mul (2 ^ 64) (pos (residue 64 x)) x (pos (2 ^ n)) (Congruent-residue 64 x))
 
-pub value_of-shifted : (t : ValueType) (x : ℤ) (b : Bool) (n : ℕ) → value_of 64 t (pos (if b then 0 else residue 64 x * 2 ^ n % 2 ^ 64)) ≡ value_of 64 t (if b then pos 0 else x *ℤ pos (2 ^ n))
-value_of-shifted t x true n = refl
-value_of-shifted t x false n = ap (λ r. value_of 64 t (pos r)) (residue-shifted x n) ∙ value_of-low 64 t (x *ℤ pos (2 ^ n)) (omega arith)
+pub value_of-shifted : (t : ValueType) (x : ℤ) (n : ℕ) → value_of 64 t (pos (residue 64 x * 2 ^ n % 2 ^ 64)) ≡ value_of 64 t (x *ℤ pos (2 ^ n))
+value_of-shifted t x n = ap (λ r. value_of 64 t (pos r)) (residue-shifted x n) ∙ value_of-low 64 t (x *ℤ pos (2 ^ n)) (omega arith)
 
 pub ruleset left_shifts = (value_of-shifted)

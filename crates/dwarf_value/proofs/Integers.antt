@@ -1,18 +1,14 @@
 -- The integers of values, read with a sign and without.
-use Rattle.std.proofs.Common.{◌≡◌, ◌≢◌, ℕ, ◌-◌, ◌%◌, ◌^◌, ◌<◌, ◌≤◌, ℤ, pos, negsuc, neg_ℤ, ◌-ℤ◌, ◌≤ℤ◌, ◌<ℤ◌, Bool, true, false, if◌then◌else◌, ap, subst, arith, nat_lt, pow_mono}
+use Rattle.std.proofs.Common.{◌≡◌, ◌≢◌, ◌⊎◌, inl, inr, ℕ, zero, suc, ◌+◌, ◌-◌, ◌*◌, ◌/◌, ◌%◌, ◌^◌, ◌<◌, ◌≤◌, min, ℤ, pos, negsuc, neg_ℤ, ◌-ℤ◌, ◌≤ℤ◌, ◌<ℤ◌, Bool, true, false, if◌then◌else◌, refl, sym, ap, ◌∙◌, add-one, arith, nat_lt, pow_mono}
 use Rattle.std.specs.Ordering.{int_eq}
 use Rattle.std.proofs.lemmas.Int.{ints}
-use Rattle.std.proofs.lemmas.Nat.{pow_pos, mod_below}
+use Rattle.std.proofs.lemmas.Nat.{pow_pos, mod_below, pow-add}
 use Rattle.std.proofs.lemmas.Bool.Decides.{nat_tests, Decides-int_eq}
-use Rattle.std.proofs.lemmas.Bool.{false_from_ne_true}
+use Rattle.std.proofs.lemmas.Bool.{false_from_ne_true, cases_lt}
 use native.Mathlib.Nat.{div-eq_of_lt}
-use Rattle.dwarf_value.specs.inner.OperandPairs.{IsIn64}
 use Rattle.dwarf_value.specs.declared.types.Value.{Value}
 use Rattle.dwarf_value.specs.declared.types.Value.TheVariants.{Generic}
-use Rattle.dwarf_value.specs.declared.types.ValueType.{ValueType}
-use Rattle.dwarf_value.specs.contracts.types.ValueType.{the_type}
-use Rattle.dwarf_value.specs.Values.{word_integer, integer_of, unsigned_integer, floor_quotient, is_same}
-use denote.Enum.Bare.{same_true}
+use Rattle.dwarf_value.specs.Values.{word_integer, integer_of, unsigned_integer, floor_quotient}
 
 -- ---- zero
 
@@ -47,21 +43,43 @@ nonzero_divisor signed w x h = int_eq-false _ _ (λ e. h (zero_as false signed w
 
 -- ---- quotients by large powers
 
-pub floor_quotient-past_negative : (z : ℤ) (n : ℕ) → z <ℤ pos 0 → neg_ℤ (pos (2 ^ 64)) ≤ℤ z → 64 ≤ n → floor_quotient z (2 ^ n) ≡ negsuc 0
-floor_quotient-past_negative (pos a) n h l g = absurd (omega (arith, ints))
-floor_quotient-past_negative (negsuc a) n h l g = let q : 2 ^ 64 ≤ 2 ^ n = pow_mono {i = 64} {j = n} g in ap negsuc (div-eq_of_lt (omega (arith, ints)))
+quotient-min : (a n : ℕ) → a < 2 ^ 64 → a / 2 ^ min n 64 ≡ a / 2 ^ n
+quotient-min a n h = by_length (cases_lt n 64)
+  where
+    by_length : (n < 64) ⊎ (64 ≤ n) → a / 2 ^ min n 64 ≡ a / 2 ^ n
+    by_length (inl below) = ap (λ k. a / 2 ^ k) (omega arith)
+    by_length (inr past) =
+        let most : 2 ^ 64 ≤ 2 ^ n = pow_mono {i = 64} {j = n} past in
+        let least : min n 64 ≡ 64 = omega arith in
+        ap (λ k. a / 2 ^ k) least ∙ (div-eq_of_lt h ∙ sym (div-eq_of_lt (omega arith)))
 
-pub floor_quotient-past : (z : ℤ) (n : ℕ) → pos 0 ≤ℤ z → z <ℤ pos (2 ^ 64) → 64 ≤ n → floor_quotient z (2 ^ n) ≡ pos 0
-floor_quotient-past (pos a) n h l g = let q : 2 ^ 64 ≤ 2 ^ n = pow_mono {i = 64} {j = n} g in ap pos (div-eq_of_lt (omega (arith, ints)))
-floor_quotient-past (negsuc a) n h l g = absurd (omega (arith, ints))
+-- to divide by more than 2 ^ 64 is to divide by that
+pub floor_quotient-min : (z : ℤ) (n : ℕ) → neg_ℤ (pos (2 ^ 64)) ≤ℤ z → z <ℤ pos (2 ^ 64) → floor_quotient z (2 ^ min n 64) ≡ floor_quotient z (2 ^ n)
+floor_quotient-min (pos a) n l h = ap pos (quotient-min a n (omega (arith, ints)))
+floor_quotient-min (negsuc a) n l h = ap negsuc (quotient-min a n (omega (arith, ints)))
 
--- ---- types
+-- ---- words of an address, extended to 64 bits
 
-pub same_types : (s t : ValueType) → is_same s t ≡ true → s ≡ t
-unfolding is_same
-same_types s t e = same_true the_type tt s t e
+halves : (w : ℕ) → 0 < w → 2 ^ w ≡ 2 ^ (w - 1) + 2 ^ (w - 1)
+halves (suc w) h =
+    let e : 2 ^ suc w ≡ 2 ^ w * 2 = ap (λ k. 2 ^ k) (sym (add-one w)) ∙ pow-add 2 w 1 in
+    let f : 2 ^ (suc w - 1) ≡ 2 ^ w = ap (λ k. 2 ^ k) (omega arith) in
+    omega (arith, e, f)
+halves zero h = absurd (omega arith)
 
--- ---- integers of 64 bits
+module _ (w mask n : ℕ) (some_bit : 0 < w) (within : w ≤ 64) (ones : mask ≡ 2 ^ w - 1) (fits : n < 2 ^ w) where
+  pub extended_negative : mask / 2 < n → word_integer true 64 (n + (18446744073709551615 - mask)) ≡ word_integer true w n
+  unfolding word_integer
+  extended_negative h =
+      let e = halves w some_bit in let m : 2 ^ w ≤ 2 ^ 64 = pow_mono {i = w} {j = 64} within in let p = pow_pos w in
+      grind (arith, ints, nat_tests)
 
-pub carry_in_64 : (s t : Bool) (y z : ℤ) → IsIn64 s y → s ≡ t → y ≡ z → IsIn64 t z
-carry_in_64 s t y z h e f = subst (λ b. IsIn64 b z) e (subst (IsIn64 s) f h)
+  pub extended : n ≤ mask / 2 → word_integer true 64 n ≡ word_integer true w n
+  unfolding word_integer
+  extended h =
+      let e = halves w some_bit in let m : 2 ^ w ≤ 2 ^ 64 = pow_mono {i = w} {j = 64} within in let p = pow_pos w in
+      grind (arith, ints, nat_tests)
+
+pub without_sign : (j k n : ℕ) → word_integer false j n ≡ word_integer false k n
+unfolding word_integer
+without_sign j k n = refl

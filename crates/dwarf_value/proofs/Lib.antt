@@ -2,5 +2,4 @@ pub mod Agreements
 pub mod Congruences
 pub mod Integers
 pub mod MaskBits
-pub mod Sums
 pub mod ValueLaws

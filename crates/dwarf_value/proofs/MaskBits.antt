@@ -72,17 +72,3 @@ all_bits_width = width_of-low 64
 pub ruleset all_bits = (all_bits_mask, all_bits_width)
 
 pub ruleset width_within_64 = (width_of-le)
-
--- the highest bit alone
-half_of_ones : (mask w : ℕ) → 0 < w → mask ≡ 2 ^ w - 1 → mask / 2 + 1 ≡ 2 ^ (w - 1)
-half_of_ones mask (suc w) h e =
-    let p = pow_pos w in
-    let d = low_ones-suc w in
-    let g : 2 ^ (suc w - 1) ≡ 2 ^ w = ap (λ k. 2 ^ k) (omega arith) in
-    omega (arith, e, d, g)
-half_of_ones mask zero h e = absurd (omega arith)
-
-pub half_of_mask : (mask : ℕ) → IsAddressMask mask → mask / 2 + 1 ≡ 2 ^ (width_of mask - 1)
-half_of_mask mask m = half_of_ones mask (width_of mask) m.some_bit m.low_ones
-
-pub ruleset highest_bits = (half_of_mask)

@@ -1,52 +1,50 @@
 //! Sums, differences, products, quotients and remainders of values.
 
-ghost use Rattle.std.specs.Prelude.{◌≡◌, ◌≢◌, pos, ◌+ℤ◌, ◌-ℤ◌, ◌*ℤ◌, int_div, int_rem, MatchResult};
-ghost use Rattle.dwarf_base.specs.Numbers.{residue};
-ghost use Rattle.dwarf_value.specs.inner.OperandPairs.{IsIn64, AreDivided, UnfitDivision};
+ghost use Rattle.std.specs.Prelude.{◌≡◌, ◌≢◌, ◌^◌, pos, neg_ℤ, ◌+ℤ◌, ◌-ℤ◌, ◌*ℤ◌, ◌≤ℤ◌, ◌<ℤ◌, unsigned_abs, int_div, int_rem, MatchResult};
+ghost use Rattle.dwarf_value.specs.inner.OperandPairs.{AreDivided, UnfitDivision};
 ghost use Rattle.dwarf_value.specs.Values.{IsAddressMask, width_of, combination, unary_of, binary_of, Abs, Neg, Div, Mod};
 
-use crate::types::{Value, ValueType};
-use crate::word::{low_bits, same_type};
+use crate::types::Value;
+use crate::word::{Operands, low_bits};
 use dwarf_base::{Error, Result};
 
 impl Value {
     /// The sum, wrapped (`DW_OP_plus`). `TypeMismatch` if the types differ.
     ///
     /// `addr_mask` has a one for each bit of an address: [`is_addr_mask`](crate::is_addr_mask) tells.
-    #[tactic(auto, using(crate::proofs::MaskBits::all_bits))]
     #[inline(always)]
     pub fn add(self, rhs: Value, addr_mask: u64) -> Result<Value>
         requires { IsAddressMask addr_mask }
         ensures { result ≡ combination ◌+ℤ◌ (width_of addr_mask) self rhs }
     {
-        let (value_type, _, x, y) = self.operands(rhs, u64::MAX, false)?;
+        let (value_type, x, y) = self.operands(rhs, addr_mask, false)?;
         Ok(Value::wrapped(value_type, x + y, addr_mask))
     }
 
     /// The difference, wrapped (`DW_OP_minus`). `TypeMismatch` if the types differ.
     ///
     /// `addr_mask` has a one for each bit of an address: [`is_addr_mask`](crate::is_addr_mask) tells.
-    #[tactic(auto, using(crate::proofs::MaskBits::all_bits))]
     #[inline(always)]
     pub fn sub(self, rhs: Value, addr_mask: u64) -> Result<Value>
         requires { IsAddressMask addr_mask }
         ensures { result ≡ combination ◌-ℤ◌ (width_of addr_mask) self rhs }
     {
-        let (value_type, _, x, y) = self.operands(rhs, u64::MAX, false)?;
+        let (value_type, x, y) = self.operands(rhs, addr_mask, false)?;
         Ok(Value::wrapped(value_type, x - y, addr_mask))
     }
 
     /// The product, wrapped (`DW_OP_mul`). `TypeMismatch` if the types differ.
     ///
     /// `addr_mask` has a one for each bit of an address: [`is_addr_mask`](crate::is_addr_mask) tells.
-    #[tactic(auto, using(crate::proofs::Congruences::low_bits_only, crate::proofs::MaskBits::all_bits))]
+    #[tactic(auto, using(crate::proofs::Congruences::low_bits_only))]
     #[inline(always)]
     pub fn mul(self, rhs: Value, addr_mask: u64) -> Result<Value>
         requires { IsAddressMask addr_mask }
         ensures { result ≡ combination ◌*ℤ◌ (width_of addr_mask) self rhs }
     {
-        let (value_type, _, x, y) = self.operands(rhs, u64::MAX, false)?;
-        Ok(Value::wrapped(value_type, low_product(x, y), addr_mask))
+        let (value_type, x, y) = self.operands(rhs, addr_mask, false)?;
+        let product = low_bits(x).wrapping_mul(low_bits(y));
+        Ok(Value::wrapped(value_type, product as i128, addr_mask))
     }
 
     /// The quotient, rounded towards zero and wrapped (`DW_OP_div`). Generic values are divided as signed integers.
@@ -59,9 +57,8 @@ impl Value {
         requires { IsAddressMask addr_mask }
         ensures { result ≡ binary_of Div (width_of addr_mask) self rhs }
     {
-        let (value_type, signed, x, y) = self.divided_by(rhs, addr_mask, true)?;
-        let quotient = quotient(signed, x, y);
-        Ok(Value::wrapped_to_64(value_type, quotient))
+        let (value_type, x, y) = self.divided_by(rhs, addr_mask, true)?;
+        Ok(Value::wrapped_to_64(value_type, quotient(x, y)))
     }
 
     /// The remainder, with the dividend's sign (`DW_OP_mod`). Generic values are divided as unsigned integers.
@@ -74,9 +71,8 @@ impl Value {
         requires { IsAddressMask addr_mask }
         ensures { result ≡ binary_of Mod (width_of addr_mask) self rhs }
     {
-        let (value_type, signed, x, y) = self.divided_by(rhs, addr_mask, false)?;
-        let remainder = remainder(signed, x, y);
-        Ok(Value::wrapped_to_64(value_type, remainder))
+        let (value_type, x, y) = self.divided_by(rhs, addr_mask, false)?;
+        Ok(Value::wrapped_to_64(value_type, remainder(x, y)))
     }
 
     /// The absolute value, wrapped (`DW_OP_abs`). A generic value is a signed integer here. It is never refused.
@@ -87,9 +83,8 @@ impl Value {
         requires { IsAddressMask addr_mask }
         ensures { result ≡ unary_of Abs (width_of addr_mask) self }
     {
-        let (value_type, word) = self.taken_apart(addr_mask, true);
-        let x = word.integer();
-        Ok(Value::wrapped_to_64(value_type, if x < 0 { -x } else { x }))
+        let (value_type, word) = self.parts(addr_mask, true);
+        Value::from_u64(value_type, magnitude(word.integer()))
     }
 
     /// The negated value, wrapped (`DW_OP_neg`). A generic value is a signed integer here.
@@ -101,7 +96,7 @@ impl Value {
         requires { IsAddressMask addr_mask }
         ensures { result ≡ unary_of Neg (width_of addr_mask) self }
     {
-        let (value_type, word) = self.taken_apart(addr_mask, true);
+        let (value_type, word) = self.parts(addr_mask, true);
         if !word.signed {
             return Err(Error::UnsupportedTypeOperation);
         }
@@ -110,68 +105,58 @@ impl Value {
 
     /// What `operands` gives, of a dividend and a divisor. A zero divisor is refused before two types are.
     #[inline(always)]
-    fn divided_by(
-        self,
-        rhs: Value,
-        addr_mask: u64,
-        signed: bool,
-    ) -> Result<(ValueType, bool, i128, i128)>
+    fn divided_by(self, rhs: Value, addr_mask: u64, signed: bool) -> Result<Operands>
         requires { IsAddressMask addr_mask }
         ensures { MatchResult result
-            (λ r. AreDivided signed (width_of addr_mask) self rhs r.0 r.1 r.2 r.3)
+            (λ r. AreDivided signed (width_of addr_mask) self rhs r.0 r.1 r.2)
             (UnfitDivision (width_of addr_mask) self rhs) }
     {
-        let (value_type, first) = self.taken_apart(addr_mask, signed);
-        let (other, second) = rhs.taken_apart(addr_mask, signed);
-        let divisor = second.integer();
-        if divisor == 0 {
+        let (_, divisor) = rhs.parts(addr_mask, signed);
+        if divisor.integer() == 0 {
             return Err(Error::DivisionByZero);
         }
-        if !same_type(value_type, other) {
-            return Err(Error::TypeMismatch);
-        }
-        Ok((value_type, first.signed, first.integer(), divisor))
+        self.operands(rhs, addr_mask, signed)
     }
 }
 
-/// The product modulo two to the 64.
+/// The absolute value of an integer of 64 bits.
 #[inline(always)]
-fn low_product(x: i128, y: i128) -> i128
-    ensures { result ≡ pos (residue 64 (x *ℤ y)) }
+fn magnitude(x: i128) -> u64
+    requires least { neg_ℤ (pos (2 ^ 63)) ≤ℤ x }
+    requires most { x <ℤ pos (2 ^ 64) }
+    ensures { result ≡ unsigned_abs x }
 {
-    low_bits(x).wrapping_mul(low_bits(y)) as i128
+    x.unsigned_abs() as u64
 }
 
-/// The quotient of two integers of 64 bits, rounded towards zero. By -1 the least one's has a bit more.
+/// The quotient of two integers of 64 bits, rounded towards zero: that of the absolute values, with the sign.
 #[inline(always)]
-fn quotient(signed: bool, x: i128, y: i128) -> i128
-    requires x { IsIn64 signed x }
-    requires y { IsIn64 signed y }
+fn quotient(x: i128, y: i128) -> i128
+    requires x_least { neg_ℤ (pos (2 ^ 63)) ≤ℤ x }
+    requires x_most { x <ℤ pos (2 ^ 64) }
+    requires y_least { neg_ℤ (pos (2 ^ 63)) ≤ℤ y }
+    requires y_most { y <ℤ pos (2 ^ 64) }
     requires nonzero { y ≢ pos 0 }
     ensures { result ≡ int_div x y }
 {
-    if !signed {
-        (x as u64 / y as u64) as i128
-    } else if y == -1 {
-        -x
+    let quotient = (magnitude(x) / magnitude(y)) as i128;
+    if (x < 0) == (y < 0) {
+        quotient
     } else {
-        (x as i64 / y as i64) as i128
+        -quotient
     }
 }
 
-/// The remainder of two integers of 64 bits, with the sign of the first.
+/// The remainder of two integers of 64 bits: that of the absolute values, with the sign of the first.
 #[inline(always)]
-fn remainder(signed: bool, x: i128, y: i128) -> i128
-    requires x { IsIn64 signed x }
-    requires y { IsIn64 signed y }
+fn remainder(x: i128, y: i128) -> i128
+    requires x_least { neg_ℤ (pos (2 ^ 63)) ≤ℤ x }
+    requires x_most { x <ℤ pos (2 ^ 64) }
+    requires y_least { neg_ℤ (pos (2 ^ 63)) ≤ℤ y }
+    requires y_most { y <ℤ pos (2 ^ 64) }
     requires nonzero { y ≢ pos 0 }
     ensures { result ≡ int_rem x y }
 {
-    if !signed {
-        (x as u64 % y as u64) as i128
-    } else if y == -1 {
-        0
-    } else {
-        (x as i64 % y as i64) as i128
-    }
+    let remainder = (magnitude(x) % magnitude(y)) as i128;
+    if x < 0 { -remainder } else { remainder }
 }

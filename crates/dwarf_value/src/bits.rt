@@ -14,7 +14,7 @@ impl Value {
         requires { IsAddressMask addr_mask }
         ensures { result ≡ unary_of Not (width_of addr_mask) self }
     {
-        let (value_type, word) = self.taken_apart(addr_mask, false);
+        let (value_type, word) = self.parts(addr_mask, false);
         Ok(Value::wrapped_to_64(value_type, -word.integer() - 1))
     }
 
@@ -26,7 +26,7 @@ impl Value {
         requires { IsAddressMask addr_mask }
         ensures { result ≡ binary_of And (width_of addr_mask) self rhs }
     {
-        let (value_type, _, x, y) = self.operands(rhs, addr_mask, false)?;
+        let (value_type, x, y) = self.operands(rhs, addr_mask, false)?;
         Value::from_u64(value_type, low_bits(x) & low_bits(y))
     }
 
@@ -38,7 +38,7 @@ impl Value {
         requires { IsAddressMask addr_mask }
         ensures { result ≡ binary_of Or (width_of addr_mask) self rhs }
     {
-        let (value_type, _, x, y) = self.operands(rhs, addr_mask, false)?;
+        let (value_type, x, y) = self.operands(rhs, addr_mask, false)?;
         Value::from_u64(value_type, low_bits(x) | low_bits(y))
     }
 
@@ -50,7 +50,7 @@ impl Value {
         requires { IsAddressMask addr_mask }
         ensures { result ≡ binary_of Xor (width_of addr_mask) self rhs }
     {
-        let (value_type, _, x, y) = self.operands(rhs, addr_mask, false)?;
+        let (value_type, x, y) = self.operands(rhs, addr_mask, false)?;
         Value::from_u64(value_type, low_bits(x) ^ low_bits(y))
     }
 }

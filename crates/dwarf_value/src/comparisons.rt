@@ -1,6 +1,4 @@
-ghost use Rattle.std.specs.Prelude.{◌≡◌, int_lt};
-ghost use Rattle.std.specs.Ordering.{int_eq};
-ghost use Rattle.dwarf_value.specs.inner.OperandPairs.{IsIn64};
+ghost use Rattle.std.specs.Prelude.{◌≡◌};
 ghost use Rattle.dwarf_value.specs.Values.{IsAddressMask, width_of, binary_of, Eq, Ge, Gt, Le, Lt, Ne};
 
 use crate::types::Value;
@@ -16,8 +14,8 @@ impl Value {
         requires { IsAddressMask addr_mask }
         ensures { result ≡ binary_of Eq (width_of addr_mask) self rhs }
     {
-        let (_, signed, x, y) = self.operands(rhs, addr_mask, true)?;
-        Ok(Value::Generic(u64::from(is_equal(signed, x, y))))
+        let (_, x, y) = self.operands(rhs, addr_mask, true)?;
+        Ok(Value::Generic(u64::from(x == y)))
     }
 
     /// Whether it is at least `rhs`, as the generic 1 or 0 (`DW_OP_ge`). Generic values are signed integers here.
@@ -29,8 +27,8 @@ impl Value {
         requires { IsAddressMask addr_mask }
         ensures { result ≡ binary_of Ge (width_of addr_mask) self rhs }
     {
-        let (_, signed, x, y) = self.operands(rhs, addr_mask, true)?;
-        Ok(Value::Generic(u64::from(!is_below(signed, x, y))))
+        let (_, x, y) = self.operands(rhs, addr_mask, true)?;
+        Ok(Value::Generic(u64::from(x >= y)))
     }
 
     /// Whether it is above `rhs`, as the generic 1 or 0 (`DW_OP_gt`). Generic values are signed integers here.
@@ -42,8 +40,8 @@ impl Value {
         requires { IsAddressMask addr_mask }
         ensures { result ≡ binary_of Gt (width_of addr_mask) self rhs }
     {
-        let (_, signed, x, y) = self.operands(rhs, addr_mask, true)?;
-        Ok(Value::Generic(u64::from(is_below(signed, y, x))))
+        let (_, x, y) = self.operands(rhs, addr_mask, true)?;
+        Ok(Value::Generic(u64::from(x > y)))
     }
 
     /// Whether it is at most `rhs`, as the generic 1 or 0 (`DW_OP_le`). Generic values are signed integers here.
@@ -55,8 +53,8 @@ impl Value {
         requires { IsAddressMask addr_mask }
         ensures { result ≡ binary_of Le (width_of addr_mask) self rhs }
     {
-        let (_, signed, x, y) = self.operands(rhs, addr_mask, true)?;
-        Ok(Value::Generic(u64::from(!is_below(signed, y, x))))
+        let (_, x, y) = self.operands(rhs, addr_mask, true)?;
+        Ok(Value::Generic(u64::from(x <= y)))
     }
 
     /// Whether it is below `rhs`, as the generic 1 or 0 (`DW_OP_lt`). Generic values are signed integers here.
@@ -68,8 +66,8 @@ impl Value {
         requires { IsAddressMask addr_mask }
         ensures { result ≡ binary_of Lt (width_of addr_mask) self rhs }
     {
-        let (_, signed, x, y) = self.operands(rhs, addr_mask, true)?;
-        Ok(Value::Generic(u64::from(is_below(signed, x, y))))
+        let (_, x, y) = self.operands(rhs, addr_mask, true)?;
+        Ok(Value::Generic(u64::from(x < y)))
     }
 
     /// Whether the two differ, as the generic 1 or 0 (`DW_OP_ne`). Generic values are signed integers here.
@@ -81,35 +79,7 @@ impl Value {
         requires { IsAddressMask addr_mask }
         ensures { result ≡ binary_of Ne (width_of addr_mask) self rhs }
     {
-        let (_, signed, x, y) = self.operands(rhs, addr_mask, true)?;
-        Ok(Value::Generic(u64::from(!is_equal(signed, x, y))))
-    }
-}
-
-/// Whether two integers of 64 bits are equal.
-#[inline(always)]
-fn is_equal(signed: bool, x: i128, y: i128) -> bool
-    requires x { IsIn64 signed x }
-    requires y { IsIn64 signed y }
-    ensures { result ≡ int_eq x y }
-{
-    if signed {
-        (x as i64) == (y as i64)
-    } else {
-        (x as u64) == (y as u64)
-    }
-}
-
-/// Whether an integer of 64 bits is below another.
-#[inline(always)]
-fn is_below(signed: bool, x: i128, y: i128) -> bool
-    requires x { IsIn64 signed x }
-    requires y { IsIn64 signed y }
-    ensures { result ≡ int_lt x y }
-{
-    if signed {
-        (x as i64) < (y as i64)
-    } else {
-        (x as u64) < (y as u64)
+        let (_, x, y) = self.operands(rhs, addr_mask, true)?;
+        Ok(Value::Generic(u64::from(x != y)))
     }
 }

@@ -32,7 +32,7 @@ impl Value {
         requires { IsAddressMask addr_mask }
         ensures { result ≡ Ok (to_u64_of (width_of addr_mask) self) }
     {
-        let (_, word) = self.taken_apart(addr_mask, false);
+        let (_, word) = self.parts(addr_mask, false);
         Ok(low_bits(word.integer()))
     }
 
@@ -42,7 +42,7 @@ impl Value {
     pub fn from_u64(value_type: ValueType, value: u64) -> Result<Value>
         ensures { result ≡ Ok (from_u64_of value_type value) }
     {
-        Ok(Value::made(value_type, Word::new(value, 64, false), u64::MAX))
+        Ok(Value::make(value_type, Word::new(value, 64, false), u64::MAX))
     }
 
     /// The value in another type, by `to_u64` and `from_u64` (`DW_OP_convert`). It is never refused.
@@ -71,7 +71,7 @@ impl Value {
         if self.value_type().bit_size(addr_mask) != value_type.bit_size(addr_mask) {
             return Err(Error::TypeMismatch);
         }
-        let (_, word) = self.taken_apart(u64::MAX, false);
+        let (_, word) = self.parts(u64::MAX, false);
         Value::from_u64(value_type, low_bits(word.integer()))
     }
 }

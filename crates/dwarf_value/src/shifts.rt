@@ -1,7 +1,7 @@
 //! Shifts of values.
 
 ghost use Rattle.std.specs.Prelude.{◌≡◌, ◌≤◌, ◌^◌, ◌*◌, ◌%◌, pos, neg_ℤ, ◌≤ℤ◌, ◌<ℤ◌, nat_le, if◌then◌else◌, MatchResult};
-ghost use Rattle.dwarf_value.specs.inner.OperandPairs.{IsIn64, IsLength, UnfitLength};
+ghost use Rattle.dwarf_value.specs.inner.OperandPairs.{IsLength, UnfitLength};
 ghost use Rattle.dwarf_value.specs.Values.{IsAddressMask, width_of, floor_quotient, binary_of, Shl, Shr, Shra};
 
 use crate::types::Value;
@@ -20,11 +20,11 @@ impl Value {
         ensures { result ≡ binary_of Shl (width_of addr_mask) self rhs }
     {
         let length = rhs.shift_length(addr_mask)?;
-        let (value_type, word) = self.taken_apart(addr_mask, false);
-        Value::from_u64(
-            value_type,
-            shifted_left(low_bits(word.integer()), length, word.width),
-        )
+        let (value_type, word) = self.parts(addr_mask, false);
+        if length >= u64::from(word.width) {
+            return Value::from_u64(value_type, 0);
+        }
+        Value::from_u64(value_type, low_bits(word.integer()) << length)
     }
 
     /// Shifted to the right by a length of any type, with zeros from the left (`DW_OP_shr`). A generic value is an
@@ -39,12 +39,11 @@ impl Value {
         ensures { result ≡ binary_of Shr (width_of addr_mask) self rhs }
     {
         let length = rhs.shift_length(addr_mask)?;
-        let (value_type, word) = self.taken_apart(addr_mask, false);
+        let (value_type, word) = self.parts(addr_mask, false);
         if word.signed {
             return Err(Error::UnsupportedTypeOperation);
         }
-        let shifted = shifted_right(word.signed, word.integer(), length);
-        Ok(Value::wrapped_to_64(value_type, shifted))
+        Ok(Value::wrapped_to_64(value_type, shifted_right(word.integer(), length)))
     }
 
     /// Shifted to the right by a length of any type, with copies of the sign from the left (`DW_OP_shra`). A generic
@@ -59,12 +58,11 @@ impl Value {
         ensures { result ≡ binary_of Shra (width_of addr_mask) self rhs }
     {
         let length = rhs.shift_length(addr_mask)?;
-        let (value_type, word) = self.taken_apart(addr_mask, true);
+        let (value_type, word) = self.parts(addr_mask, true);
         if !word.signed {
             return Err(Error::UnsupportedTypeOperation);
         }
-        let shifted = shifted_right(word.signed, word.integer(), length);
-        Ok(Value::wrapped_to_64(value_type, shifted))
+        Ok(Value::wrapped_to_64(value_type, shifted_right(word.integer(), length)))
     }
 
     /// The length of a shift by this value. `InvalidShiftExpression` if it is negative.
@@ -74,7 +72,7 @@ impl Value {
         ensures { MatchResult result (IsLength (width_of addr_mask) self)
             (UnfitLength (width_of addr_mask) self) }
     {
-        let (_, word) = self.taken_apart(addr_mask, false);
+        let (_, word) = self.parts(addr_mask, false);
         let length = word.integer();
         if length < 0 {
             return Err(Error::InvalidShiftExpression);
@@ -83,36 +81,12 @@ impl Value {
     }
 }
 
-/// Bits of a type of this many bits, shifted to the left.
-#[inline(always)]
-fn shifted_left(bits: u64, length: u64, size: u32) -> u64
-    requires { size ≤ 64 }
-    ensures { result ≡ (if nat_le size length then 0 else bits * 2 ^ length % 2 ^ 64) }
-{
-    if length < u64::from(size) {
-        bits << length
-    } else {
-        0
-    }
-}
-
 /// An integer of 64 bits divided by two to the length, rounded down.
 #[inline(always)]
-fn shifted_right(signed: bool, integer: i128, length: u64) -> i128
+fn shifted_right(integer: i128, length: u64) -> i128
     requires least { neg_ℤ (pos (2 ^ 64)) ≤ℤ integer }
     requires most { integer <ℤ pos (2 ^ 64) }
-    requires in_64 { IsIn64 signed integer }
     ensures { result ≡ floor_quotient integer (2 ^ length) }
 {
-    if length < 64 {
-        if signed {
-            (integer as i64 >> length) as i128
-        } else {
-            (integer as u64 >> length) as i128
-        }
-    } else if integer < 0 {
-        -1
-    } else {
-        0
-    }
+    integer >> length.min(64)
 }

@@ -1,34 +1,31 @@
 //! A value as a word: its bits, its width, and whether it has a sign.
 
-ghost use Rattle.std.specs.Prelude.{◌≡◌, ◌<◌, ◌≤◌, ◌-◌, ◌^◌, ◌%◌, pos, neg_ℤ, ◌≤ℤ◌, ◌<ℤ◌, MatchResult};
+ghost use Rattle.std.specs.Prelude.{◌≡◌, ◌<◌, ◌≤◌, ◌^◌, ◌%◌, pos, neg_ℤ, ◌≤ℤ◌, ◌<ℤ◌, true, false, MatchResult};
 ghost use Rattle.dwarf_base.specs.Numbers.{residue};
-ghost use Rattle.dwarf_value.specs.inner.OperandPairs.{IsIn64, AreOperands, UnfitOperands};
+ghost use Rattle.dwarf_value.specs.inner.OperandPairs.{AreOperands, UnfitOperands};
 ghost use Rattle.dwarf_value.specs.Values.{IsAddressMask, width_of, word_integer, type_of, bit_size_of, is_signed, is_same, integer_of, value_of};
 
 use crate::masks::mask_width;
 use crate::types::{Value, ValueType};
 use dwarf_base::{Error, Result};
 
-/// Bits with a width from 1 to 64, the number whose only bit is the highest of them, and whether that one is a sign.
+/// A number of 64 bits, how many of them a value has, and whether the highest of these is a sign. The bits above are
+/// copies of the sign, or zeros.
 #[derive(Clone, Copy)]
 pub(crate) struct Word {
     pub bits: u64,
     pub width: u32,
-    pub half: u64,
     pub signed: bool,
     ghost some_bit: { 0 < width },
     ghost within_64: { width ≤ 64 },
-    ghost fits: { bits < 2 ^ width },
-    ghost highest: { half ≡ 2 ^ (width - 1) },
 }
 
 impl Word {
-    /// This many bits, with a sign or without.
+    /// This number, of a value with this many bits, with a sign or without.
     #[inline(always)]
-    pub fn new(bits: u64, width: u32, signed: bool) -> Word
+    pub(crate) fn new(bits: u64, width: u32, signed: bool) -> Word
         requires some_bit { 0 < width }
         requires within_64 { width ≤ 64 }
-        requires fits { bits < 2 ^ width }
         ensures bits { result.bits ≡ bits }
         ensures width { result.width ≡ width }
         ensures signed { result.signed ≡ signed }
@@ -36,40 +33,49 @@ impl Word {
         Word {
             bits,
             width,
-            half: 1 << (width - 1),
             signed,
         }
     }
 
-    /// As many bits as an address has, with a sign or without.
-    #[tactic(auto, using(crate::proofs::MaskBits::highest_bits))]
+    /// A number with a sign, of a value with this many bits.
+    #[tactic(auto, unfolding(crate::specs::Values::word_integer))]
     #[inline(always)]
-    pub(crate) fn of_address(bits: u64, addr_mask: u64, signed: bool) -> Word
-        requires mask { IsAddressMask addr_mask }
-        requires fits { bits < 2 ^ width_of addr_mask }
-        ensures bits { result.bits ≡ bits }
+    fn with_sign(number: i64, width: u32) -> Word
+        requires some_bit { 0 < width }
+        requires within_64 { width ≤ 64 }
+        ensures width { result.width ≡ width }
+        ensures signed { result.signed ≡ true }
+        ensures integer { word_integer true 64 result.bits ≡ number }
+    {
+        Word::new(number.cast_unsigned(), width, true)
+    }
+
+    /// The lowest bits of a generic value, as many as an address has, with a sign or without.
+    #[inline(always)]
+    fn of_address(content: u64, addr_mask: u64, signed: bool) -> Word
+        requires { IsAddressMask addr_mask }
         ensures width { result.width ≡ width_of addr_mask }
         ensures signed { result.signed ≡ signed }
+        ensures integer { word_integer signed 64 result.bits
+            ≡ word_integer signed (width_of addr_mask) (content % 2 ^ width_of addr_mask) }
     {
-        Word {
-            bits,
-            width: mask_width(addr_mask),
-            half: (addr_mask >> 1) + 1,
-            signed,
+        let mut bits = low_part(content, addr_mask);
+        if signed && bits > addr_mask >> 1 {
+            bits += !addr_mask;
         }
+        Word::new(bits, mask_width(addr_mask), signed)
     }
 
     /// The integer that the bits stand for.
     #[tactic(auto, unfolding(crate::specs::Values::word_integer))]
     #[inline(always)]
     pub fn integer(self) -> i128
-        ensures value { result ≡ word_integer self.signed self.width self.bits }
+        ensures value { result ≡ word_integer self.signed 64 self.bits }
         ensures least { neg_ℤ (pos (2 ^ 63)) ≤ℤ result }
         ensures most { result <ℤ pos (2 ^ 64) }
-        ensures in_64 { IsIn64 self.signed result }
     {
-        if self.signed && self.bits >= self.half {
-            self.bits as i128 - 2 * self.half as i128
+        if self.signed {
+            self.bits.cast_signed() as i128
         } else {
             self.bits as i128
         }
@@ -103,6 +109,9 @@ pub(crate) fn same_type(first: ValueType, second: ValueType) -> bool
     first == second
 }
 
+/// The type of two values, and their integers.
+pub(crate) type Operands = (ValueType, i128, i128);
+
 impl Value {
     /// The type and the word of a value. The bits of a generic one are those of an address, `signed` or not.
     #[tactic(auto, unfolding(crate::specs::Values::type_of, crate::specs::Values::integer_of, crate::specs::Values::word_integer, crate::specs::Values::bit_size_of, crate::specs::Values::is_signed))]
@@ -112,118 +121,40 @@ impl Value {
         ensures value_type { result.0 ≡ type_of self }
         ensures width { result.1.width ≡ bit_size_of (width_of addr_mask) (type_of self) }
         ensures signed { result.1.signed ≡ is_signed signed (type_of self) }
-        ensures integer { word_integer result.1.signed result.1.width result.1.bits
+        ensures integer { word_integer result.1.signed 64 result.1.bits
             ≡ integer_of signed (width_of addr_mask) self }
     {
         match self {
-            Value::Generic(content) => {
-                let bits = low_part(content, addr_mask);
-                (
-                    ValueType::Generic,
-                    Word::of_address(bits, addr_mask, signed),
-                )
-            }
-            Value::I8(x) => (ValueType::I8, Word::new(x.cast_unsigned() as u64, 8, true)),
-            Value::U8(x) => (ValueType::U8, Word::new(x as u64, 8, false)),
-            Value::I16(x) => (
-                ValueType::I16,
-                Word::new(x.cast_unsigned() as u64, 16, true),
-            ),
-            Value::U16(x) => (ValueType::U16, Word::new(x as u64, 16, false)),
-            Value::I32(x) => (
-                ValueType::I32,
-                Word::new(x.cast_unsigned() as u64, 32, true),
-            ),
-            Value::U32(x) => (ValueType::U32, Word::new(x as u64, 32, false)),
-            Value::I64(x) => (ValueType::I64, Word::new(x.cast_unsigned(), 64, true)),
+            Value::Generic(x) => (ValueType::Generic, Word::of_address(x, addr_mask, signed)),
+            Value::I8(x) => (ValueType::I8, Word::with_sign(i64::from(x), 8)),
+            Value::U8(x) => (ValueType::U8, Word::new(u64::from(x), 8, false)),
+            Value::I16(x) => (ValueType::I16, Word::with_sign(i64::from(x), 16)),
+            Value::U16(x) => (ValueType::U16, Word::new(u64::from(x), 16, false)),
+            Value::I32(x) => (ValueType::I32, Word::with_sign(i64::from(x), 32)),
+            Value::U32(x) => (ValueType::U32, Word::new(u64::from(x), 32, false)),
+            Value::I64(x) => (ValueType::I64, Word::with_sign(x, 64)),
             Value::U64(x) => (ValueType::U64, Word::new(x, 64, false)),
         }
     }
 
-    /// The same, by a call unless the value is generic.
+    /// The type and the integers of two values of one type; `TypeMismatch` if the types differ. The bits of generic
+    /// ones are those of an address, `signed` or not.
     #[inline(always)]
-    pub(crate) fn taken_apart(self, addr_mask: u64, signed: bool) -> (ValueType, Word)
-        requires { IsAddressMask addr_mask }
-        ensures value_type { result.0 ≡ type_of self }
-        ensures width { result.1.width ≡ bit_size_of (width_of addr_mask) (type_of self) }
-        ensures signed { result.1.signed ≡ is_signed signed (type_of self) }
-        ensures integer { word_integer result.1.signed result.1.width result.1.bits
-            ≡ integer_of signed (width_of addr_mask) self }
-    {
-        let Value::Generic(_) = self else {
-            return self.parts_by_call(addr_mask, signed);
-        };
-        self.parts(addr_mask, signed)
-    }
-
-    /// The same, by a call.
-    #[inline(never)]
-    fn parts_by_call(self, addr_mask: u64, signed: bool) -> (ValueType, Word)
-        requires { IsAddressMask addr_mask }
-        ensures value_type { result.0 ≡ type_of self }
-        ensures width { result.1.width ≡ bit_size_of (width_of addr_mask) (type_of self) }
-        ensures signed { result.1.signed ≡ is_signed signed (type_of self) }
-        ensures integer { word_integer result.1.signed result.1.width result.1.bits
-            ≡ integer_of signed (width_of addr_mask) self }
-    {
-        self.parts(addr_mask, signed)
-    }
-
-    /// The type of two values of one type, whether its integers have a sign, and the two integers; `TypeMismatch` if
-    /// the types differ. The bits of generic ones are those of an address, `signed` or not.
-    #[inline(always)]
-    pub(crate) fn operands(
-        self,
-        rhs: Value,
-        addr_mask: u64,
-        signed: bool,
-    ) -> Result<(ValueType, bool, i128, i128)>
+    pub(crate) fn operands(self, rhs: Value, addr_mask: u64, signed: bool) -> Result<Operands>
         requires { IsAddressMask addr_mask }
         ensures { MatchResult result
-            (λ r. AreOperands signed (width_of addr_mask) self rhs r.0 r.1 r.2 r.3)
+            (λ r. AreOperands signed (width_of addr_mask) self rhs r.0 r.1 r.2)
             (UnfitOperands self rhs) }
     {
-        let (Value::Generic(_), Value::Generic(_)) = (self, rhs) else {
-            return self.operands_by_call(rhs, addr_mask, signed);
-        };
-        self.operands_in_line(rhs, addr_mask, signed)
-    }
-
-    /// The same, by a call.
-    #[inline(never)]
-    fn operands_by_call(
-        self,
-        rhs: Value,
-        addr_mask: u64,
-        signed: bool,
-    ) -> Result<(ValueType, bool, i128, i128)>
-        requires { IsAddressMask addr_mask }
-        ensures { MatchResult result
-            (λ r. AreOperands signed (width_of addr_mask) self rhs r.0 r.1 r.2 r.3)
-            (UnfitOperands self rhs) }
-    {
-        self.operands_in_line(rhs, addr_mask, signed)
-    }
-
-    /// The same, in line.
-    #[inline(always)]
-    fn operands_in_line(
-        self,
-        rhs: Value,
-        addr_mask: u64,
-        signed: bool,
-    ) -> Result<(ValueType, bool, i128, i128)>
-        requires { IsAddressMask addr_mask }
-        ensures { MatchResult result
-            (λ r. AreOperands signed (width_of addr_mask) self rhs r.0 r.1 r.2 r.3)
-            (UnfitOperands self rhs) }
-    {
-        let (value_type, first) = self.parts(addr_mask, signed);
-        let (other, second) = rhs.parts(addr_mask, signed);
+        let (value_type, _) = self.parts(addr_mask, signed);
+        let (other, _) = rhs.parts(addr_mask, signed);
+        // Before the words, so that one jump takes both values apart.
         if !same_type(value_type, other) {
             return Err(Error::TypeMismatch);
         }
-        Ok((value_type, first.signed, first.integer(), second.integer()))
+        let (_, first) = self.parts(addr_mask, signed);
+        let (_, second) = rhs.parts(addr_mask, signed);
+        Ok((value_type, first.integer(), second.integer()))
     }
 
     /// The value of a type that a word of 64 bits is cut to. A generic one keeps the bits of an address.
@@ -247,27 +178,6 @@ impl Value {
         }
     }
 
-    /// The same, by a call unless the value is generic.
-    #[inline(always)]
-    pub(crate) fn made(value_type: ValueType, word: Word, addr_mask: u64) -> Value
-        requires { IsAddressMask addr_mask }
-        ensures { result ≡ value_of (width_of addr_mask) value_type (pos word.bits) }
-    {
-        let ValueType::Generic = value_type else {
-            return Value::made_by_call(value_type, word, addr_mask);
-        };
-        Value::make(value_type, word, addr_mask)
-    }
-
-    /// The same, by a call.
-    #[inline(never)]
-    fn made_by_call(value_type: ValueType, word: Word, addr_mask: u64) -> Value
-        requires { IsAddressMask addr_mask }
-        ensures { result ≡ value_of (width_of addr_mask) value_type (pos word.bits) }
-    {
-        Value::make(value_type, word, addr_mask)
-    }
-
     /// The value of the type that an integer wraps to. A generic one keeps the bits of an address.
     #[tactic(auto, using(crate::proofs::Congruences::low_bits_only, crate::proofs::MaskBits::width_within_64))]
     #[inline(always)]
@@ -275,7 +185,7 @@ impl Value {
         requires { IsAddressMask addr_mask }
         ensures { result ≡ value_of (width_of addr_mask) value_type integer }
     {
-        Value::made(
+        Value::make(
             value_type,
             Word::new(low_bits(integer), 64, false),
             addr_mask,

@@ -146,14 +146,11 @@ impl Value {
             (λ r. AreOperands signed (width_of addr_mask) self rhs r.0 r.1 r.2)
             (UnfitOperands self rhs) }
     {
-        let (value_type, _) = self.parts(addr_mask, signed);
-        let (other, _) = rhs.parts(addr_mask, signed);
-        // Before the words, so that one jump takes both values apart.
+        let (value_type, first) = self.parts(addr_mask, signed);
+        let (other, second) = rhs.parts(addr_mask, signed);
         if !same_type(value_type, other) {
             return Err(Error::TypeMismatch);
         }
-        let (_, first) = self.parts(addr_mask, signed);
-        let (_, second) = rhs.parts(addr_mask, signed);
         Ok((value_type, first.integer(), second.integer()))
     }
 

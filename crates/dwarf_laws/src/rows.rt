@@ -9,15 +9,14 @@ ghost use Rattle.dwarf_value.specs.declared.types.ValueType.TheVariants as value
 ghost use Rattle.dwarf_meaning.specs.Operations.{UnitRef};
 ghost use Rattle.dwarf_meaning.specs.Locations.{InRegister, AtAddress, HoldsValue};
 ghost use Rattle.dwarf_meaning.specs.declared.kinds.WaitingKind.TheVariants as kind;
-ghost use Rattle.dwarf_meaning.specs.Requests.{RequiresMemory, RequiresRegister, RequiresWasmLocal, RequiresFrameBase, RequiresCallFrameCfa, RequiresAtLocation, RequiresEntryValue, RequiresIndexedAddress, RequiresBaseType, ValueAnswer, NumberAnswer, LocationAnswer, BaseTypeAnswer};
+ghost use Rattle.dwarf_meaning.specs.Requests.{RequiresMemory, RequiresRegister, RequiresWasmLocal, RequiresWasmGlobal, RequiresWasmStack, RequiresFrameBase, RequiresTls, RequiresCallFrameCfa, RequiresAtLocation, RequiresEntryValue, RequiresParameterRef, RequiresRelocatedAddress, RequiresIndexedAddress, RequiresBaseType, ValueAnswer, NumberAnswer, LocationAnswer, BaseTypeAnswer};
 ghost use Rattle.dwarf_meaning.specs.Refusals.{Never, After};
 ghost use Rattle.dwarf_meaning.specs.Meaning.{RequestOutcome, FaultOutcome, CompleteOutcome, whole_piece};
 ghost use Rattle.dwarf_meaning.specs.Steps.{InitialValue, ObjectAddress, RequestReply, CompleteReply, FaultReply};
 ghost use Rattle.dwarf_meaning.specs.RowWords.{text, no_limits, with_limits, dwarf4, at_most, unset, inputs_of, callee, open_at, word_at, value_at, pieces_only};
 ghost use Rattle.dwarf_laws.specs.LawRows.{started_steps, ComeAlike, call_site, IsWorked, Disagree, EndUnlike};
 
-/// Worked rows of `high_bits`: two runs of one text whose answers differ above the 32 bits of an address. Of the
-/// requests whose answers are pushed as they are, some stand for all.
+/// Worked rows of `high_bits`: two runs of one text whose answers differ above the 32 bits of an address.
 ///
 /// It does nothing. Each clause of its contract gives the limits, the text's bytes, and the steps of both runs, which
 /// agree; then what both reply, and the outcome of each.
@@ -36,15 +35,44 @@ pub fn twin_rows()
         (started_steps (NumberAnswer kind.FrameBase 0x100000010 ∷ []))
         (RequestReply RequiresFrameBase ∷ CompleteReply ∷ [])
         (value_at 0x10 0x10) (value_at 0x100000010 0x10) }
+    ensures tls { ComeAlike dwarf4 (0x35 ∷ 0x9b ∷ [])
+        (started_steps (NumberAnswer kind.Tls 0x10 ∷ [])) (started_steps (NumberAnswer kind.Tls 0x100000010 ∷ []))
+        (RequestReply (RequiresTls 5) ∷ CompleteReply ∷ [])
+        (value_at 0x10 0x10) (value_at 0x100000010 0x10) }
+    ensures parameter { ComeAlike dwarf4 (0xfa ∷ 0x05 ∷ 0x00 ∷ 0x00 ∷ 0x00 ∷ [])
+        (started_steps (NumberAnswer kind.ParameterRef 0x10 ∷ []))
+        (started_steps (NumberAnswer kind.ParameterRef 0x100000010 ∷ []))
+        (RequestReply (RequiresParameterRef 5) ∷ CompleteReply ∷ [])
+        (value_at 0x10 0x10) (value_at 0x100000010 0x10) }
+    ensures relocated_address { ComeAlike dwarf4 (0x03 ∷ 0x05 ∷ 0x00 ∷ 0x00 ∷ 0x00 ∷ [])
+        (started_steps (NumberAnswer kind.RelocatedAddress 0x10 ∷ []))
+        (started_steps (NumberAnswer kind.RelocatedAddress 0x100000010 ∷ []))
+        (RequestReply (RequiresRelocatedAddress 5) ∷ CompleteReply ∷ [])
+        (value_at 0x10 0x10) (value_at 0x100000010 0x10) }
     ensures indexed_address { ComeAlike dwarf4 (0xa1 ∷ 0x05 ∷ [])
         (started_steps (NumberAnswer kind.IndexedAddress 0x10 ∷ []))
         (started_steps (NumberAnswer kind.IndexedAddress 0x100000010 ∷ []))
         (RequestReply (RequiresIndexedAddress 5 true) ∷ CompleteReply ∷ [])
         (value_at 0x10 0x10) (value_at 0x100000010 0x10) }
+    ensures indexed_constant { ComeAlike dwarf4 (0xa2 ∷ 0x05 ∷ [])
+        (started_steps (NumberAnswer kind.IndexedAddress 0x10 ∷ []))
+        (started_steps (NumberAnswer kind.IndexedAddress 0x100000010 ∷ []))
+        (RequestReply (RequiresIndexedAddress 5 false) ∷ CompleteReply ∷ [])
+        (value_at 0x10 0x10) (value_at 0x100000010 0x10) }
     ensures wasm_local { ComeAlike dwarf4 (0xed ∷ 0x00 ∷ 0x05 ∷ [])
         (started_steps (ValueAnswer kind.WasmValue (Generic 0x10) ∷ []))
         (started_steps (ValueAnswer kind.WasmValue (Generic 0x100000010) ∷ []))
         (RequestReply (RequiresWasmLocal 5) ∷ CompleteReply ∷ [])
+        (value_at 0x10 0x10) (value_at 0x100000010 0x10) }
+    ensures wasm_global { ComeAlike dwarf4 (0xed ∷ 0x01 ∷ 0x05 ∷ [])
+        (started_steps (ValueAnswer kind.WasmValue (Generic 0x10) ∷ []))
+        (started_steps (ValueAnswer kind.WasmValue (Generic 0x100000010) ∷ []))
+        (RequestReply (RequiresWasmGlobal 5) ∷ CompleteReply ∷ [])
+        (value_at 0x10 0x10) (value_at 0x100000010 0x10) }
+    ensures wasm_stack { ComeAlike dwarf4 (0xed ∷ 0x02 ∷ 0x05 ∷ [])
+        (started_steps (ValueAnswer kind.WasmValue (Generic 0x10) ∷ []))
+        (started_steps (ValueAnswer kind.WasmValue (Generic 0x100000010) ∷ []))
+        (RequestReply (RequiresWasmStack 5) ∷ CompleteReply ∷ [])
         (value_at 0x10 0x10) (value_at 0x100000010 0x10) }
     ensures entry_value { ComeAlike dwarf4 (0xa3 ∷ 0x01 ∷ 0x9c ∷ [])
         (started_steps (ValueAnswer kind.EntryValue (Generic 0x10) ∷ []))

@@ -6,7 +6,8 @@ The rows of tests/rows/refused_calls.json run so.
 - Allocations: a run whose Nth is refused has to print the answers that it gives with ample memory, up to one of them,
   and then `fault StackFull` for that call and each later one, or `no memory`; and it has to end with status 1. N
   grows until no run meets a refusal: then each prints what it prints with ample memory.
-- Reads, of a byte each: if one is refused, nothing is printed, and the status is 1.
+- Reads, of a byte each: if one is refused, by any error that read(2) has but for an interruption, nothing is printed,
+  and the status is 1.
 - Writes, of a byte each: if one is refused, or takes no byte, nothing is printed after the bytes before it, and the
   status is 1.
 - A read or a write that a signal interrupts changes nothing.
@@ -34,6 +35,11 @@ IN_A_ROW = 8
 MOST = 400
 # Inputs of which a byte, or the end, can't be read.
 INPUTS = ["", "evaluate\n", "nonsense\n"]
+# The errors of read(2), by POSIX and Linux, but for EINTR.
+READ_ERRORS = [
+    *(errno.EAGAIN, errno.EBADF, errno.EBADMSG, errno.ECONNRESET, errno.EFAULT, errno.EINVAL, errno.EIO),
+    *(errno.EISDIR, errno.ENOBUFS, errno.ENOMEM, errno.ENOTCONN, errno.ENXIO, errno.EOVERFLOW, errno.ETIMEDOUT),
+]
 # The rows whose lists grow, and those that print each kind of line, of which the first completes.
 ROWS = [
     row | {field: run_rows.bytes_of(row[field]).decode() for field in ("input", "output")}
@@ -87,10 +93,10 @@ def refuse_allocations(library):
 def refuse_reads(library):
     for text in INPUTS:
         # The last of them is the read that finds the end.
-        for number in range(1, len(text) + 2):
-            printed, said = got = run(library, {"READ": number}, FEW[0], text=text)
+        for number, failure in itertools.product(range(1, len(text) + 2), READ_ERRORS):
+            printed, said = got = run(library, {"READ": number}, FEW[0], failure, text)
             good = printed == ("", 1) and said.startswith("dwexpr: standard input can't be read: ")
-            expect(good, f"input {text!r}, read {number} refused: {got!r}")
+            expect(good, f"input {text!r}, read {number} refused by {errno.errorcode[failure]}: {got!r}")
 
 
 def number_of_buffer(library):

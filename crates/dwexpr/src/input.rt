@@ -1,9 +1,29 @@
-//! The lines of the input.
+//! The input, and its lines.
 
 ghost use Rattle.std.specs.Prelude.{◌≡◌, ◌==◌, ◌<◌, length};
 ghost use Rattle.std.specs.List.{position};
 ghost use Rattle.std.specs.Str.Lines.{strip_carriage_return};
 ghost use Rattle.dwexpr.specs.StepLines as spec;
+
+use std::io;
+use std::io::Read;
+
+/// A reader that knows whether its last read failed.
+#[derive(Drop)]
+pub(crate) struct WatchedReader<I> {
+    pub(crate) reader: I,
+    pub(crate) failed: bool,
+}
+
+impl<I: Read> Read for WatchedReader<I> {
+    ghost remaining = { λ watched. I.remaining watched.reader };
+
+    fn read(&mut self, buf: &mut [u8]) -> io::Result<usize> {
+        let read = self.reader.read(buf);
+        self.failed = read.is_err();
+        read
+    }
+}
 
 /// A line of the input, and what follows it.
 #[derive(Clone, Copy)]

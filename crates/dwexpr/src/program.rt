@@ -27,7 +27,7 @@ ghost use Rattle.dwexpr.specs.Endings.{Ending, complete_ending};
 use crate::endings::{DONE, FAILED, bad_step, bad_words, misplaced_step, no_memory};
 use crate::explaining::Output;
 use crate::hexadecimal::ReadFault;
-use crate::input::line_at;
+use crate::input::{WatchedReader, line_at};
 use crate::lines::{print_piece, print_reply, print_value_line};
 use crate::listing::print_operations;
 use crate::steps::{BadLine, BadStep, steps_in};
@@ -194,26 +194,29 @@ fn run_eval<A: Allocator + Copy, I: Read + Drop, W: Output>(
     alloc: A,
     bytes: &[u8],
     reading: Reading,
-    mut input: I,
+    reader: I,
     output: &mut W,
 ) -> io::Result<u8>
     requires some { 0 < reading.encoding.address_size }
     requires fits { reading.encoding.address_size ≤ 8 }
     ensures { (ending : Ending)
         × EvaluatesInput reading.encoding
-        (record { bytes = bytes.now; is_big = is_big_of reading.order }) (I.remaining input) ending
+        (record { bytes = bytes.now; is_big = is_big_of reading.order }) (I.remaining reader) ending
         × WritesEnding (W.contents output.old) (W.contents output.new) ending result }
 {
     let mut lines = Vec::new(alloc);
+    // A failed read and a list that can't grow may both lack memory, so the reader says which of them it was.
+    let mut input = WatchedReader {
+        reader,
+        failed: false,
+    };
     match input.read_to_end(&mut lines) {
         Ok(_) => run_lines(alloc, bytes, reading, lines.as_slice(), output),
-        Err(error) => match error.kind() {
-            ErrorKind::OutOfMemory => no_memory(output),
-            _ => {
-                output.complain(format_args!("standard input can't be read: {error}"));
-                Ok(FAILED)
-            }
-        },
+        Err(error) if input.failed => {
+            output.complain(format_args!("standard input can't be read: {error}"));
+            Ok(FAILED)
+        }
+        Err(_) => no_memory(output),
     }
 }
 

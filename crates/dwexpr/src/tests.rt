@@ -10,15 +10,15 @@ use std::process::Abort;
 #[derive(Drop)]
 struct Source<'a> {
     left: &'a [u8],
-    fails: bool,
+    failure: Option<ErrorKind>,
 }
 
 impl Read for Source<'_> {
     fn read(&mut self, buf: &mut [u8]) -> io::Result<usize> {
-        if self.fails && self.left.is_empty() {
-            return Err(io::Error::from(ErrorKind::ConnectionReset));
+        match self.failure {
+            Some(kind) if self.left.is_empty() => Err(io::Error::from(kind)),
+            _ => self.left.read(buf),
         }
-        self.left.read(buf)
     }
 }
 
@@ -135,7 +135,7 @@ fn failing_readers_and_writers(rt: HostRuntime) -> Result<(), AllocError> {
         for room in 0..=printed.len() {
             let input = Source {
                 left: row.input.unwrap_or("").as_bytes(),
-                fails: row.input.is_none(),
+                failure: row.input.is_none().then_some(ErrorKind::ConnectionReset),
             };
             let status = if room < printed.len() { 1 } else { row.status };
             expect(
@@ -148,11 +148,13 @@ fn failing_readers_and_writers(rt: HostRuntime) -> Result<(), AllocError> {
         }
         let Some(input) = row.input else { continue };
         for count in 0..=input.len() {
-            let input = Source {
-                left: &input.as_bytes()[..count],
-                fails: true,
-            };
-            expect(&rt, rt.alloc(), row.words, (input, usize::MAX), (&[], 1))?;
+            for kind in [ErrorKind::ConnectionReset, ErrorKind::OutOfMemory] {
+                let input = Source {
+                    left: &input.as_bytes()[..count],
+                    failure: Some(kind),
+                };
+                expect(&rt, rt.alloc(), row.words, (input, usize::MAX), (&[], 1))?;
+            }
         }
     }
     Ok(())

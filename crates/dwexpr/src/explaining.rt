@@ -21,6 +21,9 @@ pub trait Output: Write {
     }
 }
 
+/// Each writer that is lent is an output. Nobody is told.
+impl<W: Write> Output for &mut W {}
+
 /// A writer for the lines, and one for what is wrong.
 #[derive(Drop)]
 pub(crate) struct Terminal<O, E> {

@@ -288,7 +288,7 @@ pub(crate) fn run_without_words<W: Output>(error: io::Error, output: &mut W) -> 
 ///
 /// The status is 0; 1 if the evaluation or the decoding failed, a read or a write failed or there was no memory;
 /// and 2 if the words or a line are bad or a step isn't allowed where it stands. The output is also told which word or
-/// line is wrong, or which read or write failed.
+/// line is wrong, or which read or write failed. Each writer serves as one, lent: `&mut &mut writer`.
 pub fn run<A: Allocator + Copy, I: Read + Drop, W: Output>(
     alloc: A,
     words: &[String<A>],

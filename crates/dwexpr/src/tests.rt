@@ -1,5 +1,4 @@
-//! `run` on a reader and on a writer that fail after each number of bytes.
-use crate::explaining::Output;
+//! `run` on a reader and a writer of std, and on a reader and on a writer that fail after each number of bytes.
 use crate::program::run;
 use std::alloc::{AllocError, Global};
 use std::io;
@@ -44,8 +43,6 @@ impl Write for Sink {
         Ok(())
     }
 }
-
-impl Output for Sink {}
 
 /// The words, the input if it is read, what is printed, and the status.
 struct Row {
@@ -106,6 +103,15 @@ static ROWS: [Row; 8] = [
     },
 ];
 
+/// The words of a line.
+fn words_in(alloc: Global, line: &str) -> Result<Vec<String>, AllocError> {
+    let mut words = Vec::new(alloc);
+    for word in line.split(' ') {
+        words.push(String::from_str(alloc, word)?)?;
+    }
+    Ok(words)
+}
+
 /// Runs the words, and expects what is printed, and the status.
 fn expect(
     rt: &impl Abort,
@@ -114,17 +120,34 @@ fn expect(
     (input, room): (Source<'_>, usize),
     (printed, status): (&[u8], u8),
 ) -> Result<(), AllocError> {
-    let mut parted = Vec::new(alloc);
-    for word in words.split(' ') {
-        parted.push(String::from_str(alloc, word)?)?;
-    }
     let taken = Vec::new(alloc);
     let mut output = Sink { taken, room };
-    let ended = run(alloc, parted.as_slice(), input, &mut output);
+    let ended = run(
+        alloc,
+        words_in(alloc, words)?.as_slice(),
+        input,
+        &mut &mut output,
+    );
     assert!(rt;
         output.taken.as_slice() == printed && ended == status,
         "{words}"
     );
+    Ok(())
+}
+
+#[test]
+fn reader_and_writer_of_std(rt: HostRuntime) -> Result<(), AllocError> {
+    for row in &ROWS {
+        let words = words_in(rt.alloc(), row.words)?;
+        let mut input = row.input.unwrap_or("").as_bytes();
+        let mut output = Vec::new(rt.alloc());
+        let status = run(rt.alloc(), words.as_slice(), &mut input, &mut &mut output);
+        assert!(rt;
+            output.as_slice() == row.output.as_bytes() && status == row.status,
+            "{}",
+            row.words
+        );
+    }
     Ok(())
 }
 

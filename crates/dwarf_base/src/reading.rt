@@ -17,10 +17,6 @@ pub trait Reader {
     /// How it counts bytes.
     type Offset: ReaderOffset;
 
-    /// Whether a byte can be read twice at no cost, as it can in memory. No result depends on it: an evaluation may
-    /// look at the bytes of an operation before it reads that.
-    const IN_MEMORY: bool = false;
-
     // The bytes that are left to read, and their order.
     ghost text: { Self → Text };
 

@@ -128,8 +128,6 @@ impl<'input, E: Endianity + Default> Default for EndianSlice<'input, E> {
 }
 
 impl<'input, E: Endianity> Reader for EndianSlice<'input, E> {
-    const IN_MEMORY: bool = true;
-
     type Offset = usize;
 
     ghost text = { text_of E.is_big };

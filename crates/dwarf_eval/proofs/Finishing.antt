@@ -79,23 +79,6 @@ ends_in more f error old mid new stays is e =
       stays = stays_then (FaultStatus error) old mid new stays is;
     })
 
--- pieces are there that may not be
-pub mixed : (more : ℕ) (g : Store → Outcome) (old new : State) → has_pieces old.store.pieces ≡ true → new ≡ with_status (FaultStatus error.InvalidPiece) old → Closes more (λ s. cond (has_pieces s.pieces) (FaultOutcome InvalidPiece) (g s)) old new
-mixed more g old new e is =
-    ends_in more (λ s. cond (has_pieces s.pieces) (FaultOutcome InvalidPiece) (g s)) error.InvalidPiece old old new (stays_here old) is
-    (cond-true (has_pieces old.store.pieces) (FaultOutcome InvalidPiece) (g (with_refusal Never old.store)) e)
-
--- the pieces stand
-pub stands : (g : Store → Outcome) (old new : State) → has_pieces old.store.pieces ≡ true → new ≡ with_status (CompleteStatus None) old → Closes 0 (λ s. cond (has_pieces s.pieces) (CompleteOutcome s.pieces None) (g s)) old new
-stands g old new e is =
-    subst (Closes 0 (λ s. cond (has_pieces s.pieces) (CompleteOutcome s.pieces None) (g s)) old) (sym is) (record {
-      steps = record { pushes = 0; same = λ r. cond-true (has_pieces old.store.pieces) (CompleteOutcome old.store.pieces None) (g (with_refusal r old.store)) e };
-      alone = refl;
-      kept = record { setup = refl; settings = refl };
-      count = refl;
-      items = omega arith;
-    })
-
 -- the end, by the last operation
 pub finish_as : (last : Last) (old new : State) → old.store.last ≡ last → Closes (waits_of last) (λ s. finish_by old.setup s last) old new → Closes (waits_of old.store.last) (finish old.setup) old new
 finish_as last old new e h =

@@ -1,4 +1,3 @@
-pub mod Gives
 pub mod Pushes
 pub mod RefusedPushes
 pub mod Staying

@@ -1,7 +1,6 @@
 //! The run of an evaluation: its state, and what each operation and each answer does to it.
 
 mod answers;
-mod binary;
 pub(crate) mod machine;
 mod operate;
 mod operations;

@@ -6,14 +6,14 @@ ghost use Rattle.dwarf_base.specs.EndianSlice.{text_of};
 use dwarf_base::{EndianSlice, LittleEndian, Reader, Result};
 use std::cell::Cell;
 
-/// Bytes, in memory or not. How many are read is counted, and none is left once a read was refused.
+/// Bytes. How many are read is counted, and none is left once a read was refused.
 #[derive(Clone, Copy, Debug)]
-pub(crate) struct Watched<'a, const IN_MEMORY: bool> {
+pub(crate) struct Watched<'a> {
     slice: EndianSlice<'a, LittleEndian>,
     read: &'a Cell<u64>,
 }
 
-impl<'a, const IN_MEMORY: bool> Watched<'a, IN_MEMORY> {
+impl<'a> Watched<'a> {
     pub(crate) fn new(bytes: &'a [u8], read: &'a Cell<u64>) -> Self {
         Watched {
             slice: EndianSlice::new(bytes, LittleEndian),
@@ -26,9 +26,7 @@ impl<'a, const IN_MEMORY: bool> Watched<'a, IN_MEMORY> {
     }
 }
 
-impl<'a, const IN_MEMORY: bool> Reader for Watched<'a, IN_MEMORY> {
-    const IN_MEMORY: bool = IN_MEMORY;
-
+impl<'a> Reader for Watched<'a> {
     type Offset = usize;
 
     ghost text = { λ reader. text_of (λ _. false) reader.slice };

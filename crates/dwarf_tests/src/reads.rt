@@ -1,5 +1,4 @@
-//! Each byte of an operation that is decoded is read once, and no other byte is, but for a look, in memory, at the
-//! piece after a location.
+//! Each byte of an operation that is decoded is read once, and no other byte is.
 
 use crate::evaluation::{SMALL, little, replayed_on_heap};
 use crate::readers::Watched;
@@ -16,9 +15,9 @@ fn text_of(opcode: u8) -> [u8; 10] {
 }
 
 // The iterator reads the bytes of the first operation, or the opcode if no operation has it.
-fn expect_item<const IN_MEMORY: bool>(rt: &impl Abort, text: &[u8]) {
+fn expect_item(rt: &impl Abort, text: &[u8]) {
     let read = Cell::new(0);
-    let expression = Expression(Watched::<IN_MEMORY>::new(text, &read));
+    let expression = Expression(Watched::new(text, &read));
     let mut operations = expression.operations(SMALL);
     let is_unknown = operations.next().is_err();
     let place = if is_unknown {
@@ -30,9 +29,9 @@ fn expect_item<const IN_MEMORY: bool>(rt: &impl Abort, text: &[u8]) {
 }
 
 // The iterator reads each byte of an expression.
-fn expect_items<const IN_MEMORY: bool>(rt: &impl Abort, text: &[u8]) {
+fn expect_items(rt: &impl Abort, text: &[u8]) {
     let read = Cell::new(0);
-    for item in Expression(Watched::<IN_MEMORY>::new(text, &read)).operations(SMALL) {
+    for item in Expression(Watched::new(text, &read)).operations(SMALL) {
         assert!(rt; item.is_ok());
     }
     assert!(rt; read.get() == text.len() as u64);
@@ -42,8 +41,7 @@ fn expect_items<const IN_MEMORY: bool>(rt: &impl Abort, text: &[u8]) {
 fn iterator_reads_each_byte_once(rt: HostRuntime) {
     for opcode in 0..=255 {
         let text = text_of(opcode);
-        expect_item::<false>(&rt, &text);
-        expect_item::<true>(&rt, &text);
+        expect_item(&rt, &text);
     }
     // A LEB128 number of one to ten bytes.
     for opcode in [0x10, 0x11] {
@@ -51,13 +49,11 @@ fn iterator_reads_each_byte_once(rt: HostRuntime) {
         text[0] = opcode;
         for last in 1..11 {
             text[last] = 0;
-            expect_item::<false>(&rt, &text);
-            expect_item::<true>(&rt, &text);
+            expect_item(&rt, &text);
             text[last] = 0x80;
         }
     }
-    expect_items::<false>(&rt, LOOP);
-    expect_items::<true>(&rt, LOOP);
+    expect_items(&rt, LOOP);
 }
 
 // How many bytes an operation of the opcode has, and whether it gives a location, which waits for its piece.
@@ -77,19 +73,15 @@ fn measured(opcode: u8) -> (usize, bool) {
 }
 
 // Evaluates three literals and an operation of the opcode, which is the last that the maximum allows. The operation
-// after a location is read too, if it is in memory after a look at two bytes.
-fn expect_evaluation<const IN_MEMORY: bool>(rt: &impl Abort, alloc: Global, opcode: u8) {
+// after a location is read too.
+fn expect_evaluation(rt: &impl Abort, alloc: Global, opcode: u8) {
     let text = [0x31, 0x31, 0x31, opcode, 1, 1, 1, 1, 1, 1, 1, 1, 1];
     let read = Cell::new(0);
     let steps = [Step::MaxIterations(4), Step::Evaluate];
-    let bytes = Watched::<IN_MEMORY>::new(&text, &read);
+    let bytes = Watched::new(&text, &read);
     replayed_on_heap(alloc, bytes, &steps, &mut Vec::new(alloc));
     let (length, is_location) = measured(opcode);
-    let after = match (is_location, IN_MEMORY) {
-        (true, true) => 3,
-        (true, false) => 1,
-        (false, _) => 0,
-    };
+    let after = u64::from(is_location);
     assert!(rt;
         read.get() == (length as u64).saturating_add(3 + after),
         "{opcode}"
@@ -99,8 +91,7 @@ fn expect_evaluation<const IN_MEMORY: bool>(rt: &impl Abort, alloc: Global, opco
 #[test]
 fn evaluation_reads_each_byte_once(rt: HostRuntime) {
     for opcode in 0..=255 {
-        expect_evaluation::<false>(&rt, rt.alloc(), opcode);
-        expect_evaluation::<true>(&rt, rt.alloc(), opcode);
+        expect_evaluation(&rt, rt.alloc(), opcode);
     }
 }
 
@@ -127,19 +118,17 @@ fn turns<R: Copy>(alloc: Global, callee: R) -> Result<Vec<Step<R>>, AllocError> 
     Ok(steps)
 }
 
-// In memory the evaluation looks at each piece that ends a location, of two bytes, before it reads that.
-fn expect_loop<const IN_MEMORY: bool>(rt: &impl Abort, alloc: Global) -> Result<(), AllocError> {
+// Each turn reads 17 bytes.
+fn expect_loop(rt: &impl Abort, alloc: Global) -> Result<(), AllocError> {
     let read = Cell::new(0);
-    let callee = Watched::<IN_MEMORY>::new(&[0x31, 0x13], &read); // lit1, drop
-    let text = Watched::<IN_MEMORY>::new(LOOP, &read);
+    let callee = Watched::new(&[0x31, 0x13], &read); // lit1, drop
+    let text = Watched::new(LOOP, &read);
     replayed_on_heap(alloc, text, &turns(alloc, callee)?, &mut Vec::new(alloc));
-    let look = if IN_MEMORY { 2 } else { 0 };
-    assert!(rt; read.get() == 4 + 30 * (17 + look));
+    assert!(rt; read.get() == 4 + 30 * 17);
     Ok(())
 }
 
 #[test]
 fn loop_reads_each_byte_once(rt: HostRuntime) -> Result<(), AllocError> {
-    expect_loop::<false>(&rt, rt.alloc())?;
-    expect_loop::<true>(&rt, rt.alloc())
+    expect_loop(&rt, rt.alloc())
 }

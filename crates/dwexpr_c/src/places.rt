@@ -80,8 +80,6 @@ impl<'a> Placed<'a> {
 }
 
 impl<'a> Reader for Placed<'a> {
-    const IN_MEMORY: bool = true;
-
     type Offset = usize;
 
     ghost text = { text_of_placed };

@@ -18,8 +18,8 @@ use Rattle.dwarf_op.specs.declared.locations.Location.{Location}
 use Rattle.dwarf_op.specs.declared.locations.Piece.{Piece}
 use Rattle.dwarf_eval.specs.declared.run.operators.UnaryOperator.{UnaryOperator}
 use Rattle.dwarf_eval.specs.declared.run.operators.UnaryOperator.TheVariants as one
-use Rattle.dwarf_eval.specs.declared.run.binary.BinaryKind.{BinaryKind}
-use Rattle.dwarf_eval.specs.declared.run.binary.BinaryKind.TheVariants as two
+use Rattle.dwarf_eval.specs.declared.run.operators.BinaryOperator.{BinaryOperator}
+use Rattle.dwarf_eval.specs.declared.run.operators.BinaryOperator.TheVariants as two
 use Rattle.dwarf_eval.specs.declared.run.states.LastOperation.{LastOperation}
 use Rattle.dwarf_eval.specs.declared.run.states.LastOperation.TheVariants as last
 use Rattle.dwarf_eval.specs.declared.run.states.OnAnswer.{OnAnswer}
@@ -96,7 +96,7 @@ operator_of one.Neg = meant_value.Neg
 operator_of one.Not = meant_value.Not
 
 -- an operator on two values, as the definitions have it
-abbrev pub binary_operator_of : BinaryKind → meant_value.BinaryOperator
+abbrev pub binary_operator_of : BinaryOperator → meant_value.BinaryOperator
 binary_operator_of two.And = meant_value.And
 binary_operator_of two.Div = meant_value.Div
 binary_operator_of two.Minus = meant_value.Minus

@@ -6,7 +6,6 @@ use Rattle.dwarf_base.specs.declared.errors.Error.TheVariants.{BadBranchTarget, 
 use Rattle.dwarf_base.specs.Faults.{Fault, fault_of}
 use Rattle.dwarf_base.specs.Reads.{Text}
 use Rattle.dwarf_value.specs.declared.types.Value.{Value}
-use Rattle.dwarf_value.specs.declared.types.Value.TheVariants.{Generic}
 use Rattle.dwarf_value.specs.Values.{to_u64_of}
 use Rattle.dwarf_meaning.specs.Operations.{Operation}
 use Rattle.dwarf_meaning.specs.Operations as operation
@@ -104,17 +103,6 @@ PushesAllPlain values old new =
 abbrev pub Pops : Option Value → State → State → Type 0
 Pops None old new = (old.store.values ≡ []) × (new ≡ old)
 Pops (Some v) old new = (rest : List Value) × (old.store.values ≡ v ∷ rest) × (new ≡ with_values rest old)
-
--- the top was popped, and is generic; or nothing was done
-abbrev pub PopsGeneric : Option ℕ → State → State → Type 0
-PopsGeneric None old new = new ≡ old
-PopsGeneric (Some number) old new = Pops (Some (Generic number)) old new
-
--- both on top were popped, the right one was the top and both are generic; or nothing was done
-abbrev pub PopsGenerics : Option (ℕ × ℕ) → State → State → Type 0
-PopsGenerics None old new = new ≡ old
-PopsGenerics (Some both) old new =
-    (rest : List Value) × (old.store.values ≡ Generic both.1 ∷ Generic both.0 ∷ rest) × (new ≡ with_values rest old)
 
 -- the top was popped, and is this number as far as an address goes
 pub record PopsTo (number : ℕ) (old new : State) : Type 0 where

@@ -38,56 +38,6 @@ pub(crate) fn kind_of<R: Reader + Copy>(replied: &EvaluationResult<R>) -> Option
     })
 }
 
-/// A copy of a result. Of those that most expressions ask, the fields are copied one by one, which takes less time than
-/// a copy of the whole, with the room between them. Three are told apart here: of four rustc makes a jump by a table.
-#[inline(always)]
-fn copy_of_result<R: Reader + Copy>(replied: &EvaluationResult<R>) -> EvaluationResult<R>
-    ensures { result ≡ replied.now }
-{
-    if let EvaluationResult::RequiresRegister {
-        register,
-        base_type,
-    } = replied
-    {
-        return EvaluationResult::RequiresRegister {
-            register: *register,
-            base_type: *base_type,
-        };
-    }
-    if let EvaluationResult::RequiresFrameBase = replied {
-        return EvaluationResult::RequiresFrameBase;
-    }
-    if let EvaluationResult::RequiresEntryValue(expression) = replied {
-        return EvaluationResult::RequiresEntryValue(copy_of(expression));
-    }
-    copy_of_rare(replied)
-}
-
-/// A copy of a result that few expressions ask.
-#[inline(always)]
-fn copy_of_rare<R: Reader + Copy>(replied: &EvaluationResult<R>) -> EvaluationResult<R>
-    ensures { result ≡ replied.now }
-{
-    if let EvaluationResult::RequiresMemory {
-        address,
-        size,
-        space: None,
-        base_type,
-    } = replied
-    {
-        return EvaluationResult::RequiresMemory {
-            address: *address,
-            size: *size,
-            space: None,
-            base_type: *base_type,
-        };
-    }
-    if let EvaluationResult::RequiresCallFrameCfa = replied {
-        return EvaluationResult::RequiresCallFrameCfa;
-    }
-    copy_of(replied)
-}
-
 /// The reply of a machine that doesn't run.
 #[inline(always)]
 pub(crate) fn reply<R: Reader + Copy, S: EvaluationStorage<R>>(
@@ -100,13 +50,9 @@ pub(crate) fn reply<R: Reader + Copy, S: EvaluationStorage<R>>(
     ensures rests { IsAtRest machine.now }
     ensures admits { IfOk result (λ replied. Admits replied machine.now.status) }
 {
-    // Most replies are requests. A test of that first costs less than a jump by a table.
-    let state = machine.state();
-    if let EvaluationState::Waiting(request) = state {
-        return Ok(copy_of_result(request));
+    match machine.state() {
+        EvaluationState::Waiting(request) => Ok(copy_of(request)),
+        EvaluationState::Failed(error) => Err(*error),
+        _ => Ok(EvaluationResult::Complete),
     }
-    if let EvaluationState::Failed(error) = state {
-        return Err(*error);
-    }
-    Ok(EvaluationResult::Complete)
 }

@@ -11,7 +11,7 @@ ghost use Rattle.dwarf_eval.specs.inner.StateChanges.{ComesToState, HasReply, Ta
 use crate::run::machine::Machine;
 use crate::run::states::{Given, OnAnswer};
 use crate::store::EvaluationStorage;
-use dwarf_base::{Reader, copy_of};
+use dwarf_base::{Error, Reader, copy_of};
 use dwarf_value::{Value, ValueType};
 
 impl<R: Reader + Copy, S: EvaluationStorage<R>> Machine<R, S> {
@@ -110,7 +110,7 @@ impl<R: Reader + Copy, S: EvaluationStorage<R>> Machine<R, S> {
         ensures { TakesAnswer requests.Convert (requests.BaseTypeAnswer base_type) self.old self.new }
     {
         let Some(value) = self.pop() else {
-            self.fall_short();
+            self.fail(Error::NotEnoughStackItems);
             return;
         };
         match value.convert(base_type, self.addr_mask()) {
@@ -126,7 +126,7 @@ impl<R: Reader + Copy, S: EvaluationStorage<R>> Machine<R, S> {
         ensures { TakesAnswer requests.Reinterpret (requests.BaseTypeAnswer base_type) self.old self.new }
     {
         let Some(value) = self.pop() else {
-            self.fall_short();
+            self.fail(Error::NotEnoughStackItems);
             return;
         };
         match value.reinterpret(base_type, self.addr_mask()) {

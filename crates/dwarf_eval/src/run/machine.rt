@@ -15,13 +15,13 @@ ghost use Rattle.dwarf_op.specs.Views.{operation_of, location_of, piece_of};
 ghost use Rattle.dwarf_meaning.specs.Inputs.{fresh_state, with_maximum, with_object, with_status};
 ghost use Rattle.dwarf_eval.specs.Evaluation.{request_in};
 ghost use Rattle.dwarf_eval.specs.inner.Machine.{last_of, on_answer_of, replied_status, status_of};
-ghost use Rattle.dwarf_eval.specs.inner.StateChanges.{Asks, CountsOne, GoesBack, Jumps, Pops, PopsGeneric, PopsGenerics, ReadsOperation, TriesChange, TriesToEnter, at_rest, is_free, is_running, read_to, with_last};
+ghost use Rattle.dwarf_eval.specs.inner.StateChanges.{Asks, CountsOne, GoesBack, Jumps, Pops, ReadsOperation, TriesChange, TriesToEnter, at_rest, is_free, is_running, read_to, with_last};
 
 use crate::op::EvaluationResult;
 use crate::run::states::{EvaluationState, LastOperation, OnAnswer};
 use crate::run::ticks::Ticks;
 use crate::store::{ArrayLike, EvaluationStorage};
-use dwarf_base::{Encoding, Error, Reader, ReaderOffset, Result, constants, copy_of};
+use dwarf_base::{Encoding, Error, Reader, ReaderOffset, Result, copy_of};
 use dwarf_op::{Location, Operation, Piece};
 use dwarf_value::Value;
 use std::marker::Model;
@@ -83,31 +83,13 @@ impl<R: Reader + Copy, S: EvaluationStorage<R>> Machine<R, S> {
         self.state = EvaluationState::Failed(error);
     }
 
-    /// Keeps the fault of a list that is full.
-    #[cold]
-    #[inline(never)]
-    fn fail_full(&mut self)
-        ensures { self.new ≡ with_status (FaultStatus StackFull) self.old }
-    {
-        self.fail(Error::StackFull);
-    }
-
-    /// Keeps the fault of a maximum that is reached.
-    #[cold]
-    #[inline(never)]
-    fn fail_too_many(&mut self)
-        ensures { self.new ≡ with_status (FaultStatus TooManyIterations) self.old }
-    {
-        self.fail(Error::TooManyIterations);
-    }
-
     /// Pushes a value, or keeps the fault of a stack that doesn't take it.
     #[inline(always)]
     pub(crate) fn push(&mut self, value: Value) -> bool
         ensures { TriesChange 0 (push_value self.old.setup value) self.old self.new result }
     {
         let Ok(()) = self.stack.push(value) else {
-            self.fail_full();
+            self.fail(Error::StackFull);
             return false;
         };
         true
@@ -119,34 +101,6 @@ impl<R: Reader + Copy, S: EvaluationStorage<R>> Machine<R, S> {
         ensures { Pops result self.old self.new }
     {
         self.stack.pop()
-    }
-
-    /// Pops the top if it is generic.
-    #[inline(always)]
-    pub(crate) fn pop_generic(&mut self) -> Option<u64>
-        ensures { PopsGeneric result self.old self.new }
-    {
-        let Some(Value::Generic(number)) = self.value_at(0) else {
-            return None;
-        };
-        self.pop();
-        Some(number)
-    }
-
-    /// Pops the two on top if both are generic: the second, and the top.
-    #[inline(always)]
-    pub(crate) fn pop_generics(&mut self) -> Option<(u64, u64)>
-        ensures { PopsGenerics result self.old self.new }
-    {
-        let Some(Value::Generic(left)) = self.value_at(1) else {
-            return None;
-        };
-        let Some(Value::Generic(right)) = self.value_at(0) else {
-            return None;
-        };
-        self.pop();
-        self.pop();
-        Some((left, right))
     }
 
     /// The value that is this far below the top.
@@ -168,7 +122,7 @@ impl<R: Reader + Copy, S: EvaluationStorage<R>> Machine<R, S> {
             self.old self.new result }
     {
         let Ok(()) = self.pieces.push(piece) else {
-            self.fail_full();
+            self.fail(Error::StackFull);
             return false;
         };
         true
@@ -180,21 +134,19 @@ impl<R: Reader + Copy, S: EvaluationStorage<R>> Machine<R, S> {
         ensures { CountsOne self.old self.new result }
     {
         if self.iteration >= self.max_iterations {
-            self.fail_too_many();
+            self.fail(Error::TooManyIterations);
             return false;
         }
         self.iteration += 1;
         true
     }
 
-    /// Notes that the last operation was a plain one. Most are, so it is seldom written.
+    /// Notes that the last operation was a plain one.
     #[inline(always)]
     pub(crate) fn mark_plain(&mut self)
         ensures { self.new ≡ with_last Plain self.old }
     {
-        if !matches!(self.last, LastOperation::Plain) {
-            self.last = LastOperation::Plain;
-        }
+        self.last = LastOperation::Plain;
     }
 
     /// Notes that the last operation ended a piece.
@@ -221,9 +173,9 @@ impl<R: Reader + Copy, S: EvaluationStorage<R>> Machine<R, S> {
         self.last = LastOperation::Called;
     }
 
-    /// Notes that a location waits for its piece.
+    /// Lets a location wait for its piece.
     #[inline(always)]
-    pub(crate) fn mark_located(&mut self, location: Location<R>)
+    pub(crate) fn locate(&mut self, location: Location<R>)
         ensures { self.new
             ≡ with_last (Located (location_of R.text R.Offset.number location)) self.old }
     {
@@ -414,24 +366,8 @@ impl<R: Reader + Copy, S: EvaluationStorage<R>> Machine<R, S> {
         self.running.0 = rest;
     }
 
-    /// Reads an operation, and counts that. Nothing else of an evaluation decodes, and nothing else raises the count.
-    #[inline(always)]
-    fn read_operation(
-        rest: &mut R,
-        decodings: &mut Ticks,
-        encoding: Encoding,
-    ) -> Result<Operation<R>>
-        ensures reads { Reads (operation_of R.text R.Offset.number) (R.text rest.old)
-            (R.text rest.new) result (operation_at encoding R.Offset.BITS (R.text rest.old)) }
-        ensures less { OnOk result
-            (length (R.text rest.new).bytes < length (R.text rest.old).bytes) }
-        ensures counted { decodings.new.count ≡ decodings.old.count + 1 }
-    {
-        decodings.tick();
-        Operation::parse(rest, encoding)
-    }
-
-    /// Reads the operation before what is left of the running text.
+    /// Reads the operation before what is left of the running text, and counts that. Nothing else of an evaluation
+    /// decodes, and nothing else raises the count.
     #[inline(always)]
     pub(crate) fn decode(&mut self, rest: &mut R) -> Result<Operation<R>>
         requires { IsRestOf (R.text rest.old) self.old.text }
@@ -445,41 +381,8 @@ impl<R: Reader + Copy, S: EvaluationStorage<R>> Machine<R, S> {
         ensures alone { self.new ≡ read_to self.old.place self.old }
         ensures rest { IsRestOf (R.text rest.new) self.new.text }
     {
-        Self::read_operation(rest, &mut self.decodings, self.encoding)
-    }
-
-    /// Reads the operation at the place, and goes after it. What is left of the text is a local meanwhile, so a caller
-    /// that knows the opcode needs no table of them.
-    #[inline(always)]
-    pub(crate) fn decode_here(&mut self) -> Result<Operation<R>>
-        ensures ok { IfOk result
-            (λ operation. ReadsOperation (operation_of R.text R.Offset.number operation)
-            self.old self.new) }
-        ensures beyond { OnOk result (0 < self.new.place) }
-        ensures err { IfErr result
-            (λ e. read self.old.setup self.old.text self.old.place ≡ Err (fault_of e)) }
-        ensures alone { self.new ≡ read_to self.new.place self.old }
-    {
-        let mut rest = copy_of(&self.running.0);
-        let operation = Self::read_operation(&mut rest, &mut self.decodings, self.encoding);
-        self.running.0 = rest;
-        operation
-    }
-
-    /// Whether a piece whose size takes one byte comes next, if the text is in memory. Nothing depends on it but speed.
-    #[inline(always)]
-    pub(crate) fn is_at_short_piece(&self) -> bool {
-        if !R::IN_MEMORY {
-            return false;
-        }
-        let mut rest = copy_of(&self.running.0);
-        let Ok(opcode) = rest.read_u8() else {
-            return false;
-        };
-        let Ok(size) = rest.read_u8() else {
-            return false;
-        };
-        opcode == constants::DW_OP_piece.0 && size < 128
+        self.decodings.tick();
+        Operation::parse(rest, self.encoding)
     }
 
     /// Goes to a place of the running text, or keeps the fault of a place that it doesn't have.
@@ -504,7 +407,7 @@ impl<R: Reader + Copy, S: EvaluationStorage<R>> Machine<R, S> {
         ensures { TriesToEnter (R.text callee) self.old self.new result }
     {
         let Ok(()) = self.expression_stack.push(copy_of(&self.running)) else {
-            self.fail_full();
+            self.fail(Error::StackFull);
             return false;
         };
         self.running = (copy_of(&callee), callee);

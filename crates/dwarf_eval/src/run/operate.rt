@@ -12,19 +12,18 @@ ghost use Rattle.dwarf_eval.specs.inner.Machine.{binary_operator_of, operator_of
 ghost use Rattle.dwarf_eval.specs.inner.StateChanges.{Performs, PopsNumber, PushesAllPlain, PushesPlain, TriesChange, act_of, at_rest};
 
 use crate::op::EvaluationResult;
-use crate::run::binary::{BinaryKind, BinaryOperator};
 use crate::run::machine::Machine;
-use crate::run::operators::UnaryOperator;
+use crate::run::operators::{BinaryOperator, UnaryOperator};
 use crate::run::states::OnAnswer;
 use crate::store::EvaluationStorage;
 use dwarf_base::{Error, Reader, ReaderOffset, Result, UnitOffset};
 use dwarf_op::{Location, Piece};
-use dwarf_value::{Value, ValueType};
+use dwarf_value::Value;
 
 impl<R: Reader + Copy, S: EvaluationStorage<R>> Machine<R, S> {
     /// Pushes the value of a plain operation.
     #[inline(always)]
-    fn push_plain(&mut self, value: Value)
+    pub(crate) fn push_plain(&mut self, value: Value)
         ensures { PushesPlain value self.old self.new }
     {
         self.mark_plain();
@@ -63,15 +62,6 @@ impl<R: Reader + Copy, S: EvaluationStorage<R>> Machine<R, S> {
         }
     }
 
-    /// Pushes a constant.
-    #[inline(always)]
-    pub(crate) fn push_constant(&mut self, value: Value)
-        requires { self.old.status ≡ Running }
-        ensures { Performs (push self.old.store.values value) self.old self.new }
-    {
-        self.push_plain(value)
-    }
-
     /// Puts the call's value in the place of the top.
     #[inline(never)]
     pub(crate) fn compute_unary(&mut self, operator: UnaryOperator)
@@ -82,7 +72,7 @@ impl<R: Reader + Copy, S: EvaluationStorage<R>> Machine<R, S> {
             self.old self.new }
     {
         let Some(value) = self.pop() else {
-            self.fall_short();
+            self.fail(Error::NotEnoughStackItems);
             return;
         };
         match operator.apply(value, self.addr_mask()) {
@@ -93,43 +83,22 @@ impl<R: Reader + Copy, S: EvaluationStorage<R>> Machine<R, S> {
 
     /// Puts the call's value in the place of the two on top.
     #[inline(never)]
-    pub(crate) fn compute_binary<O: BinaryOperator>(&mut self)
+    pub(crate) fn compute_binary(&mut self, operator: BinaryOperator)
         requires { self.old.status ≡ Running }
         ensures { Performs
-            (binary (binary_of O.operator (address_bits self.old.setup)) self.old.store.values)
-            self.old self.new }
-    {
-        let Some((left, right)) = self.pop_generics() else {
-            self.compute_typed(O::kind());
-            return;
-        };
-        match O::apply(
-            Value::Generic(left),
-            Value::Generic(right),
-            self.addr_mask(),
-        ) {
-            Ok(computed) => self.push_plain(computed),
-            Err(error) => self.fail(error),
-        }
-    }
-
-    /// Puts the call's value in the place of the two on top, of any types.
-    #[inline(never)]
-    fn compute_typed(&mut self, kind: BinaryKind)
-        requires { self.old.status ≡ Running }
-        ensures { Performs
-            (binary (binary_of (binary_operator_of kind) (address_bits self.old.setup)) self.old.store.values)
+            (binary (binary_of (binary_operator_of operator) (address_bits self.old.setup))
+            self.old.store.values)
             self.old self.new }
     {
         let Some(right) = self.pop() else {
-            self.fall_short();
+            self.fail(Error::NotEnoughStackItems);
             return;
         };
         let Some(left) = self.pop() else {
-            self.fall_short();
+            self.fail(Error::NotEnoughStackItems);
             return;
         };
-        match kind.apply(left, right, self.addr_mask()) {
+        match operator.apply(left, right, self.addr_mask()) {
             Ok(computed) => self.push_plain(computed),
             Err(error) => self.fail(error),
         }
@@ -137,22 +106,7 @@ impl<R: Reader + Copy, S: EvaluationStorage<R>> Machine<R, S> {
 
     /// A value plus a constant of its type.
     #[inline(always)]
-    #[tactic(auto, unfolding(dwarf_value::specs::Values::type_of))]
     pub(crate) fn sum(&self, value: Value, constant: u64) -> Result<Value>
-        ensures { result
-            ≡ binary_of Plus (address_bits self.now.setup) value
-            (from_u64_of (type_of value) constant) }
-    {
-        let Value::Generic(content) = value else {
-            return self.typed_sum(value, constant);
-        };
-        let addend = Value::from_u64(ValueType::Generic, constant)?;
-        Value::Generic(content).add(addend, self.addr_mask())
-    }
-
-    /// A value that isn't generic plus a constant of its type.
-    #[inline(never)]
-    fn typed_sum(&self, value: Value, constant: u64) -> Result<Value>
         ensures { result
             ≡ binary_of Plus (address_bits self.now.setup) value
             (from_u64_of (type_of value) constant) }
@@ -164,19 +118,6 @@ impl<R: Reader + Copy, S: EvaluationStorage<R>> Machine<R, S> {
     /// The number of an address's bits that a value is.
     #[inline(always)]
     pub(crate) fn number_of(&self, value: Value) -> u64
-        ensures { result ≡ to_u64_of (address_bits self.now.setup) value }
-    {
-        let Value::Generic(content) = value else {
-            return self.typed_number_of(value);
-        };
-        Value::Generic(content)
-            .to_u64(self.addr_mask())
-            .unwrap_or(0)
-    }
-
-    /// The number of an address's bits that a value is, which isn't generic.
-    #[inline(never)]
-    fn typed_number_of(&self, value: Value) -> u64
         ensures { result ≡ to_u64_of (address_bits self.now.setup) value }
     {
         value.to_u64(self.addr_mask()).unwrap_or(0)
@@ -191,33 +132,6 @@ impl<R: Reader + Copy, S: EvaluationStorage<R>> Machine<R, S> {
         Some(self.number_of(value))
     }
 
-    /// Keeps the fault of a value that isn't there.
-    #[cold]
-    #[inline(never)]
-    pub(crate) fn fall_short(&mut self)
-        ensures { self.new ≡ with_status (FaultStatus NotEnoughStackItems) self.old }
-    {
-        self.fail(Error::NotEnoughStackItems);
-    }
-
-    /// Keeps the fault of an operation that isn't supported.
-    #[cold]
-    #[inline(never)]
-    pub(crate) fn fail_unsupported(&mut self)
-        ensures { Performs (FaultAct UnsupportedEvaluation) self.old self.new }
-    {
-        self.fail(Error::UnsupportedEvaluation);
-    }
-
-    /// Does nothing more than a plain operation.
-    #[inline(always)]
-    pub(crate) fn pass(&mut self)
-        requires { self.old.status ≡ Running }
-        ensures { Performs (Pushes self.old.store.values []) self.old self.new }
-    {
-        self.mark_plain();
-    }
-
     /// Drops the top.
     #[inline(always)]
     pub(crate) fn drop_top(&mut self)
@@ -225,7 +139,7 @@ impl<R: Reader + Copy, S: EvaluationStorage<R>> Machine<R, S> {
         ensures { Performs (act_of self.old meaning.Drop) self.old self.new }
     {
         let Some(_) = self.pop() else {
-            self.fall_short();
+            self.fail(Error::NotEnoughStackItems);
             return;
         };
         self.mark_plain();
@@ -238,7 +152,7 @@ impl<R: Reader + Copy, S: EvaluationStorage<R>> Machine<R, S> {
         ensures { Performs (act_of self.old (meaning.Pick index)) self.old self.new }
     {
         let Some(value) = self.value_at(index) else {
-            self.fall_short();
+            self.fail(Error::NotEnoughStackItems);
             return;
         };
         self.push_plain(value)
@@ -251,11 +165,11 @@ impl<R: Reader + Copy, S: EvaluationStorage<R>> Machine<R, S> {
         ensures { Performs (act_of self.old meaning.Swap) self.old self.new }
     {
         let Some(top) = self.pop() else {
-            self.fall_short();
+            self.fail(Error::NotEnoughStackItems);
             return;
         };
         let Some(next) = self.pop() else {
-            self.fall_short();
+            self.fail(Error::NotEnoughStackItems);
             return;
         };
         self.push_both(top, next)
@@ -268,15 +182,15 @@ impl<R: Reader + Copy, S: EvaluationStorage<R>> Machine<R, S> {
         ensures { Performs (act_of self.old meaning.Rot) self.old self.new }
     {
         let Some(top) = self.pop() else {
-            self.fall_short();
+            self.fail(Error::NotEnoughStackItems);
             return;
         };
         let Some(second) = self.pop() else {
-            self.fall_short();
+            self.fail(Error::NotEnoughStackItems);
             return;
         };
         let Some(third) = self.pop() else {
-            self.fall_short();
+            self.fail(Error::NotEnoughStackItems);
             return;
         };
         self.push_three(top, third, second)
@@ -289,22 +203,13 @@ impl<R: Reader + Copy, S: EvaluationStorage<R>> Machine<R, S> {
         ensures { Performs (act_of self.old (meaning.PlusConstant constant)) self.old self.new }
     {
         let Some(value) = self.pop() else {
-            self.fall_short();
+            self.fail(Error::NotEnoughStackItems);
             return;
         };
         match self.sum(value, constant) {
             Ok(sum) => self.push_plain(sum),
             Err(error) => self.fail(error),
         }
-    }
-
-    /// Pushes a signed constant.
-    #[inline(always)]
-    pub(crate) fn push_signed(&mut self, constant: i64)
-        requires { self.old.status ≡ Running }
-        ensures { Performs (act_of self.old (meaning.SignedConstant constant)) self.old self.new }
-    {
-        self.push_plain(Value::Generic(constant.cast_unsigned()))
     }
 
     /// Pushes the address of the object that is described.
@@ -344,25 +249,14 @@ impl<R: Reader + Copy, S: EvaluationStorage<R>> Machine<R, S> {
         ensures rest { IsRestOf (R.text rest.new) self.new.text }
     {
         let Some(number) = self.pop_number() else {
-            self.fall_short();
+            self.fail(Error::NotEnoughStackItems);
             return;
         };
         if number == 0 {
-            self.pass();
+            self.mark_plain();
             return;
         }
         self.take_branch(target, rest)
-    }
-
-    /// Lets a location wait for its piece.
-    #[inline(always)]
-    pub(crate) fn locate(&mut self, location: Location<R>)
-        requires { self.old.status ≡ Running }
-        ensures { Performs
-            (Locates self.old.store.values (location_of R.text R.Offset.number location))
-            self.old self.new }
-    {
-        self.mark_located(location);
     }
 
     /// Lets the top wait for its piece, as a value that has no place.
@@ -372,7 +266,7 @@ impl<R: Reader + Copy, S: EvaluationStorage<R>> Machine<R, S> {
         ensures { Performs (act_of self.old meaning.StackValue) self.old self.new }
     {
         let Some(value) = self.pop() else {
-            self.fall_short();
+            self.fail(Error::NotEnoughStackItems);
             return;
         };
         self.locate(Location::Value { value })
@@ -413,7 +307,7 @@ impl<R: Reader + Copy, S: EvaluationStorage<R>> Machine<R, S> {
             return;
         }
         let Some(address) = self.pop_number() else {
-            self.fall_short();
+            self.fail(Error::NotEnoughStackItems);
             return;
         };
         if !space {
@@ -429,7 +323,7 @@ impl<R: Reader + Copy, S: EvaluationStorage<R>> Machine<R, S> {
             return;
         }
         let Some(space) = self.pop_number() else {
-            self.fall_short();
+            self.fail(Error::NotEnoughStackItems);
             return;
         };
         self.ask(
@@ -449,7 +343,7 @@ impl<R: Reader + Copy, S: EvaluationStorage<R>> Machine<R, S> {
         ensures { Performs (act_of self.old meaning.TLS) self.old self.new }
     {
         let Some(index) = self.pop_number() else {
-            self.fall_short();
+            self.fail(Error::NotEnoughStackItems);
             return;
         };
         self.ask(EvaluationResult::RequiresTls(index), OnAnswer::Push)

@@ -12,12 +12,11 @@ use crate::op::EvaluationResult::{
     RequiresRelocatedAddress, RequiresWasmGlobal, RequiresWasmLocal, RequiresWasmStack,
 };
 use crate::op::Expression;
-use crate::run::binary;
 use crate::run::machine::Machine;
-use crate::run::operators::UnaryOperator;
+use crate::run::operators::{BinaryOperator, UnaryOperator};
 use crate::run::states::OnAnswer;
 use crate::store::EvaluationStorage;
-use dwarf_base::Reader;
+use dwarf_base::{Error, Reader};
 use dwarf_op::{Location, Operation};
 use dwarf_value::Value;
 
@@ -60,29 +59,31 @@ impl<R: Reader + Copy, S: EvaluationStorage<R>> Machine<R, S> {
             Operation::Swap => self.swap(),
             Operation::Rot => self.rotate(),
             Operation::Abs => self.compute_unary(UnaryOperator::Abs),
-            Operation::And => self.compute_binary::<binary::And>(),
-            Operation::Div => self.compute_binary::<binary::Div>(),
-            Operation::Minus => self.compute_binary::<binary::Minus>(),
-            Operation::Mod => self.compute_binary::<binary::Mod>(),
-            Operation::Mul => self.compute_binary::<binary::Mul>(),
+            Operation::And => self.compute_binary(BinaryOperator::And),
+            Operation::Div => self.compute_binary(BinaryOperator::Div),
+            Operation::Minus => self.compute_binary(BinaryOperator::Minus),
+            Operation::Mod => self.compute_binary(BinaryOperator::Mod),
+            Operation::Mul => self.compute_binary(BinaryOperator::Mul),
             Operation::Neg => self.compute_unary(UnaryOperator::Neg),
             Operation::Not => self.compute_unary(UnaryOperator::Not),
-            Operation::Or => self.compute_binary::<binary::Or>(),
-            Operation::Plus => self.compute_binary::<binary::Plus>(),
+            Operation::Or => self.compute_binary(BinaryOperator::Or),
+            Operation::Plus => self.compute_binary(BinaryOperator::Plus),
             Operation::PlusConstant { value } => self.add_constant(value),
-            Operation::Shl => self.compute_binary::<binary::Shl>(),
-            Operation::Shr => self.compute_binary::<binary::Shr>(),
-            Operation::Shra => self.compute_binary::<binary::Shra>(),
-            Operation::Xor => self.compute_binary::<binary::Xor>(),
+            Operation::Shl => self.compute_binary(BinaryOperator::Shl),
+            Operation::Shr => self.compute_binary(BinaryOperator::Shr),
+            Operation::Shra => self.compute_binary(BinaryOperator::Shra),
+            Operation::Xor => self.compute_binary(BinaryOperator::Xor),
             Operation::Bra { .. } | Operation::Skip { .. } => unreachable!(),
-            Operation::Eq => self.compute_binary::<binary::Eq>(),
-            Operation::Ge => self.compute_binary::<binary::Ge>(),
-            Operation::Gt => self.compute_binary::<binary::Gt>(),
-            Operation::Le => self.compute_binary::<binary::Le>(),
-            Operation::Lt => self.compute_binary::<binary::Lt>(),
-            Operation::Ne => self.compute_binary::<binary::Ne>(),
-            Operation::UnsignedConstant { value } => self.push_constant(Value::Generic(value)),
-            Operation::SignedConstant { value } => self.push_signed(value),
+            Operation::Eq => self.compute_binary(BinaryOperator::Eq),
+            Operation::Ge => self.compute_binary(BinaryOperator::Ge),
+            Operation::Gt => self.compute_binary(BinaryOperator::Gt),
+            Operation::Le => self.compute_binary(BinaryOperator::Le),
+            Operation::Lt => self.compute_binary(BinaryOperator::Lt),
+            Operation::Ne => self.compute_binary(BinaryOperator::Ne),
+            Operation::UnsignedConstant { value } => self.push_plain(Value::Generic(value)),
+            Operation::SignedConstant { value } => {
+                self.push_plain(Value::Generic(value.cast_unsigned()))
+            }
             Operation::Register { register } => self.locate(Location::Register { register }),
             Operation::RegisterOffset {
                 register,
@@ -98,7 +99,7 @@ impl<R: Reader + Copy, S: EvaluationStorage<R>> Machine<R, S> {
             Operation::FrameOffset { offset } => {
                 self.ask(RequiresFrameBase, OnAnswer::Add(offset))
             }
-            Operation::Nop => self.pass(),
+            Operation::Nop => self.mark_plain(),
             Operation::PushObjectAddress => self.push_object_address(),
             Operation::Call { offset } => self.ask(RequiresAtLocation(offset), OnAnswer::Push),
             Operation::TLS => self.ask_tls(),
@@ -144,13 +145,13 @@ impl<R: Reader + Copy, S: EvaluationStorage<R>> Machine<R, S> {
             Operation::Reinterpret { base_type } => {
                 self.ask(RequiresBaseType(base_type), OnAnswer::Reinterpret)
             }
-            Operation::Uninitialized => self.fail_unsupported(),
+            Operation::Uninitialized => self.fail(Error::UnsupportedEvaluation),
             Operation::WasmLocal { index } => self.ask(RequiresWasmLocal { index }, OnAnswer::Push),
             Operation::WasmGlobal { index } => {
                 self.ask(RequiresWasmGlobal { index }, OnAnswer::Push)
             }
             Operation::WasmStack { index } => self.ask(RequiresWasmStack { index }, OnAnswer::Push),
-            Operation::VariableValue { offset: _ } => self.fail_unsupported(),
+            Operation::VariableValue { offset: _ } => { self.fail(Error::UnsupportedEvaluation) }
         }
     }
 }

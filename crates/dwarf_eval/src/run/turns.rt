@@ -75,21 +75,6 @@ impl<R: Reader + Copy, S: EvaluationStorage<R>> Machine<R, S> {
         self.go_to(rest);
     }
 
-    /// Adds the piece of the location that waits for it.
-    #[inline(always)]
-    fn push_piece_of_location(&mut self, size_in_bits: u64, bit_offset: Option<u64>)
-        requires { is_free self.old.store.last ≡ false }
-        ensures { (location : _) → self.old.store.last ≡ Located location →
-            EndsLocated location (meant.Piece size_in_bits bit_offset) self.old self.new }
-    {
-        let location = self.take_located();
-        self.push_piece(Piece {
-            size_in_bits: Some(size_in_bits),
-            bit_offset,
-            location,
-        });
-    }
-
     /// Ends the location that waits for its piece, if the operation that was read is a piece.
     #[inline(always)]
     fn end_location(&mut self, operation: Operation<R>)
@@ -107,36 +92,15 @@ impl<R: Reader + Copy, S: EvaluationStorage<R>> Machine<R, S> {
             self.fail(Error::InvalidExpressionTerminator(place - 1));
             return;
         };
-        self.push_piece_of_location(size_in_bits, bit_offset);
+        let location = self.take_located();
+        self.push_piece(Piece {
+            size_in_bits: Some(size_in_bits),
+            bit_offset,
+            location,
+        });
     }
 
-    /// Reads the piece of a location that waits for it, in line.
-    #[inline(always)]
-    fn read_piece_of_location_in_line(&mut self)
-        requires runs { self.old.status ≡ Running }
-        requires inside { self.old.place < length self.old.text.bytes }
-        requires waits { is_free self.old.store.last ≡ false }
-        ensures { Turns self.old self.new }
-    {
-        match self.decode_here() {
-            Ok(operation) => self.end_location(operation),
-            Err(error) => self.fail(error),
-        }
-    }
-
-    /// Reads the piece of a location that waits for it, whatever operation comes.
-    #[inline(never)]
-    fn read_any_piece_of_location(&mut self)
-        requires runs { self.old.status ≡ Running }
-        requires inside { self.old.place < length self.old.text.bytes }
-        requires waits { is_free self.old.store.last ≡ false }
-        ensures { Turns self.old self.new }
-    {
-        self.read_piece_of_location_in_line();
-    }
-
-    /// Reads the piece of a location that waits for it. A short one has a way of its own: it takes no call, so no
-    /// register is saved.
+    /// Reads the piece of a location that waits for it.
     #[inline(never)]
     fn read_piece_of_location(&mut self)
         requires runs { self.old.status ≡ Running }
@@ -144,10 +108,12 @@ impl<R: Reader + Copy, S: EvaluationStorage<R>> Machine<R, S> {
         requires waits { is_free self.old.store.last ≡ false }
         ensures { Turns self.old self.new }
     {
-        if self.is_at_short_piece() {
-            self.read_piece_of_location_in_line();
-        } else {
-            self.read_any_piece_of_location();
+        let mut rest = self.rest();
+        let operation = self.decode(&mut rest);
+        self.go_to(rest);
+        match operation {
+            Ok(operation) => self.end_location(operation),
+            Err(error) => self.fail(error),
         }
     }
 
@@ -161,112 +127,44 @@ impl<R: Reader + Copy, S: EvaluationStorage<R>> Machine<R, S> {
         }
     }
 
-    /// Ends the run at the address that a value is.
-    #[inline(always)]
-    fn complete_at(&mut self, value: Value)
-        requires { self.old.status ≡ Running }
-        ensures { CompletesWith (meant_whole (AtAddress (to_u64_of (address_bits self.old.setup) value))) (Some value)
-            self.old self.new }
-    {
-        let address = self.number_of(value);
-        self.complete(whole(Location::Address { address }), Some(value));
-    }
-
-    /// Ends the run with the value on top.
-    #[inline(never)]
-    fn finish_value(&mut self)
-        requires { self.old.status ≡ Running }
-        ensures { Closes 0 (finish_value self.old.setup) self.old self.new }
-    {
-        // Most are generic. Those are kept in registers. Others are copied in memory, which waits for stores.
-        if let Some(number) = self.pop_generic() {
-            self.complete_at(Value::Generic(number));
-            return;
-        }
-        let Some(value) = self.pop() else {
-            self.fall_short();
-            return;
-        };
-        self.complete_at(value);
-    }
-
-    /// Ends the run with the location that waits for its piece. It has a function of its own, since rustc copies a
-    /// location by a jump by a table.
-    #[inline(never)]
-    fn complete_located(&mut self)
-        requires runs { self.old.status ≡ Running }
-        requires waits { is_free self.old.store.last ≡ false }
-        ensures { (location : _) → self.old.store.last ≡ Located location →
-            CompletesWith (meant_whole location) None self.old self.new }
-    {
-        self.complete(whole(copy_of(self.location())), None);
-    }
-
-    /// Ends the run with the pieces, if its last operation may follow them.
-    #[inline(never)]
-    fn finish_pieces(&mut self)
-        requires runs { self.old.status ≡ Running }
-        requires pieces { has_pieces self.old.store.pieces ≡ true }
-        ensures { Closes (waits_of self.old.store.last) (finish self.old.setup) self.old self.new }
-    {
-        match self.last() {
-            LastOperation::Nothing => self.end(None),
-            LastOperation::Plain => self.fail(Error::InvalidPiece),
-            LastOperation::Pieced => self.end(None),
-            LastOperation::Pushed => self.fail(Error::InvalidPiece),
-            LastOperation::Called => self.end(None),
-            LastOperation::Located => self.fail(Error::InvalidPiece),
-        }
-    }
-
-    /// Ends the run: with the pieces, if there are any, or else with one piece. Its calls are its last acts, so it saves
-    /// no register.
+    /// Ends the run: with the pieces, if there are any and no value or location is left over, or else with one piece, of
+    /// the location that waits or at the address on top.
     #[inline(never)]
     fn finish(&mut self)
         requires { self.old.status ≡ Running }
         ensures { Closes (waits_of self.old.store.last) (finish self.old.setup) self.old self.new }
     {
         if self.has_pieces() {
-            self.finish_pieces();
+            match self.last() {
+                LastOperation::Nothing | LastOperation::Pieced | LastOperation::Called => {
+                    self.end(None)
+                }
+                _ => self.fail(Error::InvalidPiece),
+            }
             return;
         }
-        if self.is_free() {
-            self.finish_value();
+        if !self.is_free() {
+            self.complete(whole(copy_of(self.location())), None);
             return;
         }
-        // Most are registers, and of the others most are values. One that is built anew is stored as it was, and not
-        // copied as a whole.
-        if let Location::Register { register } = *self.location() {
-            self.complete(whole(Location::Register { register }), None);
+        let Some(value) = self.pop() else {
+            self.fail(Error::NotEnoughStackItems);
             return;
-        }
-        if let Location::Value { value } = *self.location() {
-            self.complete(whole(Location::Value { value }), None);
-            return;
-        }
-        self.complete_located();
+        };
+        let address = self.number_of(value);
+        self.complete(whole(Location::Address { address }), Some(value));
     }
 
-    /// Leaves the running text at its end.
-    #[inline(never)]
-    fn leave(&mut self)
-        requires runs { self.old.status ≡ Running }
-        requires ends { self.old.place ≡ length self.old.text.bytes }
-        ensures { Turns self.old self.new }
-    {
-        if !self.pop_caller() {
-            self.finish();
-        }
-    }
-
-    /// Does what comes next.
+    /// Does what comes next. At its end a called text goes back to its caller.
     #[inline(always)]
     fn turn(&mut self)
         requires { self.old.status ≡ Running }
         ensures { Turns self.old self.new }
     {
         if self.is_at_end() {
-            self.leave();
+            if !self.pop_caller() {
+                self.finish();
+            }
             return;
         }
         if self.is_free() {

@@ -13,7 +13,7 @@ call constant bits x = binary_of Plus bits x (from_u64_of (type_of x) constant)
 
 pub returns-in_default : goal.returns-in_default
 unfolding act
-returns-in_default g c = falls_short _ c.args.self.now c.pop.new.self c.fall_short.new.self c.in_default.ensures c.fall_short.ensures
+returns-in_default g c = falls_short _ c.args.self.now c.pop.new.self c.fail.new.self c.in_default.ensures c.fail.ensures
 
 pub returns-in-Ok : goal.returns-in-Ok
 unfolding act
@@ -25,4 +25,4 @@ pub returns-in-Err : goal.returns-in-Err
 unfolding act
 returns-in-Err g c =
     unary_refuses (call c.args.constant) c.args.self.now c.pop.new.self c.in-Some.value _ c.in-Some.ensures refl
-    c.in-Err.error c.fail.new.self c.in-Err.ensures c.fail.ensures
+    c.in-Err.error c.fail-in-Err.new.self c.in-Err.ensures c.fail-in-Err.ensures

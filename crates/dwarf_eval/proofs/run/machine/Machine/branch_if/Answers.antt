@@ -1,4 +1,4 @@
-use Rattle.std.proofs.Common.{ℕ, ℤ, ◌≡◌, ◌==◌, List, [], None, ap, true, false, arith, cond, w16, refl, subst}
+use Rattle.std.proofs.Common.{ℕ, ℤ, ◌≡◌, ◌==◌, List, [], None, ap, true, false, arith, cond, w16, refl, subst, ◌∙◌}
 use Rattle.std.proofs.lemmas.Bool.{cond-true, cond-false}
 use Rattle.std.proofs.lemmas.Bool.Decides.{nat_tests}
 use Rattle.std.proofs.lemmas.Int.{to_z-of_z}
@@ -7,7 +7,7 @@ use Rattle.dwarf_meaning.specs.Acts.{Act, Pushes, Branches, act}
 use Rattle.dwarf_meaning.specs.Rest.{State}
 use Rattle.dwarf_eval.specs.inner.StateChanges.{Performs, Pops, PopsTo, at_rest}
 use Rattle.dwarf_eval.proofs.Placing.{performs_at}
-use Rattle.dwarf_eval.proofs.Performances.{falls_short, performs_as, performs_number}
+use Rattle.dwarf_eval.proofs.Performances.{falls_short, performs_as, performs_none, performs_number}
 use Rattle.dwarf_eval.proofs.run.machine.Machine.branch_if.Goals as goal
 
 -- by the number on top
@@ -23,18 +23,19 @@ unfolding act
 returns-in_default-clause-performs g c =
     let left = (g.R.Reader.text c.args.rest.now).bytes in
     let none : Pops None (at_rest left c.args.self.now) (at_rest left c.pop_number.new.self) = (c.in_default.ensures.0, ap (at_rest left) c.in_default.ensures.1) in
-    falls_short _ (at_rest left c.args.self.now) (at_rest left c.pop_number.new.self) (at_rest left c.fall_short.new.self) none (ap (at_rest left) c.fall_short.ensures)
+    falls_short _ (at_rest left c.args.self.now) (at_rest left c.pop_number.new.self) (at_rest left c.fail.new.self) none (ap (at_rest left) c.fail.ensures)
 
 pub returns-then-number-eq0-clause-performs : goal.returns-then-number-eq0-clause-performs
 unfolding act
 returns-then-number-eq0-clause-performs g c =
     let left = (g.R.Reader.text c.args.rest.now).bytes in
     let low : State = c.pop_number.new.self in
-    let new : State = at_rest left c.pass.new.self in
+    let new : State = at_rest left c.mark_plain.new.self in
     let zero : (c.in-Some.number == 0) ≡ true = grind (arith, nat_tests, c.if-number-eq0.true) in
     performs_number _ (branch_by c.args.target) c.in-Some.number (at_rest left c.args.self.now) (at_rest left low) new refl (popped_there left c.in-Some.number c.args.self.now low c.in-Some.ensures)
     (performs_as _ (Pushes low.store.values []) (at_rest left low) new (cond-true (c.in-Some.number == 0) (Pushes low.store.values []) (Branches low.store.values c.args.target) zero)
-    (performs_at (Pushes low.store.values []) left low c.pass.new.self tt c.pass.ensures))
+    (performs_at (Pushes low.store.values []) left low c.mark_plain.new.self tt
+    (performs_none low.store.values low c.mark_plain.new.self (ap (λ (z : State). z.status) c.in-Some.ensures.alone ∙ c.requires.runs) c.mark_plain.ensures)))
 
 pub returns-clause-performs : goal.returns-clause-performs
 unfolding act

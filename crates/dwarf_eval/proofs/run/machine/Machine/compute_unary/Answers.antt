@@ -5,7 +5,7 @@ use Rattle.dwarf_eval.proofs.Computes.{unary_pushes, unary_refuses}
 use Rattle.dwarf_eval.proofs.run.machine.Machine.compute_unary.Goals as goal
 
 pub returns-in_default : goal.returns-in_default
-returns-in_default g c = falls_short _ c.args.self.now c.pop.new.self c.fall_short.new.self c.in_default.ensures c.fall_short.ensures
+returns-in_default g c = falls_short _ c.args.self.now c.pop.new.self c.fail.new.self c.in_default.ensures c.fail.ensures
 
 pub returns-in-Ok : goal.returns-in-Ok
 returns-in-Ok g c =
@@ -15,4 +15,4 @@ returns-in-Ok g c =
 pub returns-in-Err : goal.returns-in-Err
 returns-in-Err g c =
     unary_refuses (unary_of (operator_of c.args.operator)) c.args.self.now c.pop.new.self c.in-Some.value (width_of c.addr_mask.result) c.in-Some.ensures c.addr_mask.ensures.width
-    c.in-Err.error c.fail.new.self c.in-Err.ensures c.fail.ensures
+    c.in-Err.error c.fail-in-Err.new.self c.in-Err.ensures c.fail-in-Err.ensures

@@ -47,8 +47,8 @@ returns-then-size-address_size g c =
 
 pub returns-in_default : goal.returns-in_default
 returns-in_default g c =
-    narrow_as _ c.args.size c.args.self.now c.args.space c.fall_short.new.self (omega (arith, c.address_size.ensures, c.if-size-address_size.false))
-    (falls_short _ c.args.self.now c.pop_number.new.self c.fall_short.new.self c.in_default.ensures c.fall_short.ensures)
+    narrow_as _ c.args.size c.args.self.now c.args.space c.fail-in_default.new.self (omega (arith, c.address_size.ensures, c.if-size-address_size.false))
+    (falls_short _ c.args.self.now c.pop_number.new.self c.fail-in_default.new.self c.in_default.ensures c.fail-in_default.ensures)
 
 pub returns-then-not-space : goal.returns-then-not-space
 returns-then-not-space g c =
@@ -65,11 +65,11 @@ returns-in_default-pop_number g c =
     let base_type = g.R.Offset.ReaderOffset.number c.args.base_type.0 in
     let old : State = c.args.self.now in
     let mid : State = c.pop_number.new.self in
-    let new : State = c.fall_short-in_default-pop_number.new.self in
+    let new : State = c.fail-in_default-pop_number.new.self in
     narrow_as base_type c.args.size old c.args.space new (omega (arith, c.address_size.ensures, c.if-size-address_size.false))
     (performs_number _ (at_address (address_bits old.setup) base_type c.args.size c.args.space) c.in-Some.address old mid new refl c.in-Some.ensures
     (subst (λ (space : Bool). Performs (at_address (address_bits old.setup) base_type c.args.size space c.in-Some.address mid.store.values) mid new) (sym c.if-not-space.false)
-    (falls_short _ mid c.pop_number-2.new.self new c.in_default-pop_number.ensures c.fall_short-in_default-pop_number.ensures)))
+    (falls_short _ mid c.pop_number-2.new.self new c.in_default-pop_number.ensures c.fail-in_default-pop_number.ensures)))
 
 pub returns : goal.returns
 returns g c =

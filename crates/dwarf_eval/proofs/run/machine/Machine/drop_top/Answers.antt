@@ -6,7 +6,7 @@ use Rattle.dwarf_eval.proofs.run.machine.Machine.drop_top.Goals as goal
 
 pub returns-in_default : goal.returns-in_default
 unfolding act
-returns-in_default g c = falls_short _ c.args.self.now c.pop.new.self c.fall_short.new.self c.in_default.ensures c.fall_short.ensures
+returns-in_default g c = falls_short _ c.args.self.now c.pop.new.self c.fail.new.self c.in_default.ensures c.fail.ensures
 
 pub returns : goal.returns
 unfolding act

@@ -11,8 +11,8 @@ pub returns-in_default : goal.returns-in_default
 unfolding act
 returns-in_default g c =
     let x = c.args.self.now in
-    performs_refuses _ NotEnoughStackItems x x c.fall_short.new.self
-    (some_none (slice_get x.store.values c.args.index) underflow (push x.store.values) (sym c.in_default.ensures)) (stays_here x) c.fall_short.ensures
+    performs_refuses _ NotEnoughStackItems x x c.fail.new.self
+    (some_none (slice_get x.store.values c.args.index) underflow (push x.store.values) (sym c.in_default.ensures)) (stays_here x) c.fail.ensures
 
 pub returns : goal.returns
 unfolding act

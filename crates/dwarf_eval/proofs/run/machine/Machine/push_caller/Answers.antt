@@ -10,8 +10,8 @@ use Rattle.dwarf_eval.proofs.run.machine.Machine.push_caller.Goals as goal
 
 pub returns-in_default : goal.returns-in_default
 returns-in_default g c =
-    let is = rw (c.in_default.ensures.err, c.push.ensures.limit) at c.fail_full.ensures in
-    caller_faults c.args.self.now c.fail_full.new.self
+    let is = rw (c.in_default.ensures.err, c.push.ensures.limit) at c.fail.ensures in
+    caller_faults c.args.self.now c.fail.new.self
     (subst (λ (s : State). MayRefuse s.setup.limits.callers (length s.callers)) c.self.view_is (rw length-callers c.in_default.ensures.full))
     (rw (← c.self.view_is) is)
 

@@ -16,23 +16,23 @@ rotate_is bits object (z ∷ y ∷ x ∷ rest) = refl
 
 pub returns-in_default : goal.returns-in_default
 returns-in_default g c =
-    performs_as _ _ c.args.self.now c.fall_short.new.self (rotate_is _ _ c.args.self.now.store.values)
-    (falls_short _ c.args.self.now c.pop.new.self c.fall_short.new.self c.in_default.ensures c.fall_short.ensures)
+    performs_as _ _ c.args.self.now c.fail.new.self (rotate_is _ _ c.args.self.now.store.values)
+    (falls_short _ c.args.self.now c.pop.new.self c.fail.new.self c.in_default.ensures c.fail.ensures)
 
 pub returns-in_default-pop : goal.returns-in_default-pop
 returns-in_default-pop g c =
-    let new = c.fall_short-in_default-pop.new.self in
+    let new = c.fail-in_default-pop.new.self in
     performs_as _ _ c.args.self.now new (rotate_is _ _ c.args.self.now.store.values)
     (performs_popped _ c.in-Some.top c.args.self.now c.pop.new.self new c.in-Some.ensures
-    (falls_short _ c.pop.new.self c.pop-2.new.self new c.in_default-pop.ensures c.fall_short-in_default-pop.ensures))
+    (falls_short _ c.pop.new.self c.pop-2.new.self new c.in_default-pop.ensures c.fail-in_default-pop.ensures))
 
 pub returns-in_default-pop-2 : goal.returns-in_default-pop-2
 returns-in_default-pop-2 g c =
-    let new = c.fall_short-in_default-pop-2.new.self in
+    let new = c.fail-in_default-pop-2.new.self in
     performs_as _ _ c.args.self.now new (rotate_is _ _ c.args.self.now.store.values)
     (performs_popped _ c.in-Some.top c.args.self.now c.pop.new.self new c.in-Some.ensures
     (performs_popped _ c.in-Some-pop.second c.pop.new.self c.pop-2.new.self new c.in-Some-pop.ensures
-    (falls_short _ c.pop-2.new.self c.pop-3.new.self new c.in_default-pop-2.ensures c.fall_short-in_default-pop-2.ensures)))
+    (falls_short _ c.pop-2.new.self c.pop-3.new.self new c.in_default-pop-2.ensures c.fail-in_default-pop-2.ensures)))
 
 pub returns : goal.returns
 unfolding act

@@ -14,15 +14,15 @@ swap_is bits object (y ∷ x ∷ rest) = refl
 
 pub returns-in_default : goal.returns-in_default
 returns-in_default g c =
-    performs_as _ _ c.args.self.now c.fall_short.new.self (swap_is _ _ c.args.self.now.store.values)
-    (falls_short _ c.args.self.now c.pop.new.self c.fall_short.new.self c.in_default.ensures c.fall_short.ensures)
+    performs_as _ _ c.args.self.now c.fail.new.self (swap_is _ _ c.args.self.now.store.values)
+    (falls_short _ c.args.self.now c.pop.new.self c.fail.new.self c.in_default.ensures c.fail.ensures)
 
 pub returns-in_default-pop : goal.returns-in_default-pop
 returns-in_default-pop g c =
-    let new = c.fall_short-in_default-pop.new.self in
+    let new = c.fail-in_default-pop.new.self in
     performs_as _ _ c.args.self.now new (swap_is _ _ c.args.self.now.store.values)
     (performs_popped _ c.in-Some.top c.args.self.now c.pop.new.self new c.in-Some.ensures
-    (falls_short _ c.pop.new.self c.pop-2.new.self new c.in_default-pop.ensures c.fall_short-in_default-pop.ensures))
+    (falls_short _ c.pop.new.self c.pop-2.new.self new c.in_default-pop.ensures c.fail-in_default-pop.ensures))
 
 pub returns : goal.returns
 unfolding act

@@ -9,7 +9,7 @@ pub returns-in_default : goal.returns-in_default
 unfolding use_of
 returns-in_default g c =
     let t = c.args.base_type in
-    turns_none c.args.self.now c.requires Reinterpret t reinterpret_of refl c.pop.new.self c.fall_short.new.self c.in_default.ensures c.fall_short.ensures
+    turns_none c.args.self.now c.requires Reinterpret t reinterpret_of refl c.pop.new.self c.fail.new.self c.in_default.ensures c.fail.ensures
 
 pub returns-in-Ok : goal.returns-in-Ok
 unfolding use_of
@@ -22,5 +22,5 @@ pub returns-in-Err : goal.returns-in-Err
 unfolding use_of
 returns-in-Err g c =
     let t = c.args.base_type in
-    turns_err c.args.self.now c.requires Reinterpret t reinterpret_of refl c.pop.new.self c.fail.new.self
-    c.in-Some.value (width_of c.addr_mask.result) c.in-Some.ensures c.addr_mask.ensures.width c.in-Err.error c.in-Err.ensures c.fail.ensures
+    turns_err c.args.self.now c.requires Reinterpret t reinterpret_of refl c.pop.new.self c.fail-in-Err.new.self
+    c.in-Some.value (width_of c.addr_mask.result) c.in-Some.ensures c.addr_mask.ensures.width c.in-Err.error c.in-Err.ensures c.fail-in-Err.ensures

@@ -38,6 +38,14 @@ pub(crate) fn kind_of<R: Reader + Copy>(replied: &EvaluationResult<R>) -> Option
     })
 }
 
+/// A copy of a request. In line it takes 0.15 more of gimli's time for libc and libm in Rust.
+#[inline(never)]
+fn copy_of_request<R: Reader + Copy>(request: &EvaluationResult<R>) -> EvaluationResult<R>
+    ensures { result ≡ request.now }
+{
+    copy_of(request)
+}
+
 /// The reply of a machine that doesn't run.
 #[inline(always)]
 pub(crate) fn reply<R: Reader + Copy, S: EvaluationStorage<R>>(
@@ -51,7 +59,7 @@ pub(crate) fn reply<R: Reader + Copy, S: EvaluationStorage<R>>(
     ensures admits { IfOk result (λ replied. Admits replied machine.now.status) }
 {
     match machine.state() {
-        EvaluationState::Waiting(request) => Ok(copy_of(request)),
+        EvaluationState::Waiting(request) => Ok(copy_of_request(request)),
         EvaluationState::Failed(error) => Err(*error),
         _ => Ok(EvaluationResult::Complete),
     }

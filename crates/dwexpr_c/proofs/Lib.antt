@@ -5,4 +5,3 @@ pub mod KeptSetups
 pub mod StepsDone
 pub mod Runs
 pub mod SettingsDone
-pub mod WrittenPieces

@@ -1,7 +1,8 @@
 -- The settings of a start and the start, one after another, are the steps that they stand for.
-use Rattle.std.proofs.Common.{ℕ, suc, ◌≡◌, ◌∙◌, ◌≤◌, ◌+◌, List, [], ◌∷◌, take, slice_get, Some, None, Result, Ok, length, refl, sym, ap, subst, arith}
+use Rattle.std.proofs.Common.{Bool, ℕ, suc, ◌≡◌, ◌∙◌, ◌<◌, ◌≤◌, ◌+◌, ◌^◌, List, [], ◌∷◌, take, slice_get, Some, None, Result, Ok, Err, length, nat_lt, refl, sym, ap, subst, arith}
 use Rattle.std.specs.Prelude.{◌==◌, IsOkAnd}
-use Rattle.std.proofs.lemmas.Bool.{both_ways, cond_both, eq-eqb, eqb-true}
+use Rattle.std.proofs.lemmas.Bool.{both_ways, cond-true, cond_both, eq-eqb, eqb-true}
+use Rattle.std.proofs.lemmas.Bool.Decides.{nat_tests}
 use Rattle.dwarf_meaning.specs.Inputs.{with_maximum, with_object, with_status}
 use Rattle.dwarf_meaning.specs.Rest.{State, Start}
 use Rattle.dwarf_meaning.specs.Steps.{Step, Evaluate, InitialValue, MaxIterations, ObjectAddress}
@@ -15,10 +16,21 @@ use Rattle.dwexpr_c.specs.declared.evaluating.Progress.{Progress}
 use Rattle.dwexpr_c.specs.declared.evaluating.Progress.TheVariants.{Set, Asked, Complete, Ended}
 use Rattle.dwexpr_c.specs.declared.outcomes.DwexprOutcome.{DwexprOutcome}
 use Rattle.dwexpr_c.specs.declared.settings.DwexprSettings.{DwexprSettings}
+use Rattle.dwexpr_c.specs.declared.faults.TheConstants as codes
 use Rattle.dwexpr_c.specs.declared.step_kinds.TheConstants as step_kinds
 use Rattle.dwexpr_c.specs.declared.steps.DwexprStep.{DwexprStep}
 use Rattle.dwexpr_c.specs.declared.steps.DwexprText.{DwexprText}
 use Rattle.dwexpr_c.proofs.Runs.{Reached, at_first, next, ran_all, stopped}
+
+-- a setting that comes after so many steps, if there is one
+abbrev pub Comes : (has before index : ℕ) → (x y changed : State) → Type 0
+Comes has before index x y changed =
+    (has ≡ 0 → (index ≡ before) × (y ≡ x)) × ((has ≡ 0 → ⊥) → (index ≡ before + 1) × (y ≡ changed))
+
+-- a number of 32 bits is a maximum
+pub said_maximum : (big : Bool) (texts : List DwexprText) (maximum : ℕ) → maximum < 2 ^ 32 → step_coded big texts (number_step step_kinds.SET_MAX_ITERATIONS maximum) ≡ Ok (MaxIterations maximum)
+said_maximum big texts maximum h =
+    cond-true (nat_lt maximum (2 ^ 32)) (Ok (MaxIterations maximum)) (Err codes.BAD_STEP) (grind (arith, nat_tests))
 
 module _ (texts : List DwexprText) (first new : State) (before out : DwexprOutcome) (fresh : first.status ≡ Start None) (limits : first.setup.limits ≡ capacities) (is_given : IsGiven texts first.text.bytes) where
   -- a setting was done
@@ -75,34 +87,29 @@ module _ (texts : List DwexprText) (first new : State) (before out : DwexprOutco
         ends all 3 refl (omega arith) y (set_next all 2 initial refl x y two (InitialValue settings.initial_value) refl initial_set) progress
         (subst (λ (n : ℕ). DoesStep texts (Ok Evaluate) n y new before out progress) i h)
 
-    -- a setting that comes in so many steps, if there is one
-    abbrev Comes : (has : ℕ) → (index : ℕ) → (x y changed : State) → Type 0
-    Comes has index x y changed =
-        (has ≡ 0 → (index ≡ 0) × (y ≡ x)) × ((has ≡ 0 → ⊥) → (index ≡ 1) × (y ≡ changed))
-
     -- the settings were done, and then the start
-    pub runs : (objects values : ℕ) (x y : State)
-        → Comes settings.has_object_address objects limited x (with_object (Some settings.object_address) limited)
-        → Comes settings.has_initial_value values x y (with_status (Start (Some settings.initial_value)) x)
-        → DoesStep texts (Ok Evaluate) (1 + objects + values) y new before out progress → Runs texts (steps_in settings) first new progress out
-    runs objects values x y object_comes initial_comes h =
+    pub runs : (object_index index : ℕ) (x y : State)
+        → Comes settings.has_object_address 1 object_index limited x (with_object (Some settings.object_address) limited)
+        → Comes settings.has_initial_value object_index index x y (with_status (Start (Some settings.initial_value)) x)
+        → DoesStep texts (Ok Evaluate) index y new before out progress → Runs texts (steps_in settings) first new progress out
+    runs object_index index x y object_comes initial_comes h =
         cond_both (settings.has_object_address == 0) _ _ (λ (l : List DwexprStep). Runs texts (maximum ∷ l) first new progress out)
         (λ no_object.
         let o = object_comes.0 (eqb-true settings.has_object_address 0 no_object) in
         cond_both (settings.has_initial_value == 0) _ _ (λ (l : List DwexprStep). Runs texts (maximum ∷ l) first new progress out)
         (λ no_initial.
         let v = initial_comes.0 (eqb-true settings.has_initial_value 0 no_initial) in
-        alone (1 + objects + values) y (omega arith) (v.1 ∙ o.1) h)
+        alone index y (v.0 ∙ o.0) (v.1 ∙ o.1) h)
         (λ an_initial.
         let v = initial_comes.1 (λ z. both_ways (settings.has_initial_value == 0) an_initial (eq-eqb settings.has_initial_value 0 z)) in
-        with_one initial (InitialValue settings.initial_value) refl (1 + objects + values) y (omega arith)
+        with_one initial (InitialValue settings.initial_value) refl index y (v.0 ∙ ap (λ (n : ℕ). n + 1) o.0)
         (subst (λ (z : State). IsSet (InitialValue settings.initial_value) z y) o.1 (ap (λ (z : State). z.status) o.1 ∙ (ap (λ (z : State). z.status) limit ∙ fresh), v.1)) h))
         (λ an_object.
         let o = object_comes.1 (λ z. both_ways (settings.has_object_address == 0) an_object (eq-eqb settings.has_object_address 0 z)) in
         cond_both (settings.has_initial_value == 0) _ _ (λ (l : List DwexprStep). Runs texts (maximum ∷ object ∷ l) first new progress out)
         (λ no_initial.
         let v = initial_comes.0 (eqb-true settings.has_initial_value 0 no_initial) in
-        with_one object (ObjectAddress settings.object_address) refl (1 + objects + values) y (omega arith) (v.1 ∙ o.1) h)
+        with_one object (ObjectAddress settings.object_address) refl index y (v.0 ∙ o.0) (v.1 ∙ o.1) h)
         (λ an_initial.
         let v = initial_comes.1 (λ z. both_ways (settings.has_initial_value == 0) an_initial (eq-eqb settings.has_initial_value 0 z)) in
-        with_both (1 + objects + values) x y (omega arith) o.1 (ap (λ (z : State). z.status) o.1 ∙ (ap (λ (z : State). z.status) limit ∙ fresh), v.1) h))
+        with_both index x y (v.0 ∙ ap (λ (n : ℕ). n + 1) o.0) o.1 (ap (λ (z : State). z.status) o.1 ∙ (ap (λ (z : State). z.status) limit ∙ fresh), v.1) h))

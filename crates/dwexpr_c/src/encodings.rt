@@ -1,12 +1,10 @@
 //! An encoding in numbers, and how it is read.
 
-ghost use Rattle.std.specs.Prelude.{◌≡◌, ◌<◌, ◌≤◌, ◌⊎◌, [], ◌∷◌, IfSome, IfNone, ◌==◌, if◌then◌else◌};
-ghost use Rattle.std.specs.Int.{from_le_bytes, w32};
+ghost use Rattle.std.specs.Prelude.{◌≡◌, ◌<◌, ◌≤◌, ◌⊎◌, IfSome, IfNone, ◌==◌, if◌then◌else◌};
 ghost use Rattle.dwarf_base.specs.ByteOrder.{is_big_of};
 ghost use Rattle.dwexpr_c.specs.Encodings.{IsEncoding, encoding_in, is_big_in};
 
 use dwarf_base::{Encoding, Format, RunTimeEndian};
-use std::marker::Model;
 
 /// How bytes are to be read, in the numbers of a caller, of which any may be wrong.
 #[repr(C)]
@@ -70,84 +68,4 @@ pub(crate) fn reading_of(numbers: DwexprEncoding) -> Option<(Encoding, RunTimeEn
         version: u16::from(numbers.version),
     };
     Some((encoding, order_of(numbers.big_endian)?))
-}
-
-/// An encoding that is kept, and the numbers that said it.
-#[derive(Clone, Copy)]
-pub(crate) struct KeptEncoding {
-    numbers: DwexprEncoding,
-    encoding: Encoding,
-}
-
-impl Model for KeptEncoding {
-    ghost use Rattle.std.specs.Prelude.{◌≡◌};
-    ghost use Rattle.std.proofs.Common.{sym};
-    ghost use Rattle.dwexpr_c.specs.declared.encodings.DwexprEncoding.{DwexprEncoding};
-    ghost use Rattle.dwexpr_c.specs.Encodings.{IsEncoding, encoding_in};
-
-    ghost Value = { DwexprEncoding };
-
-    ghost view = { λ kept. kept.numbers };
-
-    ghost invariant = { λ kept. IsEncoding kept.numbers × (kept.encoding ≡ encoding_in kept.numbers) };
-
-    ghost inverse = { λ numbers. record { numbers = numbers; encoding = encoding_in numbers } };
-
-    ghost inverse_ok = { λ kept h i. record { numbers = kept.numbers; encoding = sym h.1 i } };
-}
-
-impl KeptEncoding {
-    /// What the numbers say, if they say an encoding and a byte order.
-    pub(crate) fn of(numbers: DwexprEncoding) -> Option<KeptEncoding>
-        ensures some { IfSome result (λ kept. (kept ≡ numbers) × IsEncoding numbers) }
-        ensures none { IfNone result (IsEncoding numbers → ⊥) }
-    {
-        let (encoding, _) = reading_of(numbers)?;
-        Some(KeptEncoding { numbers, encoding })
-    }
-
-    /// The same. Numbers that are these again aren't judged again.
-    #[inline(always)]
-    pub(crate) fn or_of(self, numbers: DwexprEncoding) -> Option<KeptEncoding>
-        ensures some { IfSome result (λ kept. (kept ≡ numbers) × IsEncoding numbers) }
-        ensures none { IfNone result (IsEncoding numbers → ⊥) }
-    {
-        if word_of(self.numbers) == word_of(numbers) {
-            return Some(self);
-        }
-        KeptEncoding::of(numbers)
-    }
-
-    /// The encoding.
-    pub(crate) fn encoding(self) -> Encoding
-        ensures said { result ≡ encoding_in self }
-        ensures some { 0 < result.address_size }
-        ensures fits { result.address_size ≤ 8 }
-    {
-        self.encoding
-    }
-
-    /// The byte order.
-    pub(crate) fn order(self) -> RunTimeEndian
-        ensures { is_big_of result ≡ is_big_in self }
-    {
-        match self.numbers.big_endian {
-            1 => RunTimeEndian::Big,
-            _ => RunTimeEndian::Little,
-        }
-    }
-}
-
-/// The numbers as one word, which is compared at once.
-#[inline(always)]
-fn word_of(numbers: DwexprEncoding) -> u32
-    ensures { result ≡ from_le_bytes w32
-        (numbers.address_size ∷ numbers.offset_size ∷ numbers.big_endian ∷ numbers.version ∷ []) }
-{
-    u32::from_le_bytes([
-        numbers.address_size,
-        numbers.offset_size,
-        numbers.big_endian,
-        numbers.version,
-    ])
 }

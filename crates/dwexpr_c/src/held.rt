@@ -4,10 +4,9 @@ ghost use Rattle.std.specs.Prelude.{◌≡◌, Option, None, Some};
 ghost use Rattle.dwexpr_c.specs.declared.held.Held.{Held};
 ghost use Rattle.dwexpr_c.specs.Held.{IsUnstarted};
 
-use crate::encodings::{DwexprEncoding, KeptEncoding};
 use crate::places::Placed;
 use arrayvec::ArrayVec;
-use dwarf_base::{Reader, RunTimeEndian};
+use dwarf_base::{Encoding, Format, Reader, RunTimeEndian};
 use dwarf_eval::eval::Evaluation;
 use dwarf_eval::store::EvaluationStorage;
 use dwarf_op::Piece;
@@ -25,37 +24,32 @@ impl<R: Reader + Copy + Default> EvaluationStorage<R> for Fixed {
     type Result = ArrayVec<Piece<R>, 32>;
 }
 
-/// An evaluation, the byte order of its texts, and the encoding of the last of them.
+/// An evaluation, and the byte order of its texts.
 #[derive(Drop)]
 pub struct Held<'a> {
     pub(crate) evaluation: Evaluation<Placed<'a>, Fixed>,
     pub(crate) order: RunTimeEndian,
-    pub(crate) encoding: KeptEncoding,
 }
 
 /// An evaluation of no bytes, before it is started with a text.
 pub(crate) fn fresh_held<'a>() -> Held<'a>
     ensures { IsUnstarted result }
 {
-    let numbers = DwexprEncoding {
+    let order = RunTimeEndian::Little;
+    let encoding = Encoding {
         address_size: 8,
-        offset_size: 4,
-        big_endian: 0,
+        format: Format::Dwarf32,
         version: 5,
-    };
-    let Some(encoding) = KeptEncoding::of(numbers) else {
-        unreachable!();
     };
     Held {
         evaluation: Evaluation::new_in(
-            Placed::new(&[], encoding.order(), 0),
-            encoding.encoding(),
+            Placed::new(&[], order, 0),
+            encoding,
             ArrayVec::new(),
             ArrayVec::new(),
             ArrayVec::new(),
         ),
-        order: encoding.order(),
-        encoding,
+        order,
     }
 }
 

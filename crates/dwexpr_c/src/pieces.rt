@@ -62,31 +62,7 @@ fn piece_of_kind(kind: u32, size_in_bits: Option<u64>, bit_offset: Option<u64>) 
     }
 }
 
-/// Writes a piece that holds a value, and gives back that it did.
-#[inline(never)]
-fn show_value(value: &Value, piece: &Piece<Placed<'_>>, shown: &mut DwexprPiece) -> bool
-    ensures shown { shown.new
-        ≡ record (piece_of_kind piece_kinds.HOLDS_VALUE piece.now.size_in_bits piece.now.bit_offset) {
-          value_type = (shown_value value.now).value_type;
-          number = (shown_value value.now).content;
-        } }
-    ensures written { result ≡ true }
-{
-    let numbers = numbers_of_value(*value);
-    *shown = DwexprPiece {
-        value_type: numbers.value_type,
-        number: numbers.content,
-        ..piece_of_kind(
-            piece_kinds::HOLDS_VALUE,
-            piece.size_in_bits,
-            piece.bit_offset,
-        )
-    };
-    true
-}
-
 /// Writes a piece that holds bytes; `false` if they are nowhere.
-#[inline(never)]
 fn show_bytes(
     texts: &[DwexprText<'_>],
     bytes: &Placed<'_>,
@@ -115,13 +91,9 @@ fn show_bytes(
     true
 }
 
-/// Writes a piece, whatever it is; `false` if its bytes are nowhere. Its calls are its last acts, so it needs no frame.
-#[inline(never)]
-fn show_any_piece(
-    texts: &[DwexprText<'_>],
-    piece: &Piece<Placed<'_>>,
-    shown: &mut DwexprPiece,
-) -> bool
+/// Writes a piece; `false` if its bytes are nowhere.
+#[inline(always)]
+fn show_piece(texts: &[DwexprText<'_>], piece: &Piece<Placed<'_>>, shown: &mut DwexprPiece) -> bool
     ensures some { result ≡ true
         → ShowsPiece texts.now (piece_of text_of_placed (λ x. x) piece.now) shown.new }
     ensures none { result ≡ false
@@ -138,15 +110,14 @@ fn show_any_piece(
             number: *address,
             ..piece_of_kind(piece_kinds::AT_ADDRESS, size, offset)
         },
-        // Most values are.
-        Location::Value {
-            value: Value::Generic(content),
-        } => *shown = DwexprPiece {
-            value_type: types::GENERIC,
-            number: *content,
-            ..piece_of_kind(piece_kinds::HOLDS_VALUE, size, offset)
-        },
-        Location::Value { value } => return show_value(value, piece, shown),
+        Location::Value { value } => {
+            let numbers = numbers_of_value(*value);
+            *shown = DwexprPiece {
+                value_type: numbers.value_type,
+                number: numbers.content,
+                ..piece_of_kind(piece_kinds::HOLDS_VALUE, size, offset)
+            };
+        }
         Location::Bytes { value } => return show_bytes(texts, value, piece, shown),
         Location::ImplicitPointer { value, byte_offset } => *shown = DwexprPiece {
             number: value.0 as u64,
@@ -154,28 +125,6 @@ fn show_any_piece(
             ..piece_of_kind(piece_kinds::POINTS_INTO, size, offset)
         },
     }
-    true
-}
-
-/// Does the same. Most are registers, which are written in line.
-#[inline(always)]
-fn show_piece(texts: &[DwexprText<'_>], piece: &Piece<Placed<'_>>, shown: &mut DwexprPiece) -> bool
-    ensures some { result ≡ true
-        → ShowsPiece texts.now (piece_of text_of_placed (λ x. x) piece.now) shown.new }
-    ensures none { result ≡ false
-        → HoldsNowhere texts.now (piece_of text_of_placed (λ x. x) piece.now).location }
-{
-    let Location::Register { register } = piece.location else {
-        return show_any_piece(texts, piece, shown);
-    };
-    *shown = DwexprPiece {
-        number: u64::from(register.0),
-        ..piece_of_kind(
-            piece_kinds::IN_REGISTER,
-            piece.size_in_bits,
-            piece.bit_offset,
-        )
-    };
     true
 }
 
@@ -187,8 +136,8 @@ fn piece_at<'a, 'b>(pieces: &'b [Piece<Placed<'a>>], index: usize) -> Option<&'b
 }
 
 /// Writes as many pieces as there is room for; `false` if the bytes of one are nowhere.
-#[inline(never)]
-fn write_all(
+#[inline(always)]
+pub(crate) fn write_pieces(
     texts: &[DwexprText<'_>],
     pieces: &[Piece<Placed<'_>>],
     places: &mut [DwexprPiece],
@@ -208,38 +157,4 @@ fn write_all(
         }
     }
     true
-}
-
-/// The only piece, if there is one alone, and room for it.
-#[inline(always)]
-fn only<'a, 'b>(pieces: &'b [Piece<Placed<'a>>], room: usize) -> Option<&'b Piece<Placed<'a>>>
-    ensures alone { IfSome result (λ piece. pieces.now ≡ piece.now ∷ []) }
-    ensures room { IfSome result (λ piece. 0 < room) }
-{
-    if room == 0 {
-        return None;
-    }
-    if pieces.len() == 1 {
-        return piece_at(pieces, 0);
-    }
-    None
-}
-
-/// Does the same. Most variables are one piece, which is written in line.
-#[inline(always)]
-pub(crate) fn write_pieces(
-    texts: &[DwexprText<'_>],
-    pieces: &[Piece<Placed<'_>>],
-    places: &mut [DwexprPiece],
-) -> bool
-    ensures written { result ≡ true
-        → AreWritten texts.now (map (piece_of text_of_placed (λ x. x)) pieces.now) places.old
-        places.new }
-    ensures unplaced { result ≡ false
-        → SomeNowhere texts.now (map (piece_of text_of_placed (λ x. x)) pieces.now) }
-{
-    let Some(piece) = only(pieces, places.len()) else {
-        return write_all(texts, pieces, places);
-    };
-    show_piece(texts, piece, &mut places[0])
 }

@@ -1,7 +1,6 @@
 //! The start of an evaluation, and the call that keeps nothing.
 
-ghost use Rattle.std.specs.Prelude.{◌≡◌};
-ghost use Rattle.dwarf_base.specs.ByteOrder.{is_big_of};
+ghost use Rattle.std.specs.Prelude.{◌≡◌, ◌<◌, ◌≤◌};
 ghost use Rattle.dwarf_meaning.specs.Inputs.{fresh_state};
 ghost use Rattle.dwexpr_c.specs.Encodings.{IsEncoding, encoding_in, is_big_in};
 ghost use Rattle.dwexpr_c.specs.Evaluated.{EvaluatesFirst, limited_setup};
@@ -11,8 +10,8 @@ ghost use Rattle.dwexpr_c.specs.Settings.{steps_in};
 ghost use Rattle.dwexpr_c.specs.CallerTexts.{text_at, text_of_placed};
 ghost use Rattle.dwexpr_c.specs.declared.faults.TheConstants as codes;
 
-use crate::encodings::{DwexprEncoding, KeptEncoding};
-use crate::evaluating::{evaluate_set, evaluate_steps};
+use crate::encodings::{DwexprEncoding, reading_of};
+use crate::evaluating::{evaluate_settings, evaluate_steps};
 use crate::faults::{BAD_ENCODING, BAD_TEXT, code_alone};
 use crate::held::{Held, fresh_held};
 use crate::outcomes::{DwexprOutcome, show_end};
@@ -20,18 +19,20 @@ use crate::pieces::DwexprPiece;
 use crate::places::Placed;
 use crate::settings::DwexprSettings;
 use crate::steps::{DwexprStep, DwexprText, text_at};
+use dwarf_base::{Encoding, RunTimeEndian};
 
-/// Has an evaluation stand at the beginning of a text.
+/// Has an evaluation stand at the beginning of a text in a byte order.
 #[inline(always)]
-fn restart<'a>(held: &mut Held<'a>, text: Placed<'a>, encoding: KeptEncoding)
-    requires { HasCapacities held.old.evaluation }
-    ensures order { is_big_of held.new.order ≡ is_big_in encoding }
+fn restart<'a>(held: &mut Held<'a>, text: Placed<'a>, encoding: Encoding, order: RunTimeEndian)
+    requires capacities { HasCapacities held.old.evaluation }
+    requires some { 0 < encoding.address_size }
+    requires fits { encoding.address_size ≤ 8 }
+    ensures order { held.new.order ≡ order }
     ensures fresh { held.new.evaluation
-        ≡ fresh_state (limited_setup (encoding_in encoding)) (text_of_placed text.entry) }
+        ≡ fresh_state (limited_setup encoding) (text_of_placed text.entry) }
 {
-    held.order = encoding.order();
-    held.encoding = encoding;
-    held.evaluation.restart(text, encoding.encoding());
+    held.order = order;
+    held.evaluation.restart(text, encoding);
 }
 
 /// Shows what the steps of the first of the texts come to; the evaluation then stands where they lead.
@@ -55,27 +56,19 @@ pub(crate) fn start<'a>(
         → StandsAfterFirst (encoding_in numbers) (text_at (is_big_in numbers) texts.now 0) texts.now
         steps.now held.old held.new outcome.new }
 {
-    match held.encoding.or_of(numbers) {
+    match reading_of(numbers) {
         None => *outcome = show_end(code_alone(BAD_ENCODING), 0),
-        Some(encoding) => match text_at(texts, encoding.order(), 0) {
+        Some((encoding, order)) => match text_at(texts, order, 0) {
             None => *outcome = show_end(code_alone(BAD_TEXT), 0),
             Some(text) => {
-                restart(held, text, encoding);
-                evaluate_steps(
-                    &mut held.evaluation,
-                    texts,
-                    encoding.order(),
-                    steps,
-                    outcome,
-                    places,
-                );
+                restart(held, text, encoding, order);
+                evaluate_steps(&mut held.evaluation, texts, order, steps, outcome, places);
             }
         },
     }
 }
 
 /// Shows what the settings come to; the evaluation of the first of the texts then stands where they lead.
-#[inline(always)]
 pub(crate) fn evaluate_first<'a>(
     held: &mut Held<'a>,
     texts: &[DwexprText<'a>],
@@ -96,13 +89,13 @@ pub(crate) fn evaluate_first<'a>(
         → StandsAfterFirst (encoding_in numbers) (text_at (is_big_in numbers) texts.now 0) texts.now
         (steps_in settings.now) held.old held.new outcome.new }
 {
-    match held.encoding.or_of(numbers) {
+    match reading_of(numbers) {
         None => *outcome = show_end(code_alone(BAD_ENCODING), 0),
-        Some(encoding) => match text_at(texts, encoding.order(), 0) {
+        Some((encoding, order)) => match text_at(texts, order, 0) {
             None => *outcome = show_end(code_alone(BAD_TEXT), 0),
             Some(text) => {
-                restart(held, text, encoding);
-                evaluate_set(&mut held.evaluation, texts, settings, outcome, places);
+                restart(held, text, encoding, order);
+                evaluate_settings(&mut held.evaluation, texts, settings, outcome, places);
             }
         },
     }

@@ -11,8 +11,8 @@ ghost use Rattle.dwexpr_c.specs.declared.faults.TheConstants as codes;
 
 use crate::faults::{BAD_STEP, BAD_TEXT};
 use crate::places::Placed;
+use crate::step_kinds;
 use crate::values::{type_of_code, value_of};
-use crate::{step_kinds, types};
 use dwarf_base::RunTimeEndian;
 use dwarf_replay::Step;
 use dwarf_value::Value;
@@ -154,18 +154,6 @@ fn value_in(step: DwexprStep) -> Result<Value, u32>
     ensures { result ≡ ok_or (value_coded step.value_type step.number) codes.BAD_STEP }
 {
     value_of(step.value_type, step.number).ok_or(BAD_STEP)
-}
-
-/// The value that a step gives, if it is of the generic type.
-#[inline(always)]
-pub(crate) fn generic_in(step: &DwexprStep) -> Option<Value>
-    ensures { IfSome result
-        (λ value. value_coded step.now.value_type step.now.number ≡ Some value) }
-{
-    match step.value_type {
-        types::GENERIC => value_of(types::GENERIC, step.number),
-        _ => None,
-    }
 }
 
 /// The step that the numbers say, or the code if they say none.

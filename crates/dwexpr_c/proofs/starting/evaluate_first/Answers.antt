@@ -7,5 +7,5 @@ use Rattle.dwexpr_c.proofs.starting.evaluate_first.Goals as goal
 pub returns-in-Some-text_at-clause-capacities : goal.returns-in-Some-text_at-clause-capacities
 returns-in-Some-text_at-clause-capacities c =
     limits_stay c.restart.new.held.evaluation c.args.texts.now (steps_in c.args.settings.now)
-    c.evaluate_set.new.evaluation c.evaluate_set.new.outcome c.evaluate_set.ensures.stands
+    c.evaluate_settings.new.evaluation c.evaluate_settings.new.outcome c.evaluate_settings.ensures.stands
     ∙ ap (λ (x : State). x.setup.limits) c.restart.ensures.fresh

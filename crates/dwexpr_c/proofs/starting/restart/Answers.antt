@@ -1,15 +1,11 @@
 use Rattle.std.proofs.Common.{ap, ◌∙◌}
-use Rattle.dwarf_base.specs.declared.common.Encoding.{Encoding}
 use Rattle.dwarf_meaning.specs.Inputs.{fresh_state}
 use Rattle.dwarf_meaning.specs.Refusals.{Limits}
 use Rattle.dwarf_meaning.specs.Stores.{setup_of}
 use Rattle.dwexpr_c.specs.CallerTexts.{text_of_placed}
-use Rattle.dwexpr_c.specs.Encodings.{encoding_in}
 use Rattle.dwexpr_c.proofs.starting.restart.Goals as goal
 
 pub returns-clause-fresh : goal.returns-clause-fresh
 returns-clause-fresh c =
-    let old = c.args.held.now.evaluation.setup.limits in
     c.restart.ensures
-    ∙ (ap (λ (e : Encoding). fresh_state (setup_of e 64 old.values old.callers old.pieces) (text_of_placed c.args.text)) c.encoding.ensures.said
-    ∙ ap (λ (l : Limits). fresh_state (setup_of (encoding_in c.args.encoding) 64 l.values l.callers l.pieces) (text_of_placed c.args.text)) c.requires)
+    ∙ ap (λ (l : Limits). fresh_state (setup_of c.args.encoding 64 l.values l.callers l.pieces) (text_of_placed c.args.text)) c.requires.capacities

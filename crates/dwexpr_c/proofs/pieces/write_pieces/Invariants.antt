@@ -1,7 +1,7 @@
 use Rattle.std.proofs.Common.{◌≡◌, ◌<◌, ◌≤◌, ℕ, length, map, slice_get, List, Option}
 use Rattle.dwarf_op.specs.Views.{piece_of}
 use Rattle.dwexpr_c.specs.CallerTexts.{text_of_placed}
-use Rattle.dwexpr_c.proofs.pieces.write_all.Given as goal
+use Rattle.dwexpr_c.proofs.pieces.write_pieces.Given as goal
 use Rattle.std.specs.Option.{IfSome}
 use Rattle.dwarf_meaning.specs.Locations.{Piece}
 use Rattle.dwexpr_c.specs.Outcomes.{ShowsPiece}

@@ -1,7 +1,7 @@
 use Rattle.dwexpr_c.specs.declared.evaluating.Progress.TheVariants.{Complete}
 use Rattle.dwexpr_c.specs.Settings.{steps_in}
 use Rattle.dwexpr_c.proofs.Runs.{all_done}
-use Rattle.dwexpr_c.proofs.evaluating.evaluate_set.Goals as goal
+use Rattle.dwexpr_c.proofs.evaluating.evaluate_settings.Goals as goal
 
 pub returns-in-Complete-clause-evaluates : goal.returns-in-Complete-clause-evaluates
 returns-in-Complete-clause-evaluates g c =

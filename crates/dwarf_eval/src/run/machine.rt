@@ -1,11 +1,9 @@
 //! The state of a run, and its smallest steps: the lists, the count, and reads of the running text.
 
-ghost use Rattle.std.specs.Prelude.{◌≡◌, ◌<◌, ◌≤◌, ◌+◌, ◌*◌, [], None, Some, Err, map, length, slice_get, false, true, OnOk, IfOk, IfErr};
-ghost use Rattle.dwarf_base.specs.Reads.{IsRestOf, Reads};
+ghost use Rattle.std.specs.Prelude.{◌≡◌, ◌<◌, ◌≤◌, ◌*◌, [], Some, Err, map, length, slice_get, false, true, OnOk, IfOk, IfErr};
+ghost use Rattle.dwarf_base.specs.Reads.{IsRestOf};
 ghost use Rattle.dwarf_base.specs.Faults.{fault_of};
-ghost use Rattle.dwarf_base.specs.declared.errors.Error.TheVariants.{StackFull, TooManyIterations};
 ghost use Rattle.dwarf_value.specs.Values.{IsAddressMask, width_of};
-ghost use Rattle.dwarf_meaning.specs.Decoding.{operation_at};
 ghost use Rattle.dwarf_meaning.specs.Meaning.{has_pieces};
 ghost use Rattle.dwarf_meaning.specs.Requests as requests;
 ghost use Rattle.dwarf_meaning.specs.Rest.{Start, Running, RequestStatus, CompleteStatus, FaultStatus};

@@ -1,13 +1,10 @@
 ghost use Rattle.std.specs.Prelude.{◌≡◌, [], ◌∷◌};
 ghost use Rattle.dwarf_base.specs.Reads.{IsRestOf};
-ghost use Rattle.dwarf_meaning.specs.Acts.{Branches, Locates, Pushes, FaultAct, binary, push, unary};
+ghost use Rattle.dwarf_meaning.specs.Acts.{Branches, binary, unary};
 ghost use Rattle.dwarf_meaning.specs.Operations as meaning;
-ghost use Rattle.dwarf_meaning.specs.Rest.{Running, FaultStatus};
+ghost use Rattle.dwarf_meaning.specs.Rest.{Running};
 ghost use Rattle.dwarf_meaning.specs.Stores.{address_bits, push_values};
-ghost use Rattle.dwarf_base.specs.declared.errors.Error.TheVariants.{NotEnoughStackItems, UnsupportedEvaluation};
 ghost use Rattle.dwarf_value.specs.Values.{from_u64_of, to_u64_of, type_of, unary_of, binary_of, Plus};
-ghost use Rattle.dwarf_meaning.specs.Inputs.{with_status};
-ghost use Rattle.dwarf_op.specs.Views.{location_of};
 ghost use Rattle.dwarf_eval.specs.inner.Machine.{binary_operator_of, operator_of};
 ghost use Rattle.dwarf_eval.specs.inner.StateChanges.{Performs, PopsNumber, PushesAllPlain, PushesPlain, TriesChange, act_of, at_rest};
 

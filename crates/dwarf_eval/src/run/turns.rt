@@ -1,15 +1,12 @@
 //! The turns of a run: operations, the pieces after them, and ends.
 
-ghost use Rattle.std.specs.Prelude.{◌≡◌, ◌<◌, None, length, false, true};
+ghost use Rattle.std.specs.Prelude.{◌≡◌, ◌<◌, length, false};
 ghost use Rattle.dwarf_base.specs.Reads.{IsRestOf};
-ghost use Rattle.dwarf_meaning.specs.Operations as meant;
-ghost use Rattle.dwarf_meaning.specs.Meaning.{whole_piece as meant_whole, finish, finish_value, has_pieces};
+ghost use Rattle.dwarf_meaning.specs.Meaning.{whole_piece as meant_whole, finish};
 ghost use Rattle.dwarf_eval.specs.inner.Answers.{IsAtRestBy};
 ghost use Rattle.dwarf_meaning.specs.Rest.{Running, Start};
 ghost use Rattle.dwarf_meaning.specs.RunLaws.{waits_of};
-ghost use Rattle.dwarf_meaning.specs.Stores.{Located, address_bits};
-ghost use Rattle.dwarf_meaning.specs.Locations.{AtAddress};
-ghost use Rattle.dwarf_value.specs.Values.{to_u64_of};
+ghost use Rattle.dwarf_meaning.specs.Stores.{Located};
 ghost use Rattle.dwarf_op.specs.Views.{operation_of, location_of, piece_of};
 ghost use Rattle.dwarf_eval.specs.inner.StateChanges.{Closes, ComesToState, CompletesWith, EndsLocated, HasReply, IsReady, Turns, at_rest, goes_on, is_free, total};
 

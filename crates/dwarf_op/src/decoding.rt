@@ -15,7 +15,7 @@ use crate::operands::{Operand, WasmPlace, read_operand};
 use crate::operations::{DieReference, Operation};
 use dwarf_base::constants::*;
 use dwarf_base::{
-    DebugAddrIndex, DebugInfoOffset, Encoding, Error, Reader, ReaderOffset, Register, Result,
+    DebugAddrIndex, DebugInfoOffset, DwOp, Encoding, Error, Reader, ReaderOffset, Register, Result,
     UnitOffset,
 };
 

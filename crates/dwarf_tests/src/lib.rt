@@ -4,6 +4,8 @@
 #[cfg(test)]
 mod allocators;
 #[cfg(test)]
+mod cases;
+#[cfg(test)]
 mod equality;
 #[cfg(test)]
 mod evaluation;
@@ -21,5 +23,7 @@ mod reads;
 mod refusals;
 #[cfg(test)]
 mod replays;
+#[cfg(test)]
+mod rows;
 #[cfg(test)]
 mod values;

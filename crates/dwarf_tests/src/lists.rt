@@ -5,9 +5,9 @@ ghost use Rattle.std.specs.Prelude.{◌≡◌, [], None};
 use crate::allocators::{NEVER, RefusesGrowth};
 use dwarf_base::Reader;
 use dwarf_eval::op::Piece;
-use dwarf_eval::store::{ArrayLike, EvaluationStorage};
+use dwarf_eval::store::{ArrayLike, EvaluationStorage, OneInLine};
 use dwarf_value::Value;
-use std::alloc::Global;
+use std::alloc::{Allocator, Global};
 use std::process::Abort;
 
 /// A list without a limit, one push of which is refused.
@@ -105,6 +105,34 @@ fn lists_on_the_heap(rt: HostRuntime) {
         if memory.has_refused() {
             refused = before;
         }
+        let memory = RefusesGrowth::new(rt.alloc(), before);
+        expect_list(&rt, &mut OneInLine::new(Vec::new(&memory)), &memory);
     }
     assert!(rt; 8 < refused && refused < 18);
+}
+
+// The only item takes no memory until it is handed over. If that is refused, it is still there.
+#[test]
+fn one_item_in_line(rt: HostRuntime) {
+    let memory = RefusesGrowth::new(rt.alloc(), 0);
+    let mut list = OneInLine::new(Vec::new(&memory));
+    assert!(rt; list.push(7u64).is_ok() && !memory.has_refused());
+    expect_handed_over(&rt, list, &memory);
+}
+
+fn expect_handed_over<A: Allocator>(
+    rt: &impl Abort,
+    list: OneInLine<u64, Vec<u64, A>>,
+    memory: &RefusesGrowth<Global>,
+) {
+    match list.into_list() {
+        Ok(_) => assert!(rt; false),
+        Err(list) => {
+            assert!(rt; memory.has_refused() && list.as_slice() == [7].as_slice());
+            match list.into_list() {
+                Ok(items) => assert!(rt; items.as_slice() == [7].as_slice()),
+                Err(_) => assert!(rt; false),
+            }
+        }
+    }
 }

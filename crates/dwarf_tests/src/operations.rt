@@ -4,9 +4,22 @@ ghost use Rattle.std.specs.Prelude.{length, ◌<◌, ◌^◌, false};
 ghost use Rattle.dwarf_base.specs.EndianSlice.{slice_bytes};
 
 use crate::evaluation::{SMALL, little};
-use dwarf_base::{Encoding, EndianSlice, Error, Format, LittleEndian, Reader, Result};
+use dwarf_base::{Encoding, EndianSlice, Error, Format, LittleEndian, Reader, Result, UnitOffset};
+use dwarf_eval::op::Expression;
 use dwarf_op::Operation;
 use std::process::Abort;
+
+// A literal of two bytes with one to spare.
+#[test]
+fn operation_with_a_byte_to_spare(rt: HostRuntime) {
+    let mut bytes = little(&[0xa4, 0x07, 0x02, 0xff, 0x7f, 0x9f]);
+    let literal = Operation::TypedLiteral {
+        base_type: UnitOffset(7),
+        value: little(&[0xff, 0x7f]),
+    };
+    assert!(rt; Operation::parse(&mut bytes, SMALL) == Ok(literal));
+    assert!(rt; bytes == little(&[0x9f]));
+}
 
 // The vectors have all else that is refused.
 #[test]
@@ -20,6 +33,53 @@ fn refused_operations(rt: HostRuntime) {
     assert!(rt;
         Operation::parse(&mut little(&[0x03]), none) == Err(Error::UnsupportedAddressSize(0))
     );
+}
+
+// An operation, one that is cut off, and the end; and how far the iterator is after each.
+#[test]
+fn iteration(rt: HostRuntime) {
+    let expression = Expression(little(&[0x31, 0x93]));
+    let mut operations = expression.operations(SMALL);
+    let first = operations.next();
+    assert!(rt; first == Ok(Some(Operation::UnsignedConstant { value: 1 })));
+    assert!(rt; operations.offset_from(&expression) == 1);
+    assert!(rt; matches!(operations.next(), Err(Error::UnexpectedEof(_))));
+    assert!(rt; operations.offset_from(&expression) == 2);
+    assert!(rt; operations.next() == Ok(None));
+    assert!(rt; operations.offset_from(&expression) == 2);
+}
+
+// Of the items of an expression there are at most as many as bytes, and the last alone may be a fault.
+fn expect_items(rt: &impl Abort, text: &[u8]) {
+    let mut count = 0;
+    let mut failed = false;
+    for item in Expression(little(text)).operations(SMALL) {
+        assert!(rt; count < text.len() && !failed);
+        failed = item.is_err();
+        count += 1;
+    }
+}
+
+// Expressions that are cut off after each byte, and one whose last number is too long.
+static CUT: [&[u8]; 7] = [
+    &[0x31, 0x93],
+    b"\x9e\x05hello",
+    &[
+        0x10, 0xff, 0xff, 0xff, 0xff, 0xff, 0xff, 0xff, 0xff, 0xff, 0x02,
+    ],
+    &[0x0a, 0x01, 0x02, 0x96, 0xa8, 0xe5, 0x0e],
+    &[0x9e, 0x00, 0x9f],
+    &[0xa4, 0x07, 0x02, 0xff, 0x7f, 0x9f],
+    &[0xa0, 0x04, 0x00, 0x00, 0x00, 0x01],
+];
+
+#[test]
+fn iteration_of_cut_expressions(rt: HostRuntime) {
+    for text in CUT {
+        for length in 0..=text.len() {
+            expect_items(&rt, &text[..length]);
+        }
+    }
 }
 
 // Bytes that are counted in 32 bits, the lowest of a number first.

@@ -4,13 +4,15 @@ ghost use Rattle.std.specs.Prelude.{◌≡◌, ◌<◌, ◌≤◌, [], None};
 ghost use Rattle.dwarf_meaning.specs.Rest.{Start};
 
 use crate::allocators::{NEVER, RefusesGrowth};
+use crate::cases::{LATER, read};
 use crate::evaluation::{Bytes, COMPLETE, FULL, SMALL, little, replayed, replayed_on_heap};
 use crate::lists::{ListsOfTests, RefusesOne};
 use dwarf_base::{Encoding, Error, Format, Reader, UnitOffset};
-use dwarf_eval::eval::Evaluation;
+use dwarf_eval::eval::{Evaluation, Status};
 use dwarf_eval::op::{DieReference, EvaluationResult, Expression};
 use dwarf_eval::store::{ArrayLike, EvaluationStorage};
 use dwarf_replay::{Answer, Replayed, Step};
+use dwarf_value::Value::{self, Generic};
 use std::alloc::{AllocError, Allocator, Global};
 use std::process::Abort;
 
@@ -20,25 +22,56 @@ static TURN: &[u8] = &[0x31, 0x9c, 0x50, 0x93, 0x01, 0x98, 0x01, 0x00];
 
 const TURNS: u64 = 60;
 
+// A call of this text.
+const AGAIN: &[u8] = &[0x98, 0x01, 0x00];
+
 // The lists of the values, the callers, the pieces and the answers.
 const LISTS: usize = 4;
 
-// How often each is pushed to.
-const PUSHES: [u64; LISTS] = [2 * TURNS, TURNS, TURNS + 1, 2 * TURNS + 2];
+// Forty ones, and their sum.
+const SUM: &[u8] = &[
+    0x31, 0x31, 0x31, 0x31, 0x31, 0x31, 0x31, 0x31, 0x31, 0x31, 0x31, 0x31, 0x31, 0x31, 0x31, 0x31,
+    0x31, 0x31, 0x31, 0x31, 0x31, 0x31, 0x31, 0x31, 0x31, 0x31, 0x31, 0x31, 0x31, 0x31, 0x31, 0x31,
+    0x31, 0x31, 0x31, 0x31, 0x31, 0x31, 0x31, 0x31, 0x22, 0x22, 0x22, 0x22, 0x22, 0x22, 0x22, 0x22,
+    0x22, 0x22, 0x22, 0x22, 0x22, 0x22, 0x22, 0x22, 0x22, 0x22, 0x22, 0x22, 0x22, 0x22, 0x22, 0x22,
+    0x22, 0x22, 0x22, 0x22, 0x22, 0x22, 0x22, 0x22, 0x22, 0x22, 0x22, 0x22, 0x22, 0x22, 0x22,
+];
 
-// The steps, and what they answer with ample memory. Then `evaluate` gives `Complete` once more, and no answer is
-// allowed.
+// Twenty pieces, each in a register.
+const REGISTERS: &[u8] = &[
+    0x50, 0x93, 0x01, 0x50, 0x93, 0x01, 0x50, 0x93, 0x01, 0x50, 0x93, 0x01, 0x50, 0x93, 0x01, 0x50,
+    0x93, 0x01, 0x50, 0x93, 0x01, 0x50, 0x93, 0x01, 0x50, 0x93, 0x01, 0x50, 0x93, 0x01, 0x50, 0x93,
+    0x01, 0x50, 0x93, 0x01, 0x50, 0x93, 0x01, 0x50, 0x93, 0x01, 0x50, 0x93, 0x01, 0x50, 0x93, 0x01,
+    0x50, 0x93, 0x01, 0x50, 0x93, 0x01, 0x50, 0x93, 0x01, 0x50, 0x93, 0x01,
+];
+
+// A text, the steps, what they answer with ample memory, and the value. Then `evaluate` gives `Complete` twice more, and
+// no answer is allowed. Each list is pushed to so often.
 #[derive(Drop)]
 struct Case {
+    text: &'static [u8],
     steps: Vec<Step<Bytes<'static>>>,
     replies: Vec<Answer<Bytes<'static>>>,
+    value: Option<Value>,
+    pushes: [u64; LISTS],
+}
+
+// The expression at offset 1 is wanted.
+const WANTS_CALLEE: Answer<Bytes<'static>> = Answer(Ok(EvaluationResult::RequiresAtLocation(
+    DieReference::UnitRef(UnitOffset(1)),
+)));
+
+// Adds all that may be called after a fault.
+fn push_later(steps: &mut Vec<Step<Bytes<'static>>>) -> Result<(), AllocError> {
+    for step in LATER {
+        steps.push(read(*step))?;
+    }
+    Ok(())
 }
 
 // The frame's address has more bits than count, in turns.
 fn nested_turns(alloc: Global) -> Result<Case, AllocError> {
     let cfa = Answer(Ok(EvaluationResult::RequiresCallFrameCfa));
-    let unit = DieReference::UnitRef(UnitOffset(1));
-    let call = Answer(Ok(EvaluationResult::RequiresAtLocation(unit)));
     let mut steps = Vec::new(alloc);
     let mut replies = Vec::new(alloc);
     steps.push(Step::Evaluate)?;
@@ -46,11 +79,68 @@ fn nested_turns(alloc: Global) -> Result<Case, AllocError> {
         let address = if turn % 2 == 0 { 0x10 } else { 0x1_0000_0010 };
         let next: &'static [u8] = if turn < TURNS { TURN } else { &[0x93, 0x01] };
         steps.extend_from_slice(&[Step::CallFrameCfa(address), Step::AtLocation(little(next))])?;
-        replies.extend_from_slice(&[cfa, call])?;
+        replies.extend_from_slice(&[cfa, WANTS_CALLEE])?;
     }
-    steps.extend_from_slice(&[Step::Evaluate, Step::FrameBase(0)])?;
-    replies.extend_from_slice(&[COMPLETE, COMPLETE])?;
-    Ok(Case { steps, replies })
+    push_later(&mut steps)?;
+    replies.extend_from_slice(&[COMPLETE; 3])?;
+    Ok(Case {
+        text: TURN,
+        steps,
+        replies,
+        value: None,
+        pushes: [2 * TURNS, TURNS, TURNS + 1, 2 * TURNS + 3],
+    })
+}
+
+// The text, these callees one after another, the value, and how often each list is pushed to.
+type Calls = (
+    &'static [u8],
+    &'static [&'static [u8]],
+    Option<Value>,
+    [u64; LISTS],
+);
+
+static CALLS: [Calls; 4] = [
+    (&[0x31], &[], Some(Generic(1)), [1, 0, 1, 3]),
+    (SUM, &[], Some(Generic(40)), [79, 0, 1, 3]),
+    (REGISTERS, &[], None, [0, 0, 20, 3]),
+    (
+        AGAIN,
+        &[
+            AGAIN,
+            AGAIN,
+            AGAIN,
+            AGAIN,
+            AGAIN,
+            AGAIN,
+            AGAIN,
+            AGAIN,
+            AGAIN,
+            &[0x31],
+        ],
+        Some(Generic(1)),
+        [1, 10, 1, 13],
+    ),
+];
+
+fn calls(alloc: Global, row: Calls) -> Result<Case, AllocError> {
+    let (text, callees, value, pushes) = row;
+    let mut steps = Vec::new(alloc);
+    let mut replies = Vec::new(alloc);
+    steps.push(Step::Evaluate)?;
+    for callee in callees {
+        steps.push(Step::AtLocation(little(*callee)))?;
+        replies.push(WANTS_CALLEE)?;
+    }
+    push_later(&mut steps)?;
+    replies.extend_from_slice(&[COMPLETE; 3])?;
+    Ok(Case {
+        text,
+        steps,
+        replies,
+        value,
+        pushes,
+    })
 }
 
 // The answers of a replay where one push or growth may be refused. They are those of ample memory up to it. The call
@@ -101,6 +191,22 @@ fn evaluation<'a>(
     )
 }
 
+// The evaluation is complete, with the value and as many pieces as the case has, or has met a refusal.
+fn expect_end<R: Reader + Copy, S: EvaluationStorage<R>>(
+    rt: &impl Abort,
+    eval: &Evaluation<R, S>,
+    case: &Case,
+    is_refused: bool,
+) {
+    let status = eval.status();
+    if matches!(status, Status::Complete) {
+        assert!(rt; eval.value_result() == case.value);
+        assert!(rt; eval.as_result().len() as u64 == case.pushes[2]);
+    } else {
+        assert!(rt; is_refused && status == Status::Failed(Error::StackFull));
+    }
+}
+
 // Replays the case over lists, of which this one refuses the push that so many others come before, if there is such a
 // push.
 fn expect_push(rt: &impl Abort, alloc: Global, case: &Case, list: usize, before: u64)
@@ -108,27 +214,39 @@ fn expect_push(rt: &impl Abort, alloc: Global, case: &Case, list: usize, before:
 {
     let mut befores = [NEVER; LISTS];
     befores[list] = before;
-    let mut eval = evaluation(alloc, TURN, SMALL, befores);
+    let mut eval = evaluation(alloc, case.text, SMALL, befores);
     let mut answers = RefusesOne::new(alloc, befores[3]);
     let end = replayed(&mut eval, &case.steps, &mut answers);
     expect_answers(rt, case, answers.as_slice(), end);
-    assert!(rt;
-        match end {
-            Replayed::Misplaced(_) => before == PUSHES[list],
-            Replayed::NoRoom { index, .. } => list == 3 && index as u64 == before,
-            Replayed::Done => list < 3 && before < PUSHES[list],
+    let pushes = case.pushes[list];
+    match end {
+        Replayed::Misplaced(_) => {
+            assert!(rt; before == pushes);
+            expect_end(rt, &eval, case, false);
         }
-    );
+        Replayed::NoRoom { index, .. } => assert!(rt; list == 3 && index as u64 == before),
+        Replayed::Done => {
+            assert!(rt; list < 3 && before < pushes);
+            expect_end(rt, &eval, case, true);
+        }
+    }
+}
+
+// Each push to each list is refused in turn.
+fn expect_pushes(rt: &impl Abort, alloc: Global, case: &Case) {
+    for list in 0..LISTS {
+        for before in 0..=case.pushes[list] {
+            expect_push(rt, alloc, case, list, before);
+        }
+    }
 }
 
 #[test]
 fn refused_pushes(rt: HostRuntime) -> Result<(), AllocError> {
     let alloc = rt.alloc();
-    let case = nested_turns(alloc)?;
-    for list in 0..LISTS {
-        for before in 0..=PUSHES[list] {
-            expect_push(&rt, alloc, &case, list, before);
-        }
+    expect_pushes(&rt, alloc, &nested_turns(alloc)?);
+    for row in &CALLS {
+        expect_pushes(&rt, alloc, &calls(alloc, *row)?);
     }
     Ok(())
 }
@@ -141,23 +259,29 @@ fn expect_growth<A: Allocator + Copy, B: Allocator>(
     case: &Case,
 ) -> Replayed<Bytes<'static>> {
     let mut answers = Vec::new(memory);
-    let end = replayed_on_heap(lists, little(TURN), &case.steps, &mut answers);
+    let end = replayed_on_heap(lists, little(case.text), &case.steps, &mut answers);
     expect_answers(rt, case, answers.as_slice(), end);
     end
 }
 
 // Each growth of the lists on the heap is refused in turn, and each of the answers. None comes after it.
+fn expect_growths(rt: &impl Abort, alloc: Global, case: &Case) {
+    for before in 0..40 {
+        let lists = RefusesGrowth::new(alloc, before);
+        let end = expect_growth(rt, &lists, alloc, case);
+        assert!(rt; lists.has_refused_last() == matches!(end, Replayed::Done));
+        let memory = RefusesGrowth::new(alloc, before);
+        let end = expect_growth(rt, alloc, &memory, case);
+        assert!(rt; memory.has_refused_last() == matches!(end, Replayed::NoRoom { .. }));
+    }
+}
+
 #[test]
 fn refused_growths(rt: HostRuntime) -> Result<(), AllocError> {
     let alloc = rt.alloc();
-    let case = nested_turns(alloc)?;
-    for before in 0..40 {
-        let lists = RefusesGrowth::new(alloc, before);
-        let end = expect_growth(&rt, &lists, alloc, &case);
-        assert!(rt; lists.has_refused_last() == matches!(end, Replayed::Done));
-        let memory = RefusesGrowth::new(alloc, before);
-        let end = expect_growth(&rt, alloc, &memory, &case);
-        assert!(rt; memory.has_refused_last() == matches!(end, Replayed::NoRoom { .. }));
+    expect_growths(&rt, alloc, &nested_turns(alloc)?);
+    for row in &CALLS {
+        expect_growths(&rt, alloc, &calls(alloc, *row)?);
     }
     Ok(())
 }

@@ -1,8 +1,9 @@
 //! Tests of calls on values, but for those that the archive exports: tests/c/values.c has these.
 
-use dwarf_base::DwAte;
+use crate::evaluation::little;
 use dwarf_base::constants::{DW_ATE_float, DW_ATE_signed, DW_ATE_unsigned};
-use dwarf_value::Value::{Generic, I8};
+use dwarf_base::{DwAte, Error};
+use dwarf_value::Value::{Generic, I8, I16};
 use dwarf_value::{Value, ValueType, equality_laws, is_addr_mask, value_laws};
 
 // The mask of an address of 4 bytes.
@@ -23,6 +24,16 @@ fn numbers(rt: HostRuntime) {
     assert!(rt; Generic(1).shra(Generic(1), 1) == Ok(Generic(u64::MAX)));
     value_laws();
     equality_laws();
+}
+
+#[test]
+fn parsed(rt: HostRuntime) {
+    let bytes = little(&[0xff, 0x7f, 0x9f]);
+    assert!(rt; Value::parse(ValueType::I16, bytes) == Ok(I16(32767)));
+    let short = Value::parse(ValueType::U32, little(&[0x01, 0x02]));
+    assert!(rt; matches!(short, Err(Error::UnexpectedEof(_))));
+    let generic = Value::parse(ValueType::Generic, little(&[]));
+    assert!(rt; generic == Err(Error::UnsupportedTypeOperation));
 }
 
 // An encoding, a size in bytes, the type that they make, and its size in bits.

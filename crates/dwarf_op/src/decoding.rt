@@ -4,7 +4,7 @@ ghost use Rattle.std.specs.Prelude.{◌≡◌, ◌<◌, length, OnOk};
 ghost use Rattle.dwarf_base.specs.Reads.{Reads};
 ghost use Rattle.dwarf_meaning.specs.Decoding.{operation_at};
 ghost use Rattle.dwarf_meaning.specs.Opcodes.{row_of};
-ghost use Rattle.dwarf_op.specs.inner.Entries.{block_operation, operand_of, operands_in, operation_by, row_of_block, row_of_one, row_of_two};
+ghost use Rattle.dwarf_op.specs.inner.Entries.{operand_of, operands_in, operation_by, row_of_block, row_of_one, row_of_two};
 ghost use Rattle.dwarf_op.specs.Views.{operation_of};
 
 use crate::operands::Shape::{

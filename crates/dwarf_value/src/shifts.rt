@@ -1,6 +1,6 @@
 //! Shifts of values.
 
-ghost use Rattle.std.specs.Prelude.{◌≡◌, ◌≤◌, ◌^◌, ◌*◌, ◌%◌, pos, neg_ℤ, ◌≤ℤ◌, ◌<ℤ◌, nat_le, if◌then◌else◌, MatchResult};
+ghost use Rattle.std.specs.Prelude.{◌≡◌, ◌^◌, pos, neg_ℤ, ◌≤ℤ◌, ◌<ℤ◌, MatchResult};
 ghost use Rattle.dwarf_value.specs.inner.OperandPairs.{IsLength, UnfitLength};
 ghost use Rattle.dwarf_value.specs.Values.{IsAddressMask, width_of, floor_quotient, binary_of, Shl, Shr, Shra};
 

@@ -38,11 +38,53 @@ pub(crate) fn kind_of<R: Reader + Copy>(replied: &EvaluationResult<R>) -> Option
     })
 }
 
-/// A copy of a request. In line it takes 0.15 more of gimli's time for libc and libm in Rust.
-#[inline(never)]
+/// A copy of a request. Of those that most expressions make, the fields are copied one by one: for libc and libm a copy
+/// of the whole takes 0.19 of gimli's time more from C.
+#[inline(always)]
 fn copy_of_request<R: Reader + Copy>(request: &EvaluationResult<R>) -> EvaluationResult<R>
     ensures { result ≡ request.now }
 {
+    if let EvaluationResult::RequiresRegister {
+        register,
+        base_type,
+    } = request
+    {
+        return EvaluationResult::RequiresRegister {
+            register: *register,
+            base_type: *base_type,
+        };
+    }
+    if let EvaluationResult::RequiresFrameBase = request {
+        return EvaluationResult::RequiresFrameBase;
+    }
+    if let EvaluationResult::RequiresEntryValue(expression) = request {
+        return EvaluationResult::RequiresEntryValue(copy_of(expression));
+    }
+    copy_of_rare_request(request)
+}
+
+/// A copy of a request that few expressions make.
+#[inline(always)]
+fn copy_of_rare_request<R: Reader + Copy>(request: &EvaluationResult<R>) -> EvaluationResult<R>
+    ensures { result ≡ request.now }
+{
+    if let EvaluationResult::RequiresMemory {
+        address,
+        size,
+        space: None,
+        base_type,
+    } = request
+    {
+        return EvaluationResult::RequiresMemory {
+            address: *address,
+            size: *size,
+            space: None,
+            base_type: *base_type,
+        };
+    }
+    if let EvaluationResult::RequiresCallFrameCfa = request {
+        return EvaluationResult::RequiresCallFrameCfa;
+    }
     copy_of(request)
 }
 

@@ -4,7 +4,7 @@ ghost use Rattle.std.specs.Prelude.{◌≡◌, ◌<◌, length, OnOk};
 ghost use Rattle.dwarf_base.specs.Reads.{Reads};
 ghost use Rattle.dwarf_meaning.specs.Decoding.{operation_at};
 ghost use Rattle.dwarf_meaning.specs.Opcodes.{row_of};
-ghost use Rattle.dwarf_op.specs.inner.Entries.{operand_of, operands_in, operation_by, row_of_block, row_of_one, row_of_two};
+ghost use Rattle.dwarf_op.specs.inner.Entries.{FollowsOn, operand_of, operands_in, operation_by, row_of_block, row_of_one, row_of_second};
 ghost use Rattle.dwarf_op.specs.Views.{operation_of};
 
 use crate::operands::Shape::{
@@ -55,7 +55,9 @@ impl<R: Reader + Copy> Operation<R> {
 /// The table of opcodes (DWARF 5, section 7.7.1): the operation of each, or the shapes of its operands, in order, and
 /// what is made of them.
 ///
-/// Each row is a constant where it is read, so that the compiler knows its shapes.
+/// Each row is a constant where it is read, so that the compiler knows its shapes. A row of two operands hands in what
+/// the read of the first gave: the kit keeps a function in line if it reads one operand, and not if it reads two, which
+/// is worth 0.1 of gimli's time to decode libc and libm.
 #[tactic(auto, unfolding(dwarf_meaning::specs::Opcodes::row_of))]
 #[inline(always)]
 fn read_row<R: Reader + Copy>(opcode: u8, bytes: &mut R, encoding: Encoding) -> Result<Operation<R>>
@@ -128,8 +130,8 @@ fn read_row<R: Reader + Copy>(opcode: u8, bytes: &mut R, encoding: Encoding) -> 
         ),
         DW_OP_regx => one(RegisterNumber, Maker::Register, bytes, encoding),
         DW_OP_fbreg => one(Sleb128, Maker::FrameOffset, bytes, encoding),
-        DW_OP_bregx => two(
-            RegisterNumber,
+        DW_OP_bregx => second(
+            read_operand(RegisterNumber, Operand::none(), bytes, encoding),
             Sleb128,
             Maker::RegisterOffset,
             bytes,
@@ -145,11 +147,23 @@ fn read_row<R: Reader + Copy>(opcode: u8, bytes: &mut R, encoding: Encoding) -> 
         DW_OP_call_ref => one(SectionOffset, Maker::InfoCall, bytes, encoding),
         DW_OP_form_tls_address | DW_OP_GNU_push_tls_address => Ok(Operation::TLS),
         DW_OP_call_frame_cfa => Ok(Operation::CallFrameCFA),
-        DW_OP_bit_piece => two(Uleb128, Uleb128, Maker::BitPiece, bytes, encoding),
-        DW_OP_implicit_value => block(Absent, Offset, BlockMaker::ImplicitValue, bytes, encoding),
+        DW_OP_bit_piece => second(
+            read_operand(Uleb128, Operand::none(), bytes, encoding),
+            Uleb128,
+            Maker::BitPiece,
+            bytes,
+            encoding,
+        ),
+        DW_OP_implicit_value => block(
+            read_operand(Absent, Operand::none(), bytes, encoding),
+            Offset,
+            BlockMaker::ImplicitValue,
+            bytes,
+            encoding,
+        ),
         DW_OP_stack_value => Ok(Operation::StackValue),
-        DW_OP_implicit_pointer | DW_OP_GNU_implicit_pointer => two(
-            Reference,
+        DW_OP_implicit_pointer | DW_OP_GNU_implicit_pointer => second(
+            read_operand(Reference, Operand::none(), bytes, encoding),
             Sleb128,
             Maker::ImplicitPointer,
             bytes,
@@ -158,34 +172,40 @@ fn read_row<R: Reader + Copy>(opcode: u8, bytes: &mut R, encoding: Encoding) -> 
         DW_OP_addrx | DW_OP_GNU_addr_index => one(Offset, Maker::AddressIndex, bytes, encoding),
         DW_OP_constx | DW_OP_GNU_const_index => one(Offset, Maker::ConstantIndex, bytes, encoding),
         DW_OP_entry_value | DW_OP_GNU_entry_value => block(
-            Absent,
+            read_operand(Absent, Operand::none(), bytes, encoding),
             Offset,
             BlockMaker::EntryValue,
             bytes,
             encoding,
         ),
         DW_OP_const_type | DW_OP_GNU_const_type => block(
-            Offset,
+            read_operand(Offset, Operand::none(), bytes, encoding),
             U8,
             BlockMaker::TypedLiteral,
             bytes,
             encoding,
         ),
-        DW_OP_regval_type | DW_OP_GNU_regval_type => two(
-            RegisterNumber,
+        DW_OP_regval_type | DW_OP_GNU_regval_type => second(
+            read_operand(RegisterNumber, Operand::none(), bytes, encoding),
             Offset,
             Maker::TypedRegister,
             bytes,
             encoding,
         ),
-        DW_OP_deref_type | DW_OP_GNU_deref_type => two(
-            U8,
+        DW_OP_deref_type | DW_OP_GNU_deref_type => second(
+            read_operand(U8, Operand::none(), bytes, encoding),
             Offset,
             Maker::Deref { space: false },
             bytes,
             encoding,
         ),
-        DW_OP_xderef_type => two(U8, Offset, Maker::Deref { space: true }, bytes, encoding),
+        DW_OP_xderef_type => second(
+            read_operand(U8, Operand::none(), bytes, encoding),
+            Offset,
+            Maker::Deref { space: true },
+            bytes,
+            encoding,
+        ),
         DW_OP_convert | DW_OP_GNU_convert => one(Offset, Maker::Convert, bytes, encoding),
         DW_OP_reinterpret | DW_OP_GNU_reinterpret => one(
             Offset,
@@ -193,7 +213,13 @@ fn read_row<R: Reader + Copy>(opcode: u8, bytes: &mut R, encoding: Encoding) -> 
             bytes,
             encoding,
         ),
-        DW_OP_WASM_location => two(U8, WasmIndex, Maker::Wasm, bytes, encoding),
+        DW_OP_WASM_location => second(
+            read_operand(U8, Operand::none(), bytes, encoding),
+            WasmIndex,
+            Maker::Wasm,
+            bytes,
+            encoding,
+        ),
         DW_OP_GNU_uninit => Ok(Operation::Uninitialized),
         DW_OP_GNU_parameter_ref => one(U32, Maker::ParameterRef, bytes, encoding),
         DW_OP_GNU_variable_value => one(SectionOffset, Maker::VariableValue, bytes, encoding),
@@ -201,64 +227,62 @@ fn read_row<R: Reader + Copy>(opcode: u8, bytes: &mut R, encoding: Encoding) -> 
     }
 }
 
-/// Reads one operand, of which the operation is made.
+/// Reads the only operand, of which the operation is made.
 #[tactic(auto, using(dwarf_base::proofs::Suffixes::suffix_trans))]
 #[inline(always)]
 fn one<R: Reader + Copy>(
-    first: Shape,
+    shape: Shape,
     maker: Maker,
     bytes: &mut R,
     encoding: Encoding,
 ) -> Result<Operation<R>>
     ensures { Reads (operation_of R.text R.Offset.number)
         (R.text bytes.old) (R.text bytes.new) result
-        (operands_in R.Offset.BITS (R.text bytes.old) (row_of_one encoding first maker)) }
+        (operands_in R.Offset.BITS (R.text bytes.old) (row_of_one encoding shape maker)) }
 {
-    let first = read_operand(first, Operand::none(), bytes, encoding)?;
-    Ok(make(maker, first, Operand::none()))
+    let operand = read_operand(shape, Operand::none(), bytes, encoding)?;
+    Ok(make(maker, operand, Operand::none()))
 }
 
-/// Reads two operands, of which the operation is made.
+/// Reads the second operand, after the first was read. The operation is made of both.
 #[tactic(auto, using(dwarf_base::proofs::Suffixes::suffix_trans))]
 #[inline(always)]
-fn two<R: Reader + Copy>(
-    first: Shape,
-    second: Shape,
+fn second<R: Reader + Copy>(
+    first: Result<Operand<R::Offset>>,
+    shape: Shape,
     maker: Maker,
     bytes: &mut R,
     encoding: Encoding,
 ) -> Result<Operation<R>>
-    ensures { Reads (operation_of R.text R.Offset.number)
-        (R.text bytes.old) (R.text bytes.new) result
-        (operands_in R.Offset.BITS (R.text bytes.old) (row_of_two encoding first second maker)) }
+    ensures { FollowsOn R.Offset.BITS (operand_of R.Offset.number) (operation_of R.text R.Offset.number)
+        (R.text bytes.old) (R.text bytes.new) first result (row_of_second encoding shape maker) }
 {
-    let first = read_operand(first, Operand::none(), bytes, encoding)?;
-    let second = read_operand(second, first, bytes, encoding)?;
+    let first = first?;
+    let second = read_operand(shape, first, bytes, encoding)?;
     Ok(make(maker, first, second))
 }
 
-/// Reads an operand or none, the size of a block, and its bytes, of which the operation is made.
+/// Reads the size of a block and its bytes, after the operand before them was read, if there is one.
 #[tactic(auto, using(dwarf_base::proofs::Suffixes::suffix_trans))]
 #[inline(always)]
 fn block<R: Reader + Copy>(
-    first: Shape,
+    before: Result<Operand<R::Offset>>,
     size: Shape,
     maker: BlockMaker,
     bytes: &mut R,
     encoding: Encoding,
 ) -> Result<Operation<R>>
-    ensures { Reads (operation_of R.text R.Offset.number)
-        (R.text bytes.old) (R.text bytes.new) result
-        (operands_in R.Offset.BITS (R.text bytes.old) (row_of_block encoding first size maker)) }
+    ensures { FollowsOn R.Offset.BITS (operand_of R.Offset.number) (operation_of R.text R.Offset.number)
+        (R.text bytes.old) (R.text bytes.new) before result (row_of_block encoding size maker) }
 {
-    let first = read_operand(first, Operand::none(), bytes, encoding)?;
-    let size = read_operand(size, first, bytes, encoding)?;
+    let before = before?;
+    let size = read_operand(size, before, bytes, encoding)?;
     let block = bytes.split(size.offset)?;
     Ok(match maker {
         BlockMaker::ImplicitValue => Operation::ImplicitValue { bytes: block },
         BlockMaker::EntryValue => Operation::EntryValue { expression: block },
         BlockMaker::TypedLiteral => Operation::TypedLiteral {
-            base_type: UnitOffset(first.offset),
+            base_type: UnitOffset(before.offset),
             value: block,
         },
     })

@@ -3,7 +3,7 @@ use Rattle.std.specs.Prelude.{ℕ, ◌≡◌, ◌*◌, pos, List, [], ◌∷◌,
 use Rattle.dwarf_base.specs.declared.errors.Error.{Error}
 use Rattle.dwarf_base.specs.Faults.{Fault, fault_of}
 use Rattle.dwarf_base.specs.declared.common.Encoding.{Encoding}
-use Rattle.dwarf_base.specs.Reads.{offset_size, IsSuffix, Text}
+use Rattle.dwarf_base.specs.Reads.{offset_size, IsSuffix, Reads, Text}
 use Rattle.dwarf_meaning.specs.Operations as meaning
 use Rattle.dwarf_meaning.specs.Decoding.{operands_at}
 use Rattle.dwarf_meaning.specs.Operands.{Bytes, Leb128, Any, Offset, Register, PieceSize, U32, ref_size}
@@ -145,20 +145,27 @@ block_operation block_maker.TypedLiteral first block = meaning.TypedLiteral firs
 
 -- one operand
 abbrev pub row_of_one : Encoding → Shape → Maker → Row
-row_of_one encoding first make =
-    shape_row encoding first no_operand (λ a. Makes (operation_by make a no_operand))
+row_of_one encoding shape make =
+    shape_row encoding shape no_operand (λ a. Makes (operation_by make a no_operand))
 
--- two operands
-abbrev pub row_of_two : Encoding → (first second : Shape) → Maker → Row
-row_of_two encoding first second make =
-    shape_row encoding first no_operand (λ a. shape_row encoding second a (λ b. Makes (operation_by make a b)))
+-- what follows a first operand: the second
+abbrev pub row_of_second : Encoding → Shape → Maker → (first : Operand ℕ) → Row
+row_of_second encoding shape make first =
+    shape_row encoding shape first (λ b. Makes (operation_by make first b))
 
--- an operand or none, the size of a block, and the block
-abbrev pub row_of_block : Encoding → (first size : Shape) → BlockMaker → Row
-row_of_block encoding first size make =
-    shape_row encoding first no_operand (λ a. shape_row encoding size a
-    (λ b. Block b.offset (λ block. Makes (block_operation make a block))))
+-- what follows an operand, or none: the size of a block and the block
+abbrev pub row_of_block : Encoding → (size : Shape) → BlockMaker → (before : Operand ℕ) → Row
+row_of_block encoding size make before =
+    shape_row encoding size before
+    (λ b. Block b.offset (λ block. Makes (block_operation make before block)))
 
 -- a row's operands at the front of a text
 abbrev pub operands_in : (offset_bits : ℕ) → Text → Row → Result (meaning.Operation × List ℕ) Fault
 operands_in offset_bits text row = operands_at offset_bits text.is_big row text.bytes
+
+-- a read that follows the read of an operand: from the text before that, both read its row and what follows it
+abbrev pub FollowsOn : {X Z : Type 0} → (offset_bits : ℕ) → (X → Operand ℕ) → (Z → meaning.Operation) → (mid new : Text)
+    → (first : Result X Error) → Result Z Error → (next : Operand ℕ → Row) → Type 0
+FollowsOn offset_bits operand operation mid new first result next =
+    (text : Text) (row : (Operand ℕ → Row) → Row) → GoesOn offset_bits operand text mid first row
+    → Reads operation text new result (operands_in offset_bits text (row next))

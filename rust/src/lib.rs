@@ -33,6 +33,8 @@
 
 #[cfg(feature = "alloc")]
 extern crate alloc;
+// By this name the sources know what Rust has without an operating system.
+extern crate core as std;
 
 // The module `sources`, which the build script writes. Each line has the number that it has in the proved source.
 include!(concat!(env!("OUT_DIR"), "/lib.rs"));
@@ -42,6 +44,7 @@ include!(concat!(env!("OUT_DIR"), "/lib.rs"));
 #[allow(unused_macros)]
 mod lists;
 
+mod casts;
 #[cfg(feature = "gimli")]
 mod conversions;
 mod errors;

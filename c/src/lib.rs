@@ -24,7 +24,7 @@ mod casts;
 mod exports;
 mod lists;
 
-pub use lists::ArrayVec;
+use lists::ArrayVec;
 
 // Functions of rustc's own library name one that runs while a panic unwinds. No panic does.
 #[cfg(not(any(windows, target_vendor = "apple")))]

@@ -1,13 +1,13 @@
 //! The list of a fixed capacity that the sources take from the crate `arrayvec`.
 
 /// Items in an array. Those after the first `len` are left over.
-pub struct ArrayVec<T, const CAP: usize> {
+pub(crate) struct ArrayVec<T, const CAP: usize> {
     slots: [T; CAP],
     len: usize,
 }
 
 /// An item that a full list doesn't take.
-pub struct CapacityError<T>(T);
+pub(crate) struct CapacityError<T>(T);
 
 impl<T> CapacityError<T> {
     pub fn element(self) -> T {

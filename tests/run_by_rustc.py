@@ -1,5 +1,5 @@
 #!/usr/bin/env python3
-"""Makes the library for C by rustc, of the package that `bin/crate --c` writes, and tests it.
+"""Makes the library for C by rustc, of the package c/, and tests it.
 
 - Cargo builds it without a warning and without another crate. The static library's global symbols and the shared one's
   are the calls of dwexpr.h alone, tests/by_rustc/needs has what they need, and the shared one has its soname.
@@ -11,8 +11,8 @@
 - For s390x, i686 and armv7 the callers, by Debian's cross compilers or `gcc -m32`, and under qemu-user, but for i686 on
   x86-64, if rustc has its own library for the target. The variable RUSTC may name another rustc, as a newer Debian's.
 
-A wrong body changes a line of the exports, or of what a row wrote. tests/by_rustc/wrong-bodies has them: a name, a file
-under src, a text that stands in it once, and another. With --wrong-bodies it builds each: a caller or the comparison
+A wrong body changes a line of the exports, of a row or of a source. tests/by_rustc/wrong-bodies has them: a name, a
+file, a text that stands in it once, and another. With --wrong-bodies it builds each: a caller or the comparison
 has to fail. What is missing is left out, and said so. The last line is `N passed, M failed`.
 """
 
@@ -83,7 +83,7 @@ def beside(static, folder):
     return None
 
 
-def elsewhere(package, target, folder):
+def elsewhere(target, folder):
     """The callers for another target, under an emulator."""
     cc, runner = by_rustc.compiler_of(target), [TARGETS[target]]
     # It runs these itself; and in qemu-i386 7.2 a signal handler can't have a stack of its own.
@@ -102,12 +102,13 @@ def elsewhere(package, target, folder):
     return None
 
 
-def seen(package, folder, given):
-    """What sees a wrong body in a package: a caller, or the comparison; "" if nothing does."""
+def seen(top, folder, given):
+    """What sees a wrong body in a copy of the packages: a caller, or the comparison; "" if nothing does."""
     # Quicker to build than what a user gets.
     words = ["--edition=2024", "--crate-name=dwexpr", "--crate-type=staticlib", "-Copt-level=1", "-Cpanic=abort"]
     static = folder / "libdwexpr.a"
-    done = commands.done("rustc", *words, "-Cdebug-assertions=on", package / "src/lib.rs", "-o", static)
+    words += ["-Cdebug-assertions=on", top / "c/src/lib.rs", "-o", static]
+    done = commands.done("rustc", *words, env=checks.strip("c", top, folder))
     if "assertion failed: size_of" in done.stderr:
         return "rustc, at a claim about sizes"
     if done.returncode:
@@ -138,7 +139,8 @@ def main():
         package = TOP / "c"
         if wants_wrong_bodies:
             sees = functools.partial(seen, given={"decode": run_c.vectors()})
-            return checks.try_wrong_bodies(FOLDER / "wrong-bodies", package, "src", sees)
+            checks.copy_packages(folder)
+            return checks.try_wrong_bodies(FOLDER / "wrong-bodies", folder, ".", sees)
         done = check("cargo tree", ["cargo", "tree", "--offline"], cwd=package)
         expect(done and len(done.stdout.splitlines()) == 1, "it takes no other crate")
         check("cargo fmt --check", ["cargo", "fmt", "--check"], cwd=package)
@@ -149,7 +151,7 @@ def main():
         beside(static, folder)
         prints("examples/evaluate.py", [sys.executable, TOP / "examples/evaluate.py", shared], PRINTED)
         for target in TARGETS:
-            elsewhere(package, target, folder / target)
+            elsewhere(target, folder / target)
     return None
 
 

@@ -17,10 +17,13 @@ impl Json {
         value(&mut text.chars().peekable())
     }
 
+    pub fn members(&self) -> &[(String, Json)] {
+        if let Json::Object(members) = self { members } else { panic!("{self:?} is no object") }
+    }
+
     /// A member of an object.
     pub fn get(&self, name: &str) -> Option<&Json> {
-        let Json::Object(members) = self else { panic!("{self:?} is no object") };
-        members.iter().find(|it| it.0 == name).map(|it| &it.1)
+        self.members().iter().find(|it| it.0 == name).map(|it| &it.1)
     }
 
     pub fn items(&self) -> &[Json] {

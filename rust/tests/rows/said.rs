@@ -25,10 +25,10 @@ const MAXIMUM: u32 = 1_000_000;
 
 pub fn bytes_in(digits: &str) -> Vec<u8> {
     let pairs = digits.trim_matches('-').as_bytes().chunks(2);
-    pairs.map(|pair| u8::from_str_radix(str::from_utf8(pair).unwrap(), 16).unwrap()).collect()
+    pairs.map(|pair| u8::from_str_radix(std::str::from_utf8(pair).unwrap(), 16).unwrap()).collect()
 }
 
-fn digits_of(bytes: &[u8]) -> String {
+pub fn digits_of(bytes: &[u8]) -> String {
     if bytes.is_empty() { "-".into() } else { bytes.iter().map(|byte| format!("{byte:02x}")).collect() }
 }
 
@@ -39,16 +39,16 @@ fn number_in(word: &str) -> u64 {
     }
 }
 
-fn type_in(word: &str) -> ValueType {
+pub fn type_in(word: &str) -> ValueType {
     TYPES.iter().find(|it| it.0 == word).expect("a type").1
 }
 
-fn value_in(word: &str) -> Value {
+pub fn value_in(word: &str) -> Value {
     let (value_type, number) = word.split_once(':').expect("a value has a type");
     Value::from_u64(type_in(value_type), number_in(number)).unwrap()
 }
 
-fn value_word(value: Value) -> String {
+pub fn value_word(value: Value) -> String {
     let name = TYPES.iter().find(|it| it.1 == value.value_type()).expect("a type").0;
     let number = value.to_u64(u64::MAX).unwrap();
     match name {
@@ -69,7 +69,7 @@ fn name_of(shown: &impl Debug) -> String {
     format!("{shown:?}").split(|it: char| !it.is_alphanumeric()).next().unwrap().into()
 }
 
-fn fault(error: Error) -> String {
+pub fn fault(error: Error) -> String {
     let number = match error {
         Error::UnsupportedAddressSize(size) | Error::InvalidDerefSize(size) => Some(size.into()),
         Error::UnsupportedRegister(number) | Error::InvalidPieceSize(number) => Some(number),

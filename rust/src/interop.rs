@@ -14,12 +14,14 @@ use core::ops::Deref;
 /// last of them itself, for its caller to look at.
 ///
 /// ```
+/// # #[cfg(feature = "alloc")] {
 /// use dwexpr::{Evaluation, EvaluationResult, GimliReader};
 ///
 /// let encoding = gimli::Encoding { address_size: 8, format: gimli::Format::Dwarf32, version: 5 };
 /// let expression = gimli::Expression(gimli::EndianSlice::new(&[0x91, 0x70], gimli::LittleEndian));
 /// let mut evaluation = Evaluation::new(GimliReader(expression.0), encoding.into());
 /// assert_eq!(evaluation.evaluate(), Ok(EvaluationResult::RequiresFrameBase));
+/// # }
 /// ```
 #[derive(Clone, Copy, PartialEq, Eq, Hash)]
 pub struct GimliReader<R>(pub R);

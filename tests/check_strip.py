@@ -10,7 +10,6 @@ of them, which goes by tokens and refuses what it doesn't know.
 It wants rustc, and no Rattle kit. The last line is `N passed, M failed`.
 """
 
-import os
 import re
 import shutil
 import typing
@@ -204,9 +203,7 @@ def written_by(program, top, package, out):
     """What the script writes, each text by its place."""
     shutil.rmtree(out, ignore_errors=True)
     out.mkdir()
-    env = {**os.environ, "CARGO_MANIFEST_DIR": str(top / package.folder), "OUT_DIR": str(out)}
-    env |= {"CARGO_PKG_VERSION_MAJOR": "0", "CARGO_PKG_VERSION_MINOR": "0", "CARGO_CFG_TARGET_OS": ""}
-    done = commands.done(program, env=env)
+    done = commands.done(program, env=checks.script_environment(top / package.folder, out))
     if done.returncode:
         raise Failure(done.stderr)
     return {str(it.relative_to(out).with_suffix("")): it.read_text(encoding="utf-8") for it in out.rglob("*.rs")}
@@ -282,9 +279,7 @@ def said_of(edit, name, top, package, program, folder):
 def try_package(name, package, folder):
     top = folder / "top"
     (folder / "changed").mkdir(parents=True)
-    ignored = shutil.ignore_patterns("out", "specs", "proofs", "target", "Cargo.lock")
-    for it in ("crates", "rust", "c"):
-        shutil.copytree(TOP / it, top / it, ignore=ignored)
+    checks.copy_packages(top)
     program = built(top, package, folder)
     written = judge(name, top, package, written_by(program, top, package, folder / "out"))
     expect(len(written) > 40, "each source has its module")

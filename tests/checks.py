@@ -102,6 +102,7 @@ def check_headers(*names):
             check(what, [compiler, *words], input=text)
 
 
+# The build script of each package, and its folder.
 SCRIPTS = {"rust": ("rust/build/main.rs", "."), "c": ("c/build.rs", "c")}
 
 
@@ -112,12 +113,17 @@ def copy_packages(folder):
         shutil.copytree(commands.TOP / it, folder / it, ignore=ignored)
 
 
+def script_environment(package, out):
+    """The variables that Cargo sets for the build script of a package, and its code."""
+    env = {**os.environ, "CARGO_MANIFEST_DIR": str(package), "OUT_DIR": str(out)}
+    return env | {"CARGO_PKG_VERSION_MAJOR": "0", "CARGO_PKG_VERSION_MINOR": "0", "CARGO_CFG_TARGET_OS": ""}
+
+
 def strip(name, top, folder):
     """Runs the build script of a package without Cargo. The variables that its code is built with."""
     script, package = SCRIPTS[name]
     commands.run("rustc", "--edition=2024", top / script, "-o", folder / "script")
-    env = {**os.environ, "CARGO_MANIFEST_DIR": str(top / package), "OUT_DIR": str(folder / "stripped")}
-    env |= {"CARGO_PKG_VERSION_MAJOR": "0", "CARGO_PKG_VERSION_MINOR": "0", "CARGO_CFG_TARGET_OS": ""}
+    env = script_environment(top / package, folder / "stripped")
     commands.run(folder / "script", env=env)
     return env
 

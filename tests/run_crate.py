@@ -75,8 +75,6 @@ def try_workspace(folder):
 def try_without_allocator(folder):
     """A program that has no allocator links, and finds a variable: it ends with the low byte of its address."""
     shutil.copytree(PARTS / "alone", folder / "alone")
-    (folder / "alone/src").mkdir()
-    shutil.copy(TOP / "bench/small/arrays.rs", folder / "alone/src/main.rs")
     env = {**os.environ, "RUSTFLAGS": "-Clink-arg=-lc"}
     done = checks.run(["cargo", "run", "--quiet"], cwd=folder / "alone", env=env)
     expect(done.returncode == 0xF0, "a program without an allocator", done.stderr)

@@ -1,8 +1,32 @@
-//! Gives the shared library the name by which programs that are linked with it ask for it. While the first number of
-//! the version is 0, each second number may have other calls.
+//! Takes the contracts out of the proved sources of the archive for C; and gives the shared library the name by which
+//! programs that are linked with it ask for it. While the first number of the version is 0, each second number may have
+//! other calls.
+
+#[path = "../rust/build/contracts.rs"]
+mod contracts;
+#[path = "../rust/build/sources.rs"]
+mod sources;
+
+const CRATES: &[(&str, &str)] = &[
+    ("dwarf_base", "base"),
+    ("dwarf_value", "value"),
+    ("dwarf_meaning", "meaning"),
+    ("dwarf_op", "op"),
+    ("dwarf_eval", "eval"),
+    ("dwarf_replay", "replay"),
+    ("dwexpr_c", "c"),
+];
+// Their lists take an allocator, which C has none of.
+const LEFT_OUT: &[&str] = &["dwarf_eval/src/store/heap.rt", "dwarf_eval/src/eval/heap.rt"];
+// Much of what the crates below have is for Rust.
+const ALLOWED: &str = "#![allow(dead_code, unused_imports, unused_variables, non_upper_case_globals, clippy::all)]";
 
 fn main() {
-    println!("cargo::rerun-if-changed=build.rs");
+    let mut sources = sources::Sources::read("..", CRATES, LEFT_OUT);
+    sources.check_preconditions("c/preconditions", |path| path.starts_with("crates/dwexpr_c/"));
+    sources.apply("rust/build/rows/both");
+    sources.apply("rust/build/rows/c");
+    sources.write(ALLOWED, "use crate::casts::{IntoSigned as _, IntoUnsigned as _};");
     let set = |name: &str| std::env::var(name).expect("Cargo sets it");
     let version = format!("{}.{}", set("CARGO_PKG_VERSION_MAJOR"), set("CARGO_PKG_VERSION_MINOR"));
     match set("CARGO_CFG_TARGET_OS").as_str() {

@@ -3,7 +3,7 @@
 
 - Each command after a `$` prints the lines that follow it. `bin/test` is the gate itself, and isn't run.
 - Each program in C, a fence with a `main`, is built from a package by the command in front of it, in which DIR is the
-  package. It prints what the remarks after `printf` say. So does each program in Rust, with the crate of `bin/crate`.
+  package. It prints what the remarks after `printf` say. So does each program in Rust, with the crate.
 - What README.md says of gdb is so: gdb prints variables of a file that is made by hand, of two units, one with addresses
   of 8 bytes and one of 4.
 
@@ -91,14 +91,13 @@ def in_c():
 
 def in_rust():
     """Each program in Rust prints what it says."""
-    if lacks("the programs in Rust", "rustc", "rustfmt"):
+    if lacks("the programs in Rust", "rustc"):
         return
     with commands.temporary() as folder:
-        check("bin/crate", [TOP / "bin/crate", folder / "crate"])
         # Without Cargo, which would look for the crates of the features. It would turn on the default one.
         words = ["rustc", "--edition", "2024", "--cfg", 'feature="alloc"']
-        library = ["--crate-type", "lib", "--crate-name", "dwexpr", "crate/src/lib.rs"]
-        check("the crate by rustc", [*words, *library], cwd=folder)
+        library = ["--crate-type", "lib", "--crate-name", "dwexpr", TOP / "rust/src/lib.rs"]
+        check("the crate by rustc", [*words, *library], cwd=folder, env=checks.strip("rust", TOP, folder))
         for page, _, program, wanted in programs("rust", "fn main("):
             (folder / "program.rs").write_text(program)
             if check(f"{page}: rustc", [*words, "--extern", "dwexpr=libdwexpr.rlib", "program.rs"], cwd=folder):

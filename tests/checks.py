@@ -1,6 +1,7 @@
 """What the scripts that run programs share: a count of checks, runs that end, and how C is compiled."""
 
 import concurrent.futures
+import os
 import pathlib
 import shutil
 import subprocess
@@ -99,6 +100,32 @@ def check_headers(*names):
             language = standard.rstrip("0123456789")
             words = [f"-std={standard}", "-x", language, *STRICT, *OWN, "-fsyntax-only", "-"]
             check(what, [compiler, *words], input=text)
+
+
+# The build script of each package, and its folder.
+SCRIPTS = {"rust": ("rust/build/main.rs", "."), "c": ("c/build.rs", "c")}
+
+
+def copy_packages(folder):
+    """Copies what the build scripts of the Rust crate and of the library for C read, and the code by hand."""
+    ignored = shutil.ignore_patterns("out", "specs", "proofs", "target", "Cargo.lock")
+    for it in ("crates", "rust", "c"):
+        shutil.copytree(commands.TOP / it, folder / it, ignore=ignored)
+
+
+def script_environment(package, out):
+    """The variables that Cargo sets for the build script of a package, and its code."""
+    env = {**os.environ, "CARGO_MANIFEST_DIR": str(package), "OUT_DIR": str(out)}
+    return env | {"CARGO_PKG_VERSION_MAJOR": "0", "CARGO_PKG_VERSION_MINOR": "0", "CARGO_CFG_TARGET_OS": ""}
+
+
+def strip(name, top, folder):
+    """Runs the build script of a package without Cargo. The variables that its code is built with."""
+    script, package = SCRIPTS[name]
+    commands.run("rustc", "--edition=2024", top / script, "-o", folder / "script")
+    env = script_environment(top / package, folder / "stripped")
+    commands.run(folder / "script", env=env)
+    return env
 
 
 def path_with(folder, *programs):

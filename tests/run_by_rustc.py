@@ -1,5 +1,5 @@
 #!/usr/bin/env python3
-"""Makes the library for C by rustc, of the package that `bin/crate --c` writes, and tests it.
+"""Makes the library for C by rustc, of the package c/, and tests it.
 
 - Cargo builds it without a warning and without another crate. The static library's global symbols and the shared one's
   are the calls of dwexpr.h alone, tests/by_rustc/needs has what they need, and the shared one has its soname.
@@ -11,8 +11,8 @@
 - For s390x, i686 and armv7 the callers, by Debian's cross compilers or `gcc -m32`, and under qemu-user, but for i686 on
   x86-64, if rustc has its own library for the target. The variable RUSTC may name another rustc, as a newer Debian's.
 
-A wrong body changes a line of the exports, or of what a row wrote. tests/by_rustc/wrong-bodies has them: a name, a file
-under src, a text that stands in it once, and another. With --wrong-bodies it builds each: a caller or the comparison
+A wrong body changes a line of the exports, of a row or of a source. tests/by_rustc/wrong-bodies has them: a name, a
+file, a text that stands in it once, and another. With --wrong-bodies it builds each: a caller or the comparison
 has to fail. What is missing is left out, and said so. The last line is `N passed, M failed`.
 """
 
@@ -83,7 +83,7 @@ def beside(static, folder):
     return None
 
 
-def elsewhere(package, target, folder):
+def elsewhere(target, folder):
     """The callers for another target, under an emulator."""
     cc, runner = by_rustc.compiler_of(target), [TARGETS[target]]
     # It runs these itself; and in qemu-i386 7.2 a signal handler can't have a stack of its own.
@@ -95,19 +95,20 @@ def elsewhere(package, target, folder):
     if lacks:
         return left_out(f"the library for {target}", lacks[0])
     before = checks.passed, checks.failed
-    static, shared = by_rustc.build(package, target)
+    static, shared = by_rustc.build(folder.parent / "target", target)
     symbols(static, shared, target)
     run_c.callers(folder, static, {"": ["-O2", "-static"]}, cc, runner, by_rustc.processor(target)[1])
     print(f"   {target}: {checks.passed - before[0]} passed, {checks.failed - before[1]} failed")
     return None
 
 
-def seen(package, folder, given):
-    """What sees a wrong body in a package: a caller, or the comparison; "" if nothing does."""
+def seen(top, folder, given):
+    """What sees a wrong body in a copy of the packages: a caller, or the comparison; "" if nothing does."""
     # Quicker to build than what a user gets.
     words = ["--edition=2024", "--crate-name=dwexpr", "--crate-type=staticlib", "-Copt-level=1", "-Cpanic=abort"]
     static = folder / "libdwexpr.a"
-    done = commands.done("rustc", *words, "-Cdebug-assertions=on", package / "src/lib.rs", "-o", static)
+    words += ["-Cdebug-assertions=on", top / "c/src/lib.rs", "-o", static]
+    done = commands.done("rustc", *words, env=checks.strip("c", top, folder))
     if "assertion failed: size_of" in done.stderr:
         return "rustc, at a claim about sizes"
     if done.returncode:
@@ -132,25 +133,25 @@ def seen(package, folder, given):
 
 def main():
     wants_wrong_bodies = checks.wants_wrong_bodies(__doc__)
-    if lacks("the library for C by rustc", "cargo", "rustc", "rustfmt", "cc", "objcopy", "nm", "readelf"):
+    if lacks("the library for C by rustc", "cargo", "rustc", "cc", "objcopy", "nm", "readelf"):
         return None
     with commands.temporary(prefix="by-rustc-") as folder:
-        package = folder / "package"
-        by_rustc.write(package)
+        package = TOP / "c"
         if wants_wrong_bodies:
             sees = functools.partial(seen, given={"decode": run_c.vectors()})
-            return checks.try_wrong_bodies(FOLDER / "wrong-bodies", package, "src", sees)
+            checks.copy_packages(folder)
+            return checks.try_wrong_bodies(FOLDER / "wrong-bodies", folder, ".", sees)
         done = check("cargo tree", ["cargo", "tree", "--offline"], cwd=package)
         expect(done and len(done.stdout.splitlines()) == 1, "it takes no other crate")
         check("cargo fmt --check", ["cargo", "fmt", "--check"], cwd=package)
-        static, shared = by_rustc.build(package, by_rustc.here())
+        static, shared = by_rustc.build(folder / "target", by_rustc.here())
         symbols(static, shared, by_rustc.here())
         run_c.callers(folder / "here", static, checks.KINDS)
         unset(static, folder)
         beside(static, folder)
         prints("examples/evaluate.py", [sys.executable, TOP / "examples/evaluate.py", shared], PRINTED)
         for target in TARGETS:
-            elsewhere(package, target, folder / target)
+            elsewhere(target, folder / target)
     return None
 
 

@@ -31,7 +31,7 @@ def versions():
     """The header, the crate and the package for C by rustc have one version."""
     header = (TOP / "include/dwexpr.h").read_text()
     version = re.search(r'DWEXPR_VERSION "(.*)"', header)[1]
-    for manifest in ("rust/Cargo.toml", "c/Cargo.toml"):
+    for manifest in ("Cargo.toml", "c/Cargo.toml"):
         expect(f'\nversion = "{version}"\n' in (TOP / manifest).read_text(), f"the version in {manifest}")
     number = int("".join(part.zfill(2) for part in version.split(".")))
     expect(f"DWEXPR_VERSION_NUMBER {number} " in header, "the version's number", number)

@@ -5,7 +5,6 @@
   and PROVED names the commit and the kit.
 - examples/decode.c is built by cc, with the words of pkg-config, and by a CMake project. So are a caller of dwexpr_run
   in C and a caller in C++. CMake finds the package for the versions and the processor that it is for, and no others.
-- The Rust crate is the one that bin/crate writes.
 - examples/variable.c is built with the words of pkg-config, and prints a variable of a stopped process. A unit that
   uses the library over libdw has none of its functions.
 - For aarch64 decode.c is built by Debian's cross compiler and run by qemu-user.
@@ -14,7 +13,6 @@
 It wants cc; what else is missing is left out, and said so. The last line is `N passed, M failed`.
 """
 
-import filecmp
 import os
 import pathlib
 import re
@@ -34,7 +32,7 @@ ARM = "aarch64-unknown-linux-gnu"
 checks.SECONDS = 3600
 # The callers, and a CMake project of them.
 CALLERS = TOP / "tests" / "package"
-# What a package holds, besides the Rust crate.
+# What a package holds.
 FILES = """
 include/dwexpr.h include/dwexpr_libdw.h include/dwexpr_names.h include/dwexpr_run.h lib/libdwexpr.a
 lib/libdwexpr_run.a
@@ -48,7 +46,6 @@ OVER_LIBDW = ["lib/libdwexpr_libdw.a", "lib/pkgconfig/dwexpr-libdw.pc"]
 # What it holds besides by what builds the library, and the record of it.
 SHARED = "lib/libdwexpr.so.0.1"
 BY_KIT, BY_RUSTC = {"share/doc/dwexpr/PROVED"}, {"share/doc/dwexpr/BUILT", SHARED, "lib/pkgconfig/dwexpr-shared.pc"}
-RUST = "share/dwexpr/rust"
 LINK = re.compile(r"\]\(([^)]+)\)")
 PROVED = re.compile(r"libdwexpr.a \S+ for \S+\ncommit \S+\nkit \S.*\nsources ([0-9a-f]{64})\narchive [0-9a-f]{64}\n")
 BUILT = re.compile(
@@ -93,23 +90,11 @@ def environment(home):
     return {**kept, "PATH": str(links), "HOME": str(home)}
 
 
-def crate_files(packed):
-    """The names of the files of the Rust crate, which are those that were packed."""
-    with commands.temporary() as name:
-        crate = name / "dwexpr"
-        check("bin/crate", [TOP / "bin/crate", crate])
-        names = [it.relative_to(crate) for it in crate.rglob("*") if it.is_file()]
-        _, *others = filecmp.cmpfiles(crate, packed, names, shallow=False)
-        expect(not any(others), "the Rust crate is the one that bin/crate writes", f"{others}")
-        return names
-
-
 def files_of(package, by):
     """The files are those that it should have, and each link leads somewhere. The sum of the sources."""
     found = {str(it.relative_to(package)) for it in package.rglob("*") if it.is_file()}
     examples = {f"share/dwexpr/examples/{it.name}" for it in TOP.glob("examples/*.*")}
-    crate = {f"{RUST}/{name}" for name in crate_files(package / RUST)}
-    wanted = {*FILES, *by, *examples, *crate}
+    wanted = {*FILES, *by, *examples}
     if OVER_LIBDW[0] in found:
         wanted |= {*OVER_LIBDW}
     else:
@@ -118,8 +103,7 @@ def files_of(package, by):
     record, form = ("PROVED", PROVED) if by == BY_KIT else ("BUILT", BUILT)
     said = form.fullmatch((package / "share/doc/dwexpr" / record).read_text())
     expect(said, record)
-    pages = [it for it in package.rglob("*.md") if RUST not in str(it)]
-    links = [(page, link) for page in pages for link in LINK.findall(page.read_text()) if "://" not in link]
+    links = [(page, link) for page in package.rglob("*.md") for link in LINK.findall(page.read_text()) if "://" not in link]
     dead = [f"{page.name}: {link}" for page, link in links if not (page.parent / (link.split("#")[0] or ".")).exists()]
     expect(not dead, "the links of the package", "\n".join(dead))
     return said and said[1]

@@ -1,4 +1,4 @@
-"""Builds the library for C by rustc, of the package that `bin/crate --c` writes. bin/package and the tests share it.
+"""Builds the library for C by rustc, of the package c/. bin/package and the tests share it.
 
 The archive is one object whose global symbols are the exports alone, if binutils for the target are there; else it is
 as rustc makes it, with rustc's own functions beside them. Cargo takes no crate for it, and no network.
@@ -8,7 +8,6 @@ import os
 import pathlib
 import re
 import shutil
-import sys
 
 import commands
 from commands import TOP, Failure
@@ -95,16 +94,11 @@ def join(archive, target):
     commands.remove(whole)
 
 
-def write(folder):
-    """Writes the package."""
-    commands.run(sys.executable, TOP / "bin/crate", "--c", folder)
-
-
-def build(package, target):
-    """Builds a written package. The static library and the shared one; `None` for one that this target hasn't."""
-    # The folder's name mustn't be in what is built.
-    flags = f"-D warnings --remap-path-prefix={package}=."
-    env = {**os.environ, "CARGO_TARGET_DIR": str(package / "target"), "RUSTFLAGS": flags}
+def build(folder, target, package=TOP / "c"):
+    """Builds a package in a folder. The static library and the shared one; `None` for one that this target hasn't."""
+    # The folders' names mustn't be in what is built.
+    flags = f"-D warnings --remap-path-prefix={package}=. --remap-path-prefix={folder}=."
+    env = {**os.environ, "CARGO_TARGET_DIR": str(folder), "RUSTFLAGS": flags}
     cc = compiler_of(target)
     if cc and target != here():
         env[f"CARGO_TARGET_{target.upper().replace('-', '_')}_LINKER"] = cc[0]
@@ -112,7 +106,7 @@ def build(package, target):
     for kind in kinds:
         words = ["cargo", "rustc", "--quiet", "--release", "--offline", "--lib", "--crate-type", kind]
         commands.run(*words, "--target", target, cwd=package, env=env)
-    built = package / "target" / target / "release"
+    built = folder / target / "release"
     names = ("libdwexpr.a", "dwexpr.lib"), ("libdwexpr.so", "libdwexpr.dylib", "dwexpr.dll")
     static, shared = (next(filter(pathlib.Path.exists, map(built.joinpath, some)), None) for some in names)
     if static and static.suffix == ".a":

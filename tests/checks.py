@@ -1,6 +1,7 @@
 """What the scripts that run programs share: a count of checks, runs that end, and how C is compiled."""
 
 import concurrent.futures
+import os
 import pathlib
 import shutil
 import subprocess
@@ -99,6 +100,14 @@ def check_headers(*names):
             language = standard.rstrip("0123456789")
             words = [f"-std={standard}", "-x", language, *STRICT, *OWN, "-fsyntax-only", "-"]
             check(what, [compiler, *words], input=text)
+
+
+def strip(top, folder):
+    """Runs the build script of the Rust crate without Cargo. The variables that its code is built with."""
+    commands.run("rustc", "--edition=2024", top / "rust/build/main.rs", "-o", folder / "strip")
+    env = {**os.environ, "CARGO_MANIFEST_DIR": str(top), "OUT_DIR": str(folder / "stripped")}
+    commands.run(folder / "strip", env=env)
+    return env
 
 
 def path_with(folder, *programs):

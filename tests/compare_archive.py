@@ -1,13 +1,13 @@
 #!/usr/bin/env python3
 """Compares the Rust crate with the archive for C, in one process.
 
-It makes the crate anew by bin/crate, and builds it into the program of tests/beside_archive, with checks of overflow.
+It builds the crate into the program of tests/beside_archive, with checks of overflow.
 The program compares each operation, request, fault, value, piece and block that both sides give: of made-up
 expressions, of the expressions of tests/rows, in the rows' steps, and of those of tests/vectors. The archive is the
 proved one, which tests/run_c.py builds.
 
-A wrong body changes a line of the crate's proved modules. tests/beside_archive/wrong-bodies has them: a name, a file
-under src/sources, a text that stands in it once, and another. The program has to see a difference, with fewer cases.
+A wrong body changes a line of a proved source. tests/beside_archive/wrong-bodies has them: a name, a file, a text that
+stands in it once, and another. The program has to see a difference, with fewer cases.
 
 The last line is `N passed, M failed`: kinds and rows, or wrong bodies.
 """
@@ -15,6 +15,7 @@ The last line is `N passed, M failed`: kinds and rows, or wrong bodies.
 import functools
 import json
 import re
+import shutil
 
 import checks
 import run_rows
@@ -65,11 +66,8 @@ def build(crate, folder):
     """Builds the program with a crate, into a folder."""
     library = folder / "libdwexpr.rlib"
     uses = ["-L", archive.path_of().parent, "--extern", f"dwexpr={library}"]
-    for words in (
-        [*CRATE, crate / "src" / "lib.rs", "-o", library],
-        ["-D", "warnings", *uses, PROGRAM / "main.rs", "-o", folder / "beside_archive"],
-    ):
-        commands.run(*RUSTC, *words)
+    commands.run(*RUSTC, *CRATE, crate / "rust/src/lib.rs", "-o", library, env=checks.strip(crate, folder))
+    commands.run(*RUSTC, "-D", "warnings", *uses, PROGRAM / "main.rs", "-o", folder / "beside_archive")
 
 
 def run(folder, count, lines):
@@ -92,17 +90,18 @@ def seen(crate, folder, lines):
 
 def main():
     wants_wrong_bodies = checks.wants_wrong_bodies(__doc__)
-    if lacks("the Rust crate beside the archive", "rustc", "rustfmt"):
+    if lacks("the Rust crate beside the archive", "rustc"):
         return
     if not archive.is_built():
         raise Failure("there is no archive of these sources: tests/run_c.py builds it")
     with commands.temporary(prefix="beside-archive-") as folder:
         crate, lines = folder / "crate", folder / "cases"
-        commands.run(TOP / "bin/crate", crate)
+        for it in ("build", "rust", "crates"):
+            shutil.copytree(TOP / it, crate / it, ignore=shutil.ignore_patterns("out", "specs", "proofs"))
         lines.write_text(cases(), encoding="utf-8")
         if wants_wrong_bodies:
             sees = functools.partial(seen, lines=lines)
-            checks.try_wrong_bodies(PROGRAM / "wrong-bodies", crate, "src/sources", sees)
+            checks.try_wrong_bodies(PROGRAM / "wrong-bodies", crate, ".", sees)
         else:
             build(crate, folder)
             printed = run(folder, COUNT, lines)

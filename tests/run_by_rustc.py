@@ -95,7 +95,7 @@ def elsewhere(package, target, folder):
     if lacks:
         return left_out(f"the library for {target}", lacks[0])
     before = checks.passed, checks.failed
-    static, shared = by_rustc.build(package, target)
+    static, shared = by_rustc.build(folder.parent / "target", target)
     symbols(static, shared, target)
     run_c.callers(folder, static, {"": ["-O2", "-static"]}, cc, runner, by_rustc.processor(target)[1])
     print(f"   {target}: {checks.passed - before[0]} passed, {checks.failed - before[1]} failed")
@@ -132,18 +132,17 @@ def seen(package, folder, given):
 
 def main():
     wants_wrong_bodies = checks.wants_wrong_bodies(__doc__)
-    if lacks("the library for C by rustc", "cargo", "rustc", "rustfmt", "cc", "objcopy", "nm", "readelf"):
+    if lacks("the library for C by rustc", "cargo", "rustc", "cc", "objcopy", "nm", "readelf"):
         return None
     with commands.temporary(prefix="by-rustc-") as folder:
-        package = folder / "package"
-        by_rustc.write(package)
+        package = TOP / "c"
         if wants_wrong_bodies:
             sees = functools.partial(seen, given={"decode": run_c.vectors()})
             return checks.try_wrong_bodies(FOLDER / "wrong-bodies", package, "src", sees)
         done = check("cargo tree", ["cargo", "tree", "--offline"], cwd=package)
         expect(done and len(done.stdout.splitlines()) == 1, "it takes no other crate")
         check("cargo fmt --check", ["cargo", "fmt", "--check"], cwd=package)
-        static, shared = by_rustc.build(package, by_rustc.here())
+        static, shared = by_rustc.build(folder / "target", by_rustc.here())
         symbols(static, shared, by_rustc.here())
         run_c.callers(folder / "here", static, checks.KINDS)
         unset(static, folder)

@@ -1,5 +1,5 @@
 #!/usr/bin/env python3
-"""Makes the Rust crate anew by bin/crate, and runs its tests.
+"""Runs the tests of the Rust crate, in a clone of what is committed.
 
 It builds the crate without features, with all, and without the heap, runs its tests and those of its documentation,
 clippy, the build of the documentation, `cargo fmt --check`, `cargo package`, and the example on a program that `cc -g`
@@ -49,7 +49,7 @@ def find_crates(folder):
 def write_app(top):
     """Writes a package that depends on the crate by its path."""
     shutil.copytree(PARTS / "app", top / "app")
-    check("bin/crate for a package", [TOP / "bin/crate", top / "vendor/dwexpr"])
+    check("a clone for a package", ["git", "clone", "-q", TOP, top / "vendor/dwexpr"])
 
 
 def try_path():
@@ -103,7 +103,7 @@ def main():
         return
     with commands.temporary() as folder:
         crate = folder / "crate"
-        commands.run(TOP / "bin/crate", crate)
+        commands.run("git", "clone", "-q", TOP, crate)
         found = find_crates(folder)
         for name in NEEDED.keys() - set(found):
             print(f"left out: the feature {name}: {NEEDED[name]} names no folder")
@@ -139,14 +139,15 @@ def main():
             print("left out: gimli 0.32.3: DWEXPR_GIMLI_OLD names no folder")
         listed = cargo("package --list", "package", "--list")
         expect({"LICENSE-APACHE", "LICENSE-MIT"} <= set(listed.split()), "the package has its licences", listed)
-        expect(".written" not in listed.split(), "the package has no list of what bin/crate wrote", listed)
         cargo("package", "package")
         if "gimli" in found:
             run_example(cargo, ["--features", ",".join(found)], "variables", folder)
             if (pathlib.Path(os.environ["DWEXPR_GIMLI"]).parent / "stable_deref_trait").is_dir():
                 try_readers(folder)
-                example = (crate / "examples/variables.rs").read_text().replace("EndianSlice as", "EndianArcSlice as")
-                (crate / "examples/over_arcs.rs").write_text(example)
+                example = (crate / "rust/examples/variables.rs").read_text().replace("EndianSlice as", "EndianArcSlice as")
+                (crate / "rust/examples/over_arcs.rs").write_text(example)
+                with open(crate / "Cargo.toml", "a", encoding="utf-8") as manifest:
+                    manifest.write('[[example]]\nname = "over_arcs"\npath = "rust/examples/over_arcs.rs"\n')
                 run_example(cargo, ["--features", ",".join([*found, "gimli/endian-reader"])], "over_arcs", folder)
             else:
                 print("left out: gimli's other readers: there is no stable_deref_trait beside gimli")

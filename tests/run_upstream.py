@@ -67,7 +67,7 @@ def main():
     if lacks("gimli's own tests", "cargo"):
         return
     with commands.temporary() as name:
-        commands.run(TOP / "bin/crate", name / "crate")
+        commands.run("git", "clone", "-q", TOP, name / "crate")
         find_crates(name)
         folder = name / "upstream"
         shutil.copytree(TOP / "tests/upstream", folder)

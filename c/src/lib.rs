@@ -12,11 +12,8 @@ macro_rules! assert_of_64_bits {
     };
 }
 
-// Much of what the crates below have is for Rust.
-#[allow(dead_code, unused_imports, unused_variables, non_upper_case_globals, clippy::all)]
-// It is laid out as it is compared with its sources.
-#[rustfmt::skip]
-mod sources;
+// The module `sources`, which the build script writes. Each line has the number that it has in the proved source.
+include!(concat!(env!("OUT_DIR"), "/lib.rs"));
 
 mod exports;
 

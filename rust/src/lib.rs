@@ -34,15 +34,8 @@
 #[cfg(feature = "alloc")]
 extern crate alloc;
 
-#[allow(clippy::derivable_impls, clippy::module_inception, clippy::redundant_pattern_matching)]
-#[allow(clippy::should_implement_trait, clippy::upper_case_acronyms)]
-// Only a list on the heap gives its pieces away.
-#[cfg_attr(not(feature = "alloc"), allow(dead_code, unused_imports))]
-// The names of opcodes are the standard's.
-#[allow(non_upper_case_globals)]
-// It is laid out as it is compared with its sources.
-#[rustfmt::skip]
-mod sources;
+// The module `sources`, which the build script writes. Each line has the number that it has in the proved source.
+include!(concat!(env!("OUT_DIR"), "/lib.rs"));
 
 #[macro_use]
 // Which of them are taken depends on the features.

@@ -4,7 +4,7 @@
 
 #[allow(unused_macros)]
 #[macro_use]
-#[path = "../../crate/src/lists.rs"]
+#[path = "../../crate/rust/src/lists.rs"]
 mod lists;
 
 use dwexpr::{

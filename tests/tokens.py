@@ -1,9 +1,8 @@
-"""The tokens of a Rattle source, and which of them are Rust. `bin/crate` uses it."""
+"""A second reader of Rattle sources, by their tokens: which of them are Rust. tests/check_strip.py uses it."""
 
 import bisect
 import re
 
-import sources
 from commands import Failure
 
 # White space, a comment, a lifetime, the name of an ABI, a word or a number, or one sign.
@@ -23,6 +22,11 @@ CLOSING = {"(": ")", "[": "]", "{": "}"}
 def split(text):
     """The tokens of a text, without the white space."""
     return [token for token in TOKEN.findall(text) if not token.isspace()]
+
+
+def code(text):
+    """The tokens of a text, without its comments; docs stay."""
+    return [it for it in split(re.sub(r"/\*.*?\*/", "", text, flags=re.DOTALL)) if not re.match(r"//(?![/!])", it)]
 
 
 class Source:
@@ -168,74 +172,7 @@ class Source:
         self.want(KNOWN_ATTRIBUTE.fullmatch(text), at, f"the unknown attribute {text}")
         return end + 1
 
-    def does_nothing(self):
-        """Whether only functions that do nothing are left, and what they use."""
-        text = re.sub(r"use [^;]*;", "", " ".join(self.words(0, len(self.code) - 1)))
-        return not re.sub(r"pub fn \w+ (< [^()]* > )?\( \) \{ \}", "", text).strip()
-
-    def forget(self, modules):
-        """Deletes what names modules of these names, and the names of laws."""
-        for at in range(len(self.code)):
-            if self.word(at) not in ("mod", "use"):
-                continue
-            end = self.find(";", at)
-            if modules & set("".join(self.words(at + 1, end - 1)).partition("{")[0].split("::")):
-                self.delete(self.begin(at), end)
-                continue
-            for name in range(at, end):
-                if self.word(name).endswith("_laws"):
-                    self.delete(name, name + (self.word(name + 1) == ","), above="")
-        self.settle()
-
     def left(self):
-        """The text in the place of each token."""
-        return [self.changed.get(index, token) for index, token in enumerate(self.tokens)]
-
-    def text(self):
-        """What is left. Of the white space on both sides of what was deleted, that with more lines stays."""
-        text = "".join(token or "\0" for token in self.left())
-        spaces = re.compile(r"\s*(\0\s*)+")
-        return spaces.sub(lambda found: max(found[0].split("\0"), key=lambda space: (space.count("\n"), space)), text)
-
-
-USES = re.compile(r"(?:^(?:#\n\[\n[^]]*\n\]\n)?(?:pub\n)?(?:\(\ncrate\n\)\n)?(?:use|mod)\n[^;]*\n;\n)+", re.MULTILINE)
-LIST = re.compile(r"\{\n(.*?)\n\}\n", re.DOTALL)
-
-
-def without_braces(tokens):
-    """The tokens without braces around what a match gives for a pattern, if it is one expression; a comma ends it."""
-    opened, partners, has_statements = [], {}, set()
-    for at, token in enumerate(tokens):
-        if token in CLOSING:
-            opened.append(at)
-        elif token in CLOSING.values() and opened:
-            partners[opened.pop()] = at
-        elif token == ";" and opened:
-            has_statements.add(opened[-1])
-    dropped = {}
-    for first, last in partners.items():
-        if tokens[first] == "{" and tokens[first - 2 : first] == ["=", ">"] and last > first + 1:
-            if first not in has_statements:
-                dropped |= {first: [], last: [","] * (tokens[last + 1 : last + 2] != [","])}
-    return [token for at, it in enumerate(tokens) for token in dropped.get(at, [it])]
-
-
-def settled(tokens):
-    """The same tokens for all that rustfmt may make of them: it sorts `use`, `mod` and the names in their lists, drops
-    the braces around one name, adds or drops those around what a match gives, and adds or drops a comma before a
-    bracket that closes."""
-
-    def sort_names(found):
-        names = sorted(found[1].split("\n,\n"))
-        return "{\n" + "\n,\n".join(names) + "\n}\n" if len(names) > 1 else names[0] + "\n"
-
-    def sort_uses(found):
-        return "".join(sorted(LIST.sub(sort_names, use) + ";\n" for use in found[0].split(";\n")[:-1]))
-
-    lines = "\n".join(["", *without_braces(tokens), ""])
-    return USES.sub(sort_uses, re.sub(r"\n,(?=\n[])}>]\n)", "", lines)).split("\n")
-
-
-def difference(texts, written):
-    """Where the tokens of some texts and those of what was written differ first, or None."""
-    return sources.difference(settled([it for text in texts for it in split(text)]), settled(split(written)), 4)
+        """What is left, without comments of code."""
+        texts = (self.changed.get(index, token) for index, token in enumerate(self.tokens))
+        return code("\n".join(texts))

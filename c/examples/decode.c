@@ -12,17 +12,24 @@
 /* 0, or the code of the first fault. The depth is that of expressions within entry values. */
 static uint32_t print_expression(const uint8_t *bytes, size_t length, dwexpr_encoding encoding, int depth)
 {
-    static char line[4096];
     dwexpr_operation op;
     size_t at;
     for (at = 0; at < length; at += op.size) {
         uint32_t code = dwexpr_decode(bytes, length, encoding, at, &op);
+        char *line;
+        size_t size;
         if (code) {
-            printf("%*s%zu fault: %s (%" PRIu64 ")\n", 2 * depth, "", at, dwexpr_code_name(code), op.detail);
+            const char *name = dwexpr_code_name(code);
+            printf("%*s%zu fault: %s (%" PRIu64 ")\n", 2 * depth, "", at, name ? name : "?", op.detail);
             return code;
         }
-        dwexpr_operation_line(line, sizeof line, bytes, &op);
+        size = dwexpr_operation_line(NULL, 0, bytes, &op) + 1;
+        line = malloc(size);
+        if (!line)
+            abort();
+        dwexpr_operation_line(line, size, bytes, &op);
         printf("%*s%zu %s\n", 2 * depth, "", at, line);
+        free(line);
         if (op.kind == DWEXPR_OP_ENTRY_VALUE) {
             dwexpr_text block = dwexpr_operation_block(&op, bytes);
             code = print_expression(block.bytes, block.length, encoding, depth + 1);

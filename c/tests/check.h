@@ -26,7 +26,7 @@ static void check(int holds, const char *name, const char *what)
 static int finish(void)
 {
     printf("%d passed, %d failed\n", passed, failed);
-    return failed != 0;
+    return failed || !passed;
 }
 
 static inline dwexpr_encoding encoding_of(int address_size, int offset_size, int version, int big_endian)

@@ -1,7 +1,8 @@
-/* Decodes and evaluates each expression of tests/rows and each of its fronts, and all expressions of two bytes: an
- * operation is no longer than what is left, and an evaluation of at most 16 operations ends after at most 16 answers.
- */
-#include "check.h"
+/* Decodes and evaluates each expression of files of rows, made-up ones, all of two bytes, and each of their fronts: an
+ * operation is no longer than what is left, and an evaluation of at most 16 operations ends after at most 16 answers:
+ * cut FILE.. */
+#include "made_up.h"
+#include "rows.h"
 
 static const uint8_t nop[] = {0x96};
 
@@ -69,27 +70,58 @@ static void short_expressions(void)
     check(1, "expressions of two bytes", "");
 }
 
-/* The expressions of tests/rows, which tests/run_c.py writes as lines. */
-static void fronts(void)
+static void fronts(const uint8_t *bytes, size_t length, dwexpr_encoding encoding, const char *name)
 {
-    static char digits[2001];
-    static uint8_t bytes[1000];
-    unsigned address_size, offset_size, version, big_endian;
-    size_t expressions = 0;
-    while (scanf("%u %u %u %u %2000s", &address_size, &offset_size, &version, &big_endian, digits) == 5) {
-        dwexpr_encoding encoding = encoding_of(address_size, offset_size, version, big_endian);
-        size_t length = bytes_of(digits, bytes), front;
-        for (front = 0; front <= length; front++)
-            try(bytes, front, encoding, digits);
-        expressions++;
-        check(1, digits, "");
-    }
-    check(expressions > 0, "the expressions of tests/rows", "there are some");
+    size_t front;
+    for (front = 0; front <= length; front++)
+        try(bytes, front, encoding, name);
+    check(1, name, "");
 }
 
-int main(void)
+/* The expressions of a file of rows or vectors. Gives back how many they are. */
+static size_t rows(FILE *file)
 {
+    static char line[1 << 20], digits[2001];
+    static uint8_t bytes[1000];
+    size_t count = 0;
+    while (fgets(line, sizeof line, file)) {
+        const char *words = field(line, "words"), *in = field(line, "in"), *at = field(line, "bytes");
+        char command[5], columns[4][3], spaced[16];
+        dwexpr_encoding encoding;
+        if (words && sscanf(words, "[\"%4[a-z]\", \"%1[1-8]\", \"%1[48]\", \"%1[2-5]\", \"%2[a-z]\", \"%2000[0-9a-fA-F]\"",
+                            command, columns[0], columns[1], columns[2], columns[3], digits) == 6)
+            snprintf(spaced, sizeof spaced, "%s %s %s %s", columns[0], columns[1], columns[2], columns[3]);
+        else if (in && at && sscanf(at, "\"%2000[0-9a-f]", digits) == 1)
+            snprintf(spaced, sizeof spaced, "%.9s", in + 1);
+        else
+            continue;
+        if (read_encoding(spaced, &encoding) && encoding.address_size <= 8) {
+            fronts(bytes, bytes_of(digits, bytes), encoding, digits);
+            count++;
+        }
+    }
+    fclose(file);
+    return count;
+}
+
+static void made_up(void)
+{
+    uint8_t bytes[160];
+    int i;
+    for (i = 0; i < 1000; i++) {
+        const dwexpr_encoding encoding = encoding_of(1 << below(4), below(2) ? 4 : 8, 2 + (int)below(4), (int)below(2));
+        fronts(bytes, put_operations(bytes, sizeof bytes, 1 + below(6), encoding), encoding, "made up");
+    }
+}
+
+int main(int argc, char **argv)
+{
+    size_t count = 0;
+    int i;
     short_expressions();
-    fronts();
+    for (i = 1; i < argc; i++)
+        count += rows(opened(argv[i]));
+    check(count > 3000, "the expressions of the rows", "there are many");
+    made_up();
     return finish();
 }

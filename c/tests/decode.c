@@ -1,7 +1,6 @@
-/* Decodes each vector of tests/vectors/decode.json, and compares every field. */
-#include <inttypes.h>
-
-#include "check.h"
+/* Decodes each vector of a file, and compares every field: decode HEADER VECTORS. The header has the numbers of kinds
+ * and codes, which the vectors name. */
+#include "rows.h"
 
 struct row {
     char bytes[80]; /* hexadecimal digits, which name the row too */
@@ -47,29 +46,62 @@ static void cut(const struct row *row)
     }
 }
 
-/* The rows of tests/vectors/decode.json, which tests/run_c.py writes as lines of numbers; whether there is another. */
-static int next_row(struct row *row)
+/* The number that the header has for a name. */
+static uint32_t constant(const char *header, const char *prefix, const char *name)
 {
-    unsigned address_size, offset_size, version, big_endian;
+    char entry[80];
+    const char *at;
+    snprintf(entry, sizeof entry, " %s%.*s = ", prefix, (int)strcspn(name, "\""), name);
+    at = strstr(header, entry);
+    check(at != NULL, entry, "the header has it");
+    return at ? (uint32_t)strtoul(at + strlen(entry), NULL, 10) : 0;
+}
+
+/* Whether the kind's number is an offset or an index. */
+static int is_place(uint32_t kind)
+{
+    return kind == DWEXPR_OP_CALL || kind == DWEXPR_OP_IMPLICIT_POINTER || kind == DWEXPR_OP_PARAMETER_REF ||
+           kind == DWEXPR_OP_VARIABLE_VALUE || kind == DWEXPR_OP_ADDRESS_INDEX || kind == DWEXPR_OP_CONSTANT_INDEX;
+}
+
+/* Reads a vector. Gives back whether the line has one. */
+static int read_row(const char *header, const char *line, struct row *row)
+{
+    const char *encoding = field(line, "in"), *bytes = field(line, "bytes"), *block = field(line, "block");
+    const char *kind = field(line, "kind"), *code = field(line, "code");
     dwexpr_operation *want = &row->want;
     memset(row, 0, sizeof *row);
-    if (scanf("%u %u %u %u %79s %" SCNu32 " %" SCNu32 " %" SCNu64 " %" SCNd64 " %" SCNu64 " %" SCNu32 " %" SCNu32
-              " %" SCNu32 " %zu %zu %" SCNu64,
-              &address_size, &offset_size, &version, &big_endian, row->bytes, &want->fault, &want->kind,
-              &want->number, &want->signed_number, &want->base_type, &want->register_number, &want->deref_size,
-              &want->flag, &want->block_offset, &want->block_length, &want->detail) != 16)
+    if (!encoding || !read_encoding(encoding + 1, &row->encoding) || !bytes ||
+        sscanf(bytes, "\"%79[0-9a-f]", row->bytes) != 1)
         return 0;
-    row->encoding = encoding_of(address_size, offset_size, version, big_endian);
+    want->kind = kind ? constant(header, "DWEXPR_OP_", kind + 1) : DWEXPR_OP_NONE;
+    want->fault = code ? constant(header, "DWEXPR_", code + 1) : DWEXPR_OK;
+    want->number = number_of(line, "number");
+    want->signed_number = (int64_t)number_of(line, "signed_number");
+    want->base_type = number_of(line, "base_type");
+    want->register_number = (uint32_t)number_of(line, "register_number");
+    want->deref_size = (uint32_t)number_of(line, "deref_size");
+    want->flag = (uint32_t)number_of(line, "flag");
+    want->detail = number_of(line, "detail");
+    if (block)
+        sscanf(block, "[%zu, %zu", &want->block_offset, &want->block_length);
+    if (want->base_type > SIZE_MAX || (is_place(want->kind) && want->number > SIZE_MAX)) {
+        memset(want, 0, sizeof *want);
+        want->fault = DWEXPR_UNSUPPORTED_OFFSET;
+    }
     return 1;
 }
 
-static void vectors(void)
+static void vectors(FILE *header_file, FILE *file)
 {
-    static char seen[256];
+    static char header[1 << 17], line[1 << 12], seen[256];
     struct row row;
     size_t opcodes = 0;
-    while (next_row(&row)) {
+    header[fread(header, 1, sizeof header - 1, header_file)] = 0;
+    while (fgets(line, sizeof line, file)) {
         uint8_t bytes[64];
+        if (!read_row(header, line, &row))
+            continue;
         bytes_of(row.bytes, bytes);
         opcodes += !seen[bytes[0]];
         seen[bytes[0]] = 1;
@@ -110,9 +142,9 @@ static void arguments(void)
           "the code");
 }
 
-int main(void)
+int main(int argc, char **argv)
 {
-    vectors();
+    vectors(opened(argc > 1 ? argv[1] : NULL), opened(argc > 2 ? argv[2] : NULL));
     arguments();
     return finish();
 }

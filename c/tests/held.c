@@ -19,7 +19,7 @@ static uint8_t *guarded(void)
     return pages + 3 * PAGE;
 }
 
-static int bad_block(const dwexpr_text *texts, size_t text, size_t offset, size_t length)
+static size_t bad_block(const dwexpr_text *texts, size_t text, size_t offset, size_t length)
 {
     return length && (text > 1 || offset + length > texts[text].length);
 }
@@ -50,7 +50,7 @@ int main(void)
         size_t count = 2 + below(2), at;
         for (at = 0; at <= length; at += op->size) {
             const uint32_t code = dwexpr_decode(bytes, length, encoding, at, op);
-            bad += bad_operation(op, code, length);
+            bad += (size_t)bad_operation(op, code, length);
             if (code)
                 break;
         }

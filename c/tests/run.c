@@ -17,7 +17,7 @@ static uint64_t context;
 static int refusal;
 static const char *name;
 
-static int run(const char *row, const char *digits, const dwexpr_callbacks *calls)
+static uint32_t run(const char *row, const char *digits, const dwexpr_callbacks *calls)
 {
     dwexpr_text text = {bytes, bytes_of(digits, bytes)};
     name = row;
@@ -117,7 +117,7 @@ static const dwexpr_callbacks all = {
  * 0. */
 static int is_refused(const char *row, const char *digits, const dwexpr_callbacks *calls, int returned)
 {
-    int ended;
+    uint32_t ended;
     status = returned;
     ended = run(row, digits, calls);
     status = 0;

@@ -12,7 +12,7 @@ static dwexpr_outcome outcome;
 static dwexpr_text items[4];
 static dwexpr_texts texts = {items, 4, 0};
 static dwexpr_piece pieces[4];
-static int result = 99;
+static uint32_t result = 99;
 
 static int give_register(void *context, uint32_t register_number, uint64_t *content)
 {

@@ -32,16 +32,16 @@ static void put(struct writer *writer, const uint8_t *bytes, size_t length)
     writer->length += length;
 }
 
-/* Writes a number in `size` bytes. Gives back whether it fits. */
+/* Writes a number in `size` bytes. Gives back 0, or -1 if it doesn't fit. */
 static int put_fixed(struct writer *writer, uint64_t number, size_t size, int is_signed, int big_endian)
 {
     uint8_t bytes[8];
     uint64_t beyond = size < 8 ? number >> (8 * size - (is_signed != 0)) : 0;
     if (size < 1 || size > 8 || (beyond && !(is_signed && beyond == UINT64_MAX >> (8 * size - 1))))
-        return 0;
-    dwexpr_libdw_bytes_of(number, size, big_endian, bytes);
-    put(writer, bytes, size);
-    return 1;
+        return -1;
+    dwexpr_libdw_bytes_of(number, sizeof bytes, big_endian, bytes);
+    put(writer, bytes + (big_endian ? sizeof bytes - size : 0), size);
+    return 0;
 }
 
 /* Writes a LEB128 number in its shortest form, or with bytes that change nothing at its end, so that it has `size`. */
@@ -70,23 +70,23 @@ static int put_operands(struct writer *writer, const Dwarf_Op *op, size_t size, 
     size_t reference = encoding.version == 2 ? encoding.address_size : encoding.offset_size;
     if (fixed)
         return put_fixed(writer, op->number, (size_t)1 << (fixed - sizes) / 2, (int)((fixed - sizes) % 2),
-                         encoding.big_endian) - 1;
+                         encoding.big_endian);
     switch (form) {
     case '-': return 0;
-    case 'a': return put_fixed(writer, op->number, encoding.address_size, 0, encoding.big_endian) - 1;
-    case 'r': return put_fixed(writer, op->number, reference, 0, encoding.big_endian) - 1;
-    case 'w': case 'x': /* libdw extends it by its sign */
-        return put_fixed(writer, op->number, form == 'w' ? 2 : 4, 0, encoding.big_endian) ||
-                       put_fixed(writer, op->number, form == 'w' ? 2 : 4, 1, encoding.big_endian)
-                   ? 0
-                   : -1;
+    case 'a': return put_fixed(writer, op->number, encoding.address_size, 0, encoding.big_endian);
+    case 'r': return put_fixed(writer, op->number, reference, 0, encoding.big_endian);
+    case 'w': case 'x': { /* libdw extends it by its sign */
+        const size_t length = form == 'w' ? 2 : 4;
+        const int is_signed = op->number >> 63 != 0;
+        return put_fixed(writer, op->number, length, is_signed, encoding.big_endian);
+    }
     case 'p': {
         /* libdw may read the offset without its sign: -64 is as 64 then, and the size alone tells them apart */
         const size_t length = size > reference ? size - reference : 0;
         uint64_t front = op->number2;
         while (front >> 7)
             front >>= 7;
-        if (!put_fixed(writer, op->number, reference, 0, encoding.big_endian) ||
+        if (put_fixed(writer, op->number, reference, 0, encoding.big_endian) ||
             (!length && !(op->number2 >> 63) && front & 0x40))
             return -1;
         if (length && length < 10)
@@ -102,9 +102,9 @@ static int put_operands(struct writer *writer, const Dwarf_Op *op, size_t size, 
         put_leb(writer, op->number, 0, 0);
         put_leb(writer, op->number2, 0, form == 'O');
         return 0;
-    case 'D': return put_fixed(writer, op->number, 1, 0, 0) - 1;
+    case 'D': return put_fixed(writer, op->number, 1, 0, 0);
     case 'E':
-        if (!put_fixed(writer, op->number, 1, 0, 0))
+        if (put_fixed(writer, op->number, 1, 0, 0))
             return -1;
         put_leb(writer, op->number2, size > 1 ? size - 1 : 0, 0);
         return 0;

@@ -1,5 +1,5 @@
 /* The variables of object files that entries.py wrote: each has the value that its name says. */
-#include "../c/check.h"
+#include "check.h"
 #include "frame.h"
 #include <fcntl.h>
 #include <unistd.h>

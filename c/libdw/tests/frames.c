@@ -14,7 +14,7 @@
 #include <pthread.h>
 #include <stdlib.h>
 
-#include "../c/check.h"
+#include "check.h"
 #include "dwexpr_libdw.h"
 
 static dwexpr_libdw_target *target;

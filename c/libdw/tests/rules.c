@@ -1,5 +1,5 @@
 /* Expressions of call frame information: the bytes that the assembler was given, and what they come to. For x86-64. */
-#include "../c/check.h"
+#include "check.h"
 #include "dwexpr_libdw.h"
 #include <stdlib.h>
 #include <string.h>

@@ -1,6 +1,6 @@
 /* Values of expressions in a frame whose registers and memory are known, in both byte orders, and bytes that are put
  * together from operations. Expected bits are counted by hand. */
-#include "../c/check.h"
+#include "check.h"
 #include "frame.h"
 
 static uint8_t bytes[256], got[64], unknown[64], wanted[64];

@@ -1,5 +1,5 @@
 /* Many frames, and a parameter that goes through all of them. Its first word says where it stops. */
-#include "../libdw/stop.h"
+#include "../stop.h"
 
 __attribute__((noinline)) static long handed(int n, long given)
 {

@@ -2,7 +2,7 @@
 #include <stdio.h>
 #include <string.h>
 
-#include "../libdw/stop.h"
+#include "../stop.h"
 
 struct node { int key; struct node *next; };
 static struct node nodes[16];

@@ -1,7 +1,7 @@
 /* Variables of each integer type, in registers, in memory and as constants. Its first word says where it stops. */
 #include <stdint.h>
 
-#include "../libdw/stop.h"
+#include "../stop.h"
 
 enum color { RED, GREEN = 7, BLUE = -3 };
 struct point { int x, y; };

@@ -2,7 +2,7 @@
  * first word says where it stops. */
 #include <stdint.h>
 
-#include "../libdw/stop.h"
+#include "../stop.h"
 
 struct flags {
     unsigned low : 3, middle : 7, high : 13;

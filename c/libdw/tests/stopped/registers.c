@@ -2,7 +2,7 @@
  * word says where it stops. */
 #include <stdatomic.h>
 
-#include "../libdw/stop.h"
+#include "../stop.h"
 
 typedef long wide __attribute__((vector_size(32)));
 

@@ -3,7 +3,7 @@
 #include <cstdlib>
 #include <stdexcept>
 
-#include "../libdw/stop.h"
+#include "../stop.h"
 
 namespace outer {
 int shared = 9;

@@ -3,7 +3,7 @@
 #include <signal.h>
 #include <unistd.h>
 
-#include "../libdw/stop.h"
+#include "../stop.h"
 
 static void on_signal(int number)
 {

@@ -2,7 +2,7 @@
 #include <pthread.h>
 #include <unistd.h>
 
-#include "../libdw/stop.h"
+#include "../stop.h"
 
 static _Thread_local long own = 11;
 

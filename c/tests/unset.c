@@ -1,6 +1,6 @@
 /* Calls with memory that nothing has set. Under valgrind, a library that depends on such memory is seen; and so is a
  * field that it doesn't set, since all fields count here. */
-#include "../c/check.h"
+#include "check.h"
 
 static unsigned long sum(const void *memory, size_t size)
 {

@@ -4,7 +4,7 @@
  *     beside COUNT
  *
  * The last line is `N passed, M failed`, with one check for each kind of case, and one for all that has to be met. */
-#include "../c/made_up.h"
+#include "made_up.h"
 
 #define PROVED(name) extern __typeof__(name) proved_##name
 

@@ -47,6 +47,20 @@ int bcmp(const void *one, const void *other, size_t size)
 }
 #endif
 
+#ifdef __arm__
+/* What unwinds a stack, which tables name. Nothing unwinds here. */
+void __aeabi_unwind_cpp_pr0(void);
+void __aeabi_unwind_cpp_pr1(void);
+
+void __aeabi_unwind_cpp_pr0(void)
+{
+}
+
+void __aeabi_unwind_cpp_pr1(void)
+{
+}
+#endif
+
 void _start(void);
 
 /* Each call of the header. */

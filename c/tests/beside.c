@@ -92,7 +92,7 @@ static int evaluates(struct maker *made, dwexpr_evaluation *proved, dwexpr_evalu
 {
     static struct written one, other;
     dwexpr_step *steps = made->steps;
-    size_t room = below(3) ? PIECES : below(PIECES), count = 0;
+    size_t room = below(3) ? PIECES : size_below(PIECES), count = 0;
 
     steps[count++] = any_step(DWEXPR_SET_MAX_ITERATIONS, TEXTS);
     while (!below(3) && count < 4)
@@ -114,7 +114,7 @@ static int evaluates(struct maker *made, dwexpr_evaluation *proved, dwexpr_evalu
                                              &other.outcome, other.pieces, room);
     }
     while (is_same(&one, &other)) {
-        const size_t texts = below(24) ? TEXTS : below(TEXTS);
+        const size_t texts = below(24) ? TEXTS : size_below(TEXTS);
         if (one.code == DWEXPR_BAD_ENCODING || count == STEPS || (one.outcome.request <= 1 && below(4))) {
             fill(&one, &other);
             one.code = proved_dwexpr_evaluate(made->texts, texts, made->encoding, steps, count, &one.outcome,
@@ -141,7 +141,7 @@ static int computes(void)
     const dwexpr_value left = {(uint32_t)below(11), any_number()};
     const dwexpr_value right = {below(4) ? left.value_type : (uint32_t)below(11), any_number()};
     const uint64_t bytes = any();
-    const size_t length = below(9);
+    const size_t length = size_below(9);
     const uint8_t order = (uint8_t)below(3), encoding = (uint8_t)below(9);
     dwexpr_value one[4], other[4];
     int same = 1;

@@ -29,6 +29,11 @@ static dwexpr_text texts[TEXTS];
 static dwexpr_encoding encoding;
 static size_t bad, pieces_seen, requests_seen, late_seen, long_seen, empty_seen, text_seen[TEXTS];
 
+static size_t any_size(void)
+{
+    return (size_t)any();
+}
+
 static void put(struct text *text, uint8_t byte)
 {
     text->bytes[text->length++] = byte;
@@ -39,7 +44,7 @@ static void put_block(struct text *text, size_t index, int is_piece, size_t leng
 {
     struct block *block = &text->part[text->parts++];
     static const uint8_t sorts[] = {0, 0x96};
-    size_t sort = any() % 3;
+    size_t sort = any_size() % 3;
     put(text, is_piece ? 0x9e : 0xa3);
     if (length > 127)
         put(text, (uint8_t)(length % 128 + 128)), put(text, (uint8_t)(length / 128));
@@ -57,7 +62,7 @@ static void put_block(struct text *text, size_t index, int is_piece, size_t leng
 
 static size_t any_length(size_t most)
 {
-    size_t length = any() % 4 ? any() % 16 : any() % 160;
+    size_t length = any_size() % 4 ? any_size() % 16 : any_size() % 160;
     return length < most ? length : most;
 }
 
@@ -89,16 +94,16 @@ static void put_call(struct text *text, size_t called)
 static void make(size_t index, size_t count)
 {
     struct text *text = &made[index];
-    size_t left = any() % 12, last = index ? 0 : 10;
+    size_t left = any_size() % 12, last = index ? 0 : 10;
     memset(text, 0, sizeof *text);
     while (left-- && text->length + 12 + last < BYTES && text->steps + 1 < MOST) {
         const size_t spare = BYTES - 12 - last - text->length, length = any_length(spare);
-        const size_t called = index + 1 + (index + 1 < count ? any() % (count - index - 1) : 0);
+        const size_t called = index + 1 + (index + 1 < count ? any_size() % (count - index - 1) : 0);
         const int sort = any() % 8, is_odd = any() % 2;
         if (sort == 0)
-            put_nops(text, any() % spare, is_odd);
+            put_nops(text, any_size() % spare, is_odd);
         else if (sort == 1)
-            put_nops(text, any() % 40 % spare, is_odd);
+            put_nops(text, any_size() % 40 % spare, is_odd);
         else if (sort < 6)
             put_block(text, index, is_odd, length);
         else if (called < count && text->steps + made[called].steps + 1 < MOST &&
@@ -186,7 +191,7 @@ static void evaluate(const struct block *met, size_t count, dwexpr_evaluation *h
             bad += !want || !is_at(want, outcome.block_text, outcome.block_offset, outcome.block_length);
             step->kind = DWEXPR_ANSWER_ENTRY_VALUE;
         } else {
-            step->kind = DWEXPR_ANSWER_LOCATION, step->text = outcome.number;
+            step->kind = DWEXPR_ANSWER_LOCATION, step->text = (size_t)outcome.number;
         }
         length++;
         code = dwexpr_evaluation_resume(held, texts, TEXTS, *step, &outcome, pieces, DWEXPR_MAX_PIECES);
@@ -210,7 +215,7 @@ static void make_up(dwexpr_evaluation *held)
     static const char name[] = "made-up evaluations";
     size_t round, i;
     for (round = 0; round < ROUNDS; round++) {
-        size_t last = 1 + any() % TEXTS;
+        size_t last = 1 + any_size() % TEXTS;
         encoding = encoding_of(8, 4, 5, any() % 2);
         memset(texts, 0, sizeof texts);
         for (i = last; i--;)

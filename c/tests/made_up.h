@@ -13,6 +13,11 @@ static inline uint64_t below(uint64_t limit)
     return any() % limit;
 }
 
+static inline size_t size_below(size_t limit)
+{
+    return (size_t)below(limit);
+}
+
 /* Numbers that are mostly small, or at an end of a range. */
 static inline uint64_t any_number(void)
 {
@@ -131,7 +136,7 @@ static inline dwexpr_encoding any_encoding(void)
 /* A step of this kind, mostly with one of so many texts. A maximum is low, or more than there may be. */
 static inline dwexpr_step any_step(uint32_t kind, size_t texts)
 {
-    dwexpr_step step = {kind, below(4) ? DWEXPR_GENERIC : (uint32_t)below(11), any_number(), below(texts + 1)};
+    dwexpr_step step = {kind, below(4) ? DWEXPR_GENERIC : (uint32_t)below(11), any_number(), size_below(texts + 1)};
     if (kind == DWEXPR_SET_MAX_ITERATIONS)
         step.number = below(100) ? below(400) : any() | (uint64_t)1 << 32;
     return step;

@@ -374,7 +374,7 @@ static int give_front(void *number, int in_debug_info, uint64_t offset, dwexpr_t
     (void)number;
     (void)in_debug_info;
     text->bytes = sum;
-    text->length = offset;
+    text->length = (size_t)offset;
     return 0;
 }
 

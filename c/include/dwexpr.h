@@ -26,6 +26,8 @@
 #include <stddef.h>
 #include <stdint.h>
 
+#include "dwexpr_opcodes.h"
+
 #define DWEXPR_VERSION "0.1.0"
 #define DWEXPR_VERSION_NUMBER 100 /* 10,000 times the first number, 100 times the second, and the third */
 
@@ -69,7 +71,7 @@ enum dwexpr_code {
     DWEXPR_LOST_TEXT = 69,                      /* resume: the texts lack bytes of an earlier one */
     DWEXPR_TOO_MANY_TEXTS = 70,                 /* run: more texts are called than there is room for */
     DWEXPR_BAD_VALUE = 71,                      /* value: no such operation, type, byte order or mask */
-    DWEXPR_REFUSED = 72                         /* run: a callback refused */
+    DWEXPR_REFUSED = 72,                        /* run: a callback refused */
 };
 
 /* How to read an expression, from the header of its unit. */
@@ -139,7 +141,7 @@ enum dwexpr_operation_kind {
     DWEXPR_OP_WASM_LOCAL = 52,         /* number: index */
     DWEXPR_OP_WASM_GLOBAL = 53,        /* number: index */
     DWEXPR_OP_WASM_STACK = 54,         /* number: index */
-    DWEXPR_OP_VARIABLE_VALUE = 55      /* number: offset of an entry in .debug_info */
+    DWEXPR_OP_VARIABLE_VALUE = 55,     /* number: offset of an entry in .debug_info */
 };
 
 /* An operation. Fields that its kind doesn't name are 0. */
@@ -196,7 +198,7 @@ enum dwexpr_type {
     DWEXPR_I32 = 6,
     DWEXPR_U32 = 7,
     DWEXPR_I64 = 8,
-    DWEXPR_U64 = 9
+    DWEXPR_U64 = 9,
 };
 
 /* The bytes of an expression. */
@@ -221,7 +223,7 @@ enum dwexpr_step_kind {
     DWEXPR_ANSWER_RELOCATED = 13,   /* number: an address */
     DWEXPR_ANSWER_INDEXED = 14,     /* number: an address or a constant */
     DWEXPR_ANSWER_LOCATION = 15,    /* text: index of the text that is called; length 0 if there is none */
-    DWEXPR_ANSWER_BASE_TYPE = 16    /* value_type: the type */
+    DWEXPR_ANSWER_BASE_TYPE = 16,   /* value_type: the type */
 };
 
 typedef struct dwexpr_step {
@@ -247,7 +249,7 @@ enum dwexpr_request {
     DWEXPR_WANTS_BASE_TYPE = 12,    /* base_type */
     DWEXPR_WANTS_WASM_LOCAL = 13,   /* number: index */
     DWEXPR_WANTS_WASM_GLOBAL = 14,  /* number: index */
-    DWEXPR_WANTS_WASM_STACK = 15    /* number: index */
+    DWEXPR_WANTS_WASM_STACK = 15,   /* number: index */
 };
 
 /* What the steps led to. Fields that the request doesn't name are 0. */
@@ -276,7 +278,7 @@ enum dwexpr_piece_kind {
     DWEXPR_AT_ADDRESS = 3,          /* number: the address */
     DWEXPR_HOLDS_VALUE = 4,         /* value_type, number: it has this value and no place */
     DWEXPR_HOLDS_BYTES = 5,         /* block: it has these bytes and no place */
-    DWEXPR_POINTS_INTO = 6          /* number: offset of an object's entry in .debug_info; byte_offset into it */
+    DWEXPR_POINTS_INTO = 6,         /* number: offset of an object's entry in .debug_info; byte_offset into it */
 };
 
 /* A part of a variable, or all of it. Fields that its kind doesn't name are 0. */
@@ -477,42 +479,12 @@ static inline const char *dwexpr_code_name(uint32_t code)
 /* The name of an opcode, as "DW_OP_deref"; NULL if it is the opcode of no operation. */
 static inline const char *dwexpr_opcode_name(uint32_t opcode)
 {
-    static const char *const names[256] = {
-        NULL, NULL, NULL, "DW_OP_addr", NULL, NULL, "DW_OP_deref", NULL, "DW_OP_const1u", "DW_OP_const1s",
-        "DW_OP_const2u", "DW_OP_const2s", "DW_OP_const4u", "DW_OP_const4s", "DW_OP_const8u", "DW_OP_const8s",
-        "DW_OP_constu", "DW_OP_consts", "DW_OP_dup", "DW_OP_drop", "DW_OP_over", "DW_OP_pick", "DW_OP_swap",
-        "DW_OP_rot", "DW_OP_xderef", "DW_OP_abs", "DW_OP_and", "DW_OP_div", "DW_OP_minus", "DW_OP_mod", "DW_OP_mul",
-        "DW_OP_neg", "DW_OP_not", "DW_OP_or", "DW_OP_plus", "DW_OP_plus_uconst", "DW_OP_shl", "DW_OP_shr",
-        "DW_OP_shra", "DW_OP_xor", "DW_OP_bra", "DW_OP_eq", "DW_OP_ge", "DW_OP_gt", "DW_OP_le", "DW_OP_lt",
-        "DW_OP_ne", "DW_OP_skip", "DW_OP_lit0", "DW_OP_lit1", "DW_OP_lit2", "DW_OP_lit3", "DW_OP_lit4", "DW_OP_lit5",
-        "DW_OP_lit6", "DW_OP_lit7", "DW_OP_lit8", "DW_OP_lit9", "DW_OP_lit10", "DW_OP_lit11", "DW_OP_lit12",
-        "DW_OP_lit13", "DW_OP_lit14", "DW_OP_lit15", "DW_OP_lit16", "DW_OP_lit17", "DW_OP_lit18", "DW_OP_lit19",
-        "DW_OP_lit20", "DW_OP_lit21", "DW_OP_lit22", "DW_OP_lit23", "DW_OP_lit24", "DW_OP_lit25", "DW_OP_lit26",
-        "DW_OP_lit27", "DW_OP_lit28", "DW_OP_lit29", "DW_OP_lit30", "DW_OP_lit31", "DW_OP_reg0", "DW_OP_reg1",
-        "DW_OP_reg2", "DW_OP_reg3", "DW_OP_reg4", "DW_OP_reg5", "DW_OP_reg6", "DW_OP_reg7", "DW_OP_reg8",
-        "DW_OP_reg9", "DW_OP_reg10", "DW_OP_reg11", "DW_OP_reg12", "DW_OP_reg13", "DW_OP_reg14", "DW_OP_reg15",
-        "DW_OP_reg16", "DW_OP_reg17", "DW_OP_reg18", "DW_OP_reg19", "DW_OP_reg20", "DW_OP_reg21", "DW_OP_reg22",
-        "DW_OP_reg23", "DW_OP_reg24", "DW_OP_reg25", "DW_OP_reg26", "DW_OP_reg27", "DW_OP_reg28", "DW_OP_reg29",
-        "DW_OP_reg30", "DW_OP_reg31", "DW_OP_breg0", "DW_OP_breg1", "DW_OP_breg2", "DW_OP_breg3", "DW_OP_breg4",
-        "DW_OP_breg5", "DW_OP_breg6", "DW_OP_breg7", "DW_OP_breg8", "DW_OP_breg9", "DW_OP_breg10", "DW_OP_breg11",
-        "DW_OP_breg12", "DW_OP_breg13", "DW_OP_breg14", "DW_OP_breg15", "DW_OP_breg16", "DW_OP_breg17",
-        "DW_OP_breg18", "DW_OP_breg19", "DW_OP_breg20", "DW_OP_breg21", "DW_OP_breg22", "DW_OP_breg23",
-        "DW_OP_breg24", "DW_OP_breg25", "DW_OP_breg26", "DW_OP_breg27", "DW_OP_breg28", "DW_OP_breg29",
-        "DW_OP_breg30", "DW_OP_breg31", "DW_OP_regx", "DW_OP_fbreg", "DW_OP_bregx", "DW_OP_piece", "DW_OP_deref_size",
-        "DW_OP_xderef_size", "DW_OP_nop", "DW_OP_push_object_address", "DW_OP_call2", "DW_OP_call4", "DW_OP_call_ref",
-        "DW_OP_form_tls_address", "DW_OP_call_frame_cfa", "DW_OP_bit_piece", "DW_OP_implicit_value",
-        "DW_OP_stack_value", "DW_OP_implicit_pointer", "DW_OP_addrx", "DW_OP_constx", "DW_OP_entry_value",
-        "DW_OP_const_type", "DW_OP_regval_type", "DW_OP_deref_type", "DW_OP_xderef_type", "DW_OP_convert",
-        "DW_OP_reinterpret", NULL, NULL, NULL, NULL, NULL, NULL, NULL, NULL, NULL, NULL, NULL, NULL, NULL, NULL, NULL,
-        NULL, NULL, NULL, NULL, NULL, NULL, NULL, NULL, NULL, NULL, NULL, NULL, NULL, NULL, NULL, NULL, NULL, NULL,
-        NULL, NULL, NULL, NULL, NULL, NULL, NULL, NULL, NULL, NULL, NULL, NULL, NULL, NULL, NULL, NULL, NULL, NULL,
-        NULL, NULL, NULL, "DW_OP_GNU_push_tls_address", NULL, NULL, NULL, NULL, NULL, NULL, NULL, NULL, NULL, NULL,
-        NULL, NULL, "DW_OP_WASM_location", NULL, NULL, "DW_OP_GNU_uninit", NULL, "DW_OP_GNU_implicit_pointer",
-        "DW_OP_GNU_entry_value", "DW_OP_GNU_const_type", "DW_OP_GNU_regval_type", "DW_OP_GNU_deref_type",
-        "DW_OP_GNU_convert", NULL, "DW_OP_GNU_reinterpret", "DW_OP_GNU_parameter_ref", "DW_OP_GNU_addr_index",
-        "DW_OP_GNU_const_index", "DW_OP_GNU_variable_value", NULL, NULL,
-    };
-    return opcode < 256 ? names[opcode] : NULL;
+#define DWEXPR_NAME(number, name, form) case number: return name;
+    switch (opcode) {
+    DWEXPR_OPCODES(DWEXPR_NAME)
+    default: return NULL;
+    }
+#undef DWEXPR_NAME
 }
 
 #ifdef __cplusplus

@@ -16,22 +16,39 @@ extern "C" {
 /* What a request asks for, as "memory"; NULL if there is no such request. */
 static inline const char *dwexpr_request_name(uint32_t request)
 {
-    static const char *const names[] = {
-        "nothing", "complete", "memory", "a register", "the frame base", "thread-local storage",
-        "the canonical frame address", "an entry's location", "an entry value", "a parameter", "a relocated address",
-        "an entry of .debug_addr", "a base type", "a WebAssembly local", "a WebAssembly global",
-        "a WebAssembly stack value",
-    };
-    return request < sizeof names / sizeof *names ? names[request] : NULL;
+    switch (request) {
+    case DWEXPR_NOTHING: return "nothing";
+    case DWEXPR_COMPLETE: return "complete";
+    case DWEXPR_WANTS_MEMORY: return "memory";
+    case DWEXPR_WANTS_REGISTER: return "a register";
+    case DWEXPR_WANTS_FRAME_BASE: return "the frame base";
+    case DWEXPR_WANTS_TLS: return "thread-local storage";
+    case DWEXPR_WANTS_CFA: return "the canonical frame address";
+    case DWEXPR_WANTS_LOCATION: return "an entry's location";
+    case DWEXPR_WANTS_ENTRY_VALUE: return "an entry value";
+    case DWEXPR_WANTS_PARAMETER: return "a parameter";
+    case DWEXPR_WANTS_RELOCATED: return "a relocated address";
+    case DWEXPR_WANTS_INDEXED: return "an entry of .debug_addr";
+    case DWEXPR_WANTS_BASE_TYPE: return "a base type";
+    case DWEXPR_WANTS_WASM_LOCAL: return "a WebAssembly local";
+    case DWEXPR_WANTS_WASM_GLOBAL: return "a WebAssembly global";
+    case DWEXPR_WANTS_WASM_STACK: return "a WebAssembly stack value";
+    default: return NULL;
+    }
 }
 
 /* The name of a kind of piece, as "in memory"; NULL if there is no such kind. */
 static inline const char *dwexpr_piece_name(uint32_t kind)
 {
-    static const char *const names[] = {
-        NULL, "optimized away", "in a register", "in memory", "a value", "literal bytes", "an implicit pointer",
-    };
-    return kind < sizeof names / sizeof *names ? names[kind] : NULL;
+    switch (kind) {
+    case DWEXPR_EMPTY: return "optimized away";
+    case DWEXPR_IN_REGISTER: return "in a register";
+    case DWEXPR_AT_ADDRESS: return "in memory";
+    case DWEXPR_HOLDS_VALUE: return "a value";
+    case DWEXPR_HOLDS_BYTES: return "literal bytes";
+    case DWEXPR_POINTS_INTO: return "an implicit pointer";
+    default: return NULL;
+    }
 }
 
 /* Adds to a line of which `length` characters are there. Gives back the new length, which may be more than there is
@@ -60,27 +77,16 @@ static inline size_t dwexpr_add_block(char *line, size_t room, size_t length, dw
     return length;
 }
 
-/* The form of the operands of the operations of this opcode:
- *   .  no such operation     -  none                    a  address
- *   B H I Q  1, 2, 4 and 8 bytes without a sign         b h i q  with one
- *   u  unsigned LEB128       s  signed LEB128           R  register
- *   O  register, signed LEB128                          V  register, type
- *   P  bytes of a piece      K  bits of a piece and where they begin
- *   D  size in one byte      E  the same, type          T  type
- *   L  type, block of one byte's length                 k  block
- *   w x r  entry, at an offset in 2 and 4 bytes, and in .debug_info
- *   p  entry in .debug_info, signed LEB128              W  kind and index of WebAssembly
- * Registers, types, and what a piece has are unsigned LEB128. */
+/* The form of the operands of the operations of this opcode, as dwexpr_opcodes.h lists them; '.' if there is no such
+ * operation. */
 static inline char dwexpr_operand_form(uint32_t opcode)
 {
-    static const char forms[] =
-        "...a..-.BbHhIiQq" "us---B----------" "---u----h------h" /* 0x00 to 0x2f */
-        "----------------" "----------------" "----------------" /* 0x30 to 0x5f */
-        "----------------" "ssssssssssssssss" "ssssssssssssssss" /* 0x60 to 0x8f */
-        "RsOPDD--wxr--Kk-" "puukLVEETT......" "................" /* 0x90 to 0xbf */
-        "................" "................" "-............W.." /* 0xc0 to 0xef */
-        "-.pkLVET.Txuur..";                                      /* 0xf0 to 0xff */
-    return forms[opcode & 0xff];
+#define DWEXPR_FORM(number, name, form) case number: return form;
+    switch (opcode) {
+    DWEXPR_OPCODES(DWEXPR_FORM)
+    default: return '.';
+    }
+#undef DWEXPR_FORM
 }
 
 /* Writes an operation with its operands as a line, much as readelf and libdw do: "DW_OP_fbreg -20". An offset of an
@@ -91,8 +97,10 @@ static inline char dwexpr_operand_form(uint32_t opcode)
 static inline size_t dwexpr_operation_line(char *line, size_t room, const uint8_t *bytes,
                                            const dwexpr_operation *operation)
 {
-    static const char *const spaces[] = {"local", "global", "stack"};
     const dwexpr_operation *op = operation;
+    const char *space = op->kind == DWEXPR_OP_WASM_LOCAL    ? "local"
+                        : op->kind == DWEXPR_OP_WASM_GLOBAL ? "global"
+                                                            : "stack";
     const char *name = dwexpr_opcode_name(op->opcode);
     const dwexpr_text block = dwexpr_operation_block(op, bytes);
     size_t at = dwexpr_add_to_line(line, room, 0, "%s", name ? name : "fault");
@@ -121,8 +129,7 @@ static inline size_t dwexpr_operation_line(char *line, size_t room, const uint8_
         return dwexpr_add_block(line, room, at, block);
     case 'k': return dwexpr_add_block(line, room, at, block);
     case 'W':
-        return dwexpr_add_to_line(line, room, at, " %s, %" PRIu64, spaces[(op->kind - DWEXPR_OP_WASM_LOCAL) % 3],
-                                  op->number);
+        return dwexpr_add_to_line(line, room, at, " %s, %" PRIu64, space, op->number);
     default: return at;
     }
 }

@@ -1,4 +1,6 @@
-/* The names of codes and of opcodes, which a file has, and mostly libdw's dwarf.h too: names FILE [DWARF.H]. */
+/* The names of codes, requests and pieces, and of opcodes, which a file has, and mostly libdw's dwarf.h too:
+ * names DWEXPR.H FILE [DWARF.H]. */
+#include "dwexpr_names.h"
 #include "rows.h"
 
 /* Each opcode of a file has its name, in lines as `DW_OP_addr = 0x03` or `DW_OP_addr: DwOp = DwOp(0x03)`. Either the file
@@ -64,11 +66,33 @@ static void codes(void)
     check(named == count, "codes", "no others have names");
 }
 
+/* Each constant of an enum in the header has a name. */
+static void constants(const char *path, const char *name, const char *(*name_of)(uint32_t))
+{
+    FILE *file = opened(path);
+    char line[200], entry[80];
+    uint32_t number;
+    int is_within = 0, count = 0;
+    while (fgets(line, sizeof line, file)) {
+        is_within = strstr(line, name) == line || (is_within && line[0] != '}');
+        if (!is_within || sscanf(line, "    %79[A-Z_0-9] = %" SCNu32, entry, &number) != 2)
+            continue;
+        check(name_of(number) != NULL, entry, "a name");
+        count++;
+    }
+    fclose(file);
+    check(count > 5, name, "it is there");
+}
+
 int main(int argc, char **argv)
 {
+    const char *const header = argc > 1 ? argv[1] : NULL;
     int i;
-    for (i = 1; i < argc || i == 1; i++)
-        opcodes(argv[i], i == 1);
+    constants(header, "enum dwexpr_code {", dwexpr_code_name);
+    constants(header, "enum dwexpr_request {", dwexpr_request_name);
+    constants(header, "enum dwexpr_piece_kind {", dwexpr_piece_name);
+    for (i = 2; i < argc || i == 2; i++)
+        opcodes(i < argc ? argv[i] : NULL, i == 2);
     codes();
     return finish();
 }

@@ -15,14 +15,14 @@ import sys
 
 from unit import Unit, signed_leb, unsigned_leb
 
-# The operands of each form of dwexpr_names.h: a address, r offset in .debug_info, bBhHiIqQ as in struct, u and s
+# The operands of each form of dwexpr_opcodes.h: a address, r offset in .debug_info, bBhHiIqQ as in struct, u and s
 # LEB128, k a block of two bytes with its length as LEB128, c the same with its length in a byte.
 FORMS = {it: it for it in "aBbHhIiQqusrk"} | {"-": "", "R": "u", "O": "us", "V": "uu", "P": "u", "K": "uu", "D": "B"}
 FORMS |= {"E": "Bu", "T": "u", "L": "uc", "w": "H", "x": "I", "p": "rs"}
-HEADER = pathlib.Path(__file__).parents[2] / "include" / "dwexpr_names.h"
-TABLE = re.search(r"char forms\[\] =(.*?);", HEADER.read_text(encoding="utf-8"), re.DOTALL)[1]
+HEADER = pathlib.Path(__file__).parents[2] / "include" / "dwexpr_opcodes.h"
+ROWS = re.findall(r"row\(0x(\w+), \"\w+\", '(.)'\)", HEADER.read_text(encoding="utf-8"))
 # libdw knows no DW_OP_xderef_type and no DW_OP_GNU_uninit.
-OPERANDS = {opcode: FORMS[it] for opcode, it in enumerate("".join(re.findall(r'"(.*?)"', TABLE))) if it in FORMS}
+OPERANDS = {int(digits, 16): FORMS[form] for digits, form in ROWS if form in FORMS}
 del OPERANDS[0xA7], OPERANDS[0xF0]
 NUMBERS = [0, 1, 63, 64, 127, 128, 255, 300, 0x7FFF, 0x8000, 0xFFFF, 0x12345678, 2**31, 2**32 - 1, 2**62, 2**63 - 1]
 SIGNED = [*NUMBERS, *(-number for number in NUMBERS[1:]), -(2**63)]

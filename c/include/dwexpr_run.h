@@ -13,13 +13,16 @@ extern "C" {
 /* The version of the library that is linked, as DWEXPR_VERSION is that of the header. */
 const char *dwexpr_version(void);
 
-/* The texts of a run: first the expression, then each text that it called, once. The caller has room for them. Pieces
- * and outcomes name a text by its index here:
+/* The texts of a run: first the expression, then each text that it called. The caller has room for them. A text that is
+ * called again stands there once, unless more than DWEXPR_RUN_RECENT others were added since and there is room. Pieces and
+ * outcomes name a text by its index here:
  *
  *     dwexpr_text items[64];
  *     dwexpr_texts texts = {items, 64, 0};
  *     block = dwexpr_piece_block(&pieces[0], texts.items, texts.length);
  */
+#define DWEXPR_RUN_RECENT 64
+
 typedef struct dwexpr_texts {
     dwexpr_text *items;
     size_t room; /* at least 1 */
@@ -67,8 +70,8 @@ uint32_t dwexpr_run_in(dwexpr_evaluation *evaluation, const dwexpr_settings *set
 /* The most operations that dwexpr_run allows. */
 #define DWEXPR_RUN_OPERATIONS 100000
 
-/* The same with a maximum of DWEXPR_RUN_OPERATIONS and no other setting, in an evaluation on the stack, which it begins anew.
- * That alone takes about as long as a short expression: for many of them begin one, and call dwexpr_run_in. */
+/* The same with a maximum of DWEXPR_RUN_OPERATIONS and no other setting, in an evaluation on the stack, which it begins
+ * anew. That alone takes about as long as a short expression: for many of them begin one, and call dwexpr_run_in. */
 uint32_t dwexpr_run(dwexpr_text text, dwexpr_encoding encoding, const dwexpr_callbacks *calls, void *context,
                     int *refusal, dwexpr_texts *texts, dwexpr_outcome *outcome, dwexpr_piece *pieces,
                     size_t pieces_length);

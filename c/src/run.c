@@ -58,22 +58,27 @@ static int answer(const dwexpr_outcome *asked, const dwexpr_texts *texts, const 
     case DWEXPR_WANTS_BASE_TYPE:
         step->kind = DWEXPR_ANSWER_BASE_TYPE;
         return 0;
-    default: /* WebAssembly */
+    case DWEXPR_WANTS_WASM_LOCAL: case DWEXPR_WANTS_WASM_GLOBAL: case DWEXPR_WANTS_WASM_STACK:
         step->kind = DWEXPR_ANSWER_WASM;
         return calls->wasm ? calls->wasm(context, asked->request, asked->number, &step->value_type, number) : -1;
+    default: return -1; /* there is no such request */
     }
 }
 
-/* The index of a text in the table, to which it is added if it isn't there; the table's room if there is none. */
+/* The index of a text in the table, to which it is added if it isn't there; the table's room if there is none. As long
+ * as there is room only the last texts are looked at, so that a call doesn't take longer the more were called. */
 static size_t index_of(dwexpr_texts *texts, dwexpr_text called)
 {
+    const int has_room = texts->length < texts->room;
+    const size_t end = has_room && texts->length > DWEXPR_RUN_RECENT ? texts->length - DWEXPR_RUN_RECENT : 0;
     size_t i;
-    for (i = 0; i < texts->length; i++)
-        if (texts->items[i].bytes == called.bytes && texts->items[i].length == called.length)
-            return i;
-    if (i < texts->room)
-        texts->items[texts->length++] = called;
-    return i;
+    for (i = texts->length; i > end; i--)
+        if (texts->items[i - 1].bytes == called.bytes && texts->items[i - 1].length == called.length)
+            return i - 1;
+    if (!has_room)
+        return texts->room;
+    texts->items[texts->length] = called;
+    return texts->length++;
 }
 
 uint32_t dwexpr_run_in(dwexpr_evaluation *evaluation, const dwexpr_settings *settings, dwexpr_text text,

@@ -81,6 +81,16 @@ static void put_nops(struct text *text, size_t count, int is_skipped)
         put(text, 0x96);
 }
 
+/* A constant of 1, 2, 4 or 8 bytes, and DW_OP_drop. */
+static void put_constant(struct text *text, uint64_t size)
+{
+    unsigned bytes;
+    put(text, (uint8_t)(0x08 + 2 * size));
+    for (bytes = 1u << size; bytes; bytes--)
+        put(text, (uint8_t)(any() % 2 ? 0 : 0x96));
+    put(text, 0x13);
+}
+
 static void put_call(struct text *text, size_t called)
 {
     put(text, 0x98), put_number(text, (uint16_t)called);
@@ -102,6 +112,8 @@ static void make(size_t index, size_t count)
         const int sort = any() % 8, is_odd = any() % 2;
         if (sort == 0)
             put_nops(text, any_size() % spare, is_odd);
+        else if (sort == 1 && is_odd && spare > 10)
+            put_constant(text, any() % 4);
         else if (sort == 1)
             put_nops(text, any_size() % 40 % spare, is_odd);
         else if (sort < 6)
@@ -358,6 +370,29 @@ static void try_branches(dwexpr_evaluation *held)
     check(!wrong && tried > 131000, "branches", "each block is where it was read");
 }
 
+/* A block at each of many offsets of each of many texts that are called, in which the same bytes stand elsewhere. */
+static void try_offsets(dwexpr_evaluation *held)
+{
+    static const uint8_t call[] = {0x99, 0, 0, 0, 0};
+    static uint8_t bytes[100100];
+    size_t index, offset, wrong = 0, tried = 0;
+    table[0].bytes = call, table[0].length = sizeof call;
+    memset(bytes, 0x96, sizeof bytes);
+    for (index = 1; index < 200; index++)
+        table[index].bytes = bytes, table[index].length = 0;
+    for (index = 1; index < 200; index += 1 + index / 40)
+        for (offset = 3; offset < 100000; offset += 1 + offset / 16 + index % 3) {
+            /* operations that do nothing, and in front of the block its opcode and length */
+            uint8_t *block = bytes + offset;
+            block[-2] = 0xa3, block[-1] = 2;
+            table[index].length = offset + 2;
+            wrong += !is_shown(held, index, offset, 2);
+            block[-2] = block[-1] = 0x96;
+            tried++;
+        }
+    check(!wrong && tried > 5000, "offsets in called texts", "each block is where it was read");
+}
+
 /* A block in a text that is called. */
 static void try_texts(dwexpr_evaluation *held)
 {
@@ -392,6 +427,7 @@ int main(void)
     table[0].bytes = room;
     try_places(&held);
     try_branches(&held);
+    try_offsets(&held);
     try_texts(&held);
     return finish();
 }

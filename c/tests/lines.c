@@ -79,6 +79,39 @@ static void check_names(const char *what, const char *(*name_of)(uint32_t), cons
     }
 }
 
+/* Each register, and a block of each length, is shown whole. */
+static void long_lines(void)
+{
+    static uint8_t bytes[70010];
+    static char line[3 * sizeof bytes + 100], wanted[80];
+    dwexpr_operation operation;
+    uint32_t number;
+    size_t length, i;
+    memset(bytes, 0xab, sizeof bytes);
+    bytes[0] = 0x90; /* DW_OP_regx */
+    for (number = 0; number <= 0xffff; number++) {
+        bytes[1] = (uint8_t)(number | 0x80), bytes[2] = (uint8_t)(number >> 7 | 0x80), bytes[3] = (uint8_t)(number >> 14);
+        dwexpr_decode(bytes, 4, LE8, 0, &operation);
+        dwexpr_operation_line(line, sizeof line, bytes, &operation);
+        snprintf(wanted, sizeof wanted, "DW_OP_regx %u", (unsigned)number);
+        if (strcmp(line, wanted))
+            check(0, wanted, line);
+    }
+    check(number == 0x10000, "registers", "each is shown");
+    bytes[0] = 0x9e; /* DW_OP_implicit_value */
+    for (length = 0; length < 70000; length += 1 + length / 50) {
+        size_t got;
+        bytes[1] = (uint8_t)(length | 0x80), bytes[2] = (uint8_t)(length >> 7 | 0x80), bytes[3] = (uint8_t)(length >> 14);
+        dwexpr_decode(bytes, 4 + length, LE8, 0, &operation);
+        got = dwexpr_operation_line(line, sizeof line, bytes, &operation);
+        snprintf(wanted, sizeof wanted, "DW_OP_implicit_value %zu byte block:", length);
+        check(got == strlen(wanted) + 3 * length && strlen(line) == got, wanted, "the length");
+        for (i = 0; i < length && !strncmp(line + strlen(wanted) + 3 * i, " ab", 3); i++)
+            ;
+        check(!strncmp(line, wanted, strlen(wanted)) && i == length, wanted, "the bytes");
+    }
+}
+
 int main(void)
 {
     uint8_t bytes[64];
@@ -99,6 +132,11 @@ int main(void)
                   rows[i].line, "cut off");
         }
     }
+    for (i = 0; i < 1000; i++)
+        check((strchr("-aBHIQbhiqusRVOPKDETLkwxrpW", dwexpr_operand_form((uint32_t)i)) != NULL) ==
+                  (dwexpr_opcode_name((uint32_t)i) != NULL),
+              "the form of operands", "each opcode has one");
+    long_lines();
     check_names("a request", dwexpr_request_name, requests, sizeof requests / sizeof *requests);
     check_names("a piece", dwexpr_piece_name, pieces, sizeof pieces / sizeof *pieces);
     return finish();

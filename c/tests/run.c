@@ -1,5 +1,6 @@
 /* The callbacks of dwexpr_run, the texts that a run gives back, and the blocks of these texts. */
 #include <limits.h>
+#include <time.h>
 
 #include "check.h"
 #include "dwexpr_run.h"
@@ -76,6 +77,17 @@ static int give_type(void *number, uint64_t offset, uint32_t *value_type)
     if (left)
         *value_type = (uint32_t)offset;
     return status;
+}
+
+static uint32_t type_written;
+
+static int refuse_type(void *number, uint64_t offset, uint32_t *value_type)
+{
+    (void)number;
+    (void)offset;
+    if (type_written)
+        *value_type = type_written;
+    return 79;
 }
 
 static int give_wasm(void *number, uint32_t request, uint64_t index, uint32_t *value_type, uint64_t *content)
@@ -160,8 +172,12 @@ static void callbacks(void)
         check(outcome.value_type == DWEXPR_GENERIC, name, "the type");
         if (strcmp(rows[i].name, "relocated"))
             check(is_refused(rows[i].name, rows[i].bytes, &none, 0), name, "no callback");
-        for (j = 0; j < sizeof refusals / sizeof *refusals; j++)
+        for (j = 0; j < sizeof refusals / sizeof *refusals; j++) {
             check(is_refused(rows[i].name, rows[i].bytes, &all, refusals[j]), name, "a refusal");
+            left = 0;
+            check(is_refused(rows[i].name, rows[i].bytes, &all, refusals[j]), name, "a refusal that writes nothing");
+            left = SIZE_MAX;
+        }
         snprintf(after_another, sizeof after_another, "77 00 %s", rows[i].bytes);
         left = 1;
         check(run(rows[i].name, after_another, &all) == 0, name, "no answer: the result");
@@ -178,6 +194,50 @@ static void callbacks(void)
     check(run("a fault", "01", &all) == DWEXPR_INVALID_EXPRESSION, name, "it");
     check(run("a branch for ever", "2f fdff", &all) == DWEXPR_TOO_MANY_ITERATIONS, name, "it");
     check(run("many answers", "77 00 13 2f faff", &all) == DWEXPR_TOO_MANY_ITERATIONS, name, "it");
+}
+
+/* What is asked carries each number whole: a register, an address, an address space, and the bytes to be read. */
+static void numbers(void)
+{
+    static const uint32_t registers[] = {127, 128, 255, 256, 1000, 0x7fff, 0x8000, 0xffff};
+    char digits[80];
+    unsigned i, bit;
+    name = "numbers of requests";
+    for (i = 0; i < 40 + COUNT(registers); i++) {
+        const uint32_t number = i < 40 ? i : registers[i - 40];
+        const unsigned low = number & 0x7f, middle = number >> 7 & 0x7f, high = number >> 14;
+        snprintf(digits, sizeof digits, "92 %02x %02x %02x 00", low | 0x80, middle | 0x80, high);
+        check(run(name, digits, &all) == 0 && outcome.value == 100 + number, digits, "a register");
+        snprintf(digits, sizeof digits, "a5 %02x %02x %02x 09 9f", low | 0x80, middle | 0x80, high);
+        check(run(name, digits, &all) == 0 && pieces[0].value_type == DWEXPR_U64 && pieces[0].number == 100 + number,
+              digits, "a register of a base type");
+    }
+    for (bit = 0; bit < 64; bit++)
+        for (i = 0; i < 2; i++) {
+            const uint64_t number = ((uint64_t)1 << bit) + i;
+            uint8_t *at = bytes, *const end = bytes + sizeof bytes;
+            dwexpr_text text = {bytes, 0};
+            unsigned byte;
+            memset(bytes, 0x96, (size_t)(end - at));
+            *at++ = 0x0e; /* DW_OP_const8u */
+            for (byte = 0; byte < 64; byte += 8)
+                *at++ = (uint8_t)(number >> byte);
+            at[0] = 0x06; /* DW_OP_deref */
+            text.length = 10;
+            check(dwexpr_run(text, LE8, &all, &context, &refusal, &texts, &outcome, pieces, MANY) == 0 &&
+                      outcome.value == 100 + number + 8,
+                  name, "an address");
+            at[0] = 0x3a, at[1] = 0x18; /* DW_OP_lit10 and DW_OP_xderef */
+            text.length = 11;
+            check(dwexpr_run(text, LE8, &all, &context, &refusal, &texts, &outcome, pieces, MANY) == 0 &&
+                      outcome.value == 100 + 10 + 8 + 1000 + number,
+                  name, "an address space");
+        }
+    for (i = 0; i <= 8; i++) {
+        snprintf(digits, sizeof digits, "3a 94 %02x", i);
+        check(run(name, digits, &all) == 0 && outcome.value == 110 + i, digits, "a read of so many bytes");
+        check(is_refused(name, digits, &none, 0), digits, "a read that nobody answers");
+    }
 }
 
 /* Each operation that names a base type. Another one was asked for before it. */
@@ -197,7 +257,7 @@ static void base_types(void)
         {"xderef_type", "31 a8 07 13 37 3a a7 02 04 9f", DWEXPR_I16, 1119},
     };
     dwexpr_callbacks untyped = all;
-    size_t i;
+    size_t i, j;
     untyped.base_type = NULL;
     for (i = 0; i < sizeof rows / sizeof *rows; i++) {
         const char *digits = rows[i].bytes;
@@ -210,6 +270,13 @@ static void base_types(void)
         left = 0;
         check(is_refused(rows[i].name, digits, &all, 0), name, "no type");
         left = SIZE_MAX;
+        /* by the callback of the type alone, which has written one or not */
+        untyped.base_type = refuse_type;
+        for (j = 0; j < 2; j++) {
+            type_written = j ? DWEXPR_U8 : DWEXPR_NO_TYPE;
+            check(run(rows[i].name, digits, &untyped) == DWEXPR_REFUSED && refusal == 79, name, "a refused type");
+        }
+        untyped.base_type = NULL;
     }
     if (sizeof(size_t) == 8)
         check(is_refused("a type that there isn't", "31 a8 8080808010", &all, 0), "a type that there isn't", "it");
@@ -390,6 +457,146 @@ static int give_many(void *number, int in_debug_info, uint64_t offset, dwexpr_te
     return 0;
 }
 
+/* ---- tables of many texts */
+
+enum { MOST_TEXTS = 64000 };
+
+static uint8_t many_bytes[MOST_TEXTS];
+static dwexpr_text many_items[MOST_TEXTS + 1];
+
+/* The text at an offset: one literal, at a place of its own. */
+static int give_own(void *number, int in_debug_info, uint64_t offset, dwexpr_text *text)
+{
+    (void)number;
+    (void)in_debug_info;
+    text->bytes = many_bytes + offset;
+    text->length = 1;
+    return 0;
+}
+
+/* Calls the texts of these offsets one after another and drops what they push, in a table with this room. */
+static uint32_t call_each(size_t count, const uint32_t *offsets, size_t room)
+{
+    static uint8_t calls[6 * 2 * MOST_TEXTS];
+    const dwexpr_settings settings = {.max_iterations = UINT32_MAX};
+    static uint64_t memory[DWEXPR_EVALUATION_SIZE / 8];
+    dwexpr_evaluation evaluation = {memory};
+    dwexpr_callbacks callbacks_of_texts = none;
+    dwexpr_texts table = {many_items, room, 0};
+    dwexpr_text text = {calls, 6 * count};
+    size_t i;
+    for (i = 0; i < count; i++) {
+        uint8_t *at = &calls[6 * i];
+        unsigned byte;
+        *at++ = 0x99; /* DW_OP_call4 */
+        for (byte = 0; byte < 32; byte += 8)
+            *at++ = (uint8_t)(offsets[i] >> byte);
+        *at = i + 1 < count ? 0x13 : 0x96; /* DW_OP_drop, but for the last */
+    }
+    callbacks_of_texts.location = give_own;
+    dwexpr_evaluation_begin(&evaluation);
+    return dwexpr_run_in(&evaluation, &settings, text, LE8, &callbacks_of_texts, NULL, &refusal, &table, &outcome, pieces,
+                         MANY);
+}
+
+/* Each text of a full table is found again, and one that isn't there has no room. */
+static void full_tables(void)
+{
+    static uint32_t offsets[2 * MOST_TEXTS];
+    size_t count, i;
+    name = "a full table";
+    for (i = 0; i < MOST_TEXTS; i++)
+        many_bytes[i] = (uint8_t)(0x30 + i % 32);
+    for (count = 1; count <= 300; count += count < 70 ? 1 : 23)
+        for (i = 0; i <= count; i++) {
+            size_t j;
+            for (j = 0; j < count; j++)
+                offsets[j] = (uint32_t)j;
+            offsets[count] = (uint32_t)i;
+            if (i < count)
+                check(call_each(count + 1, offsets, count + 1) == 0 && outcome.value == i % 32, name, "a text in it");
+            else
+                check(call_each(count + 1, offsets, count + 1) == DWEXPR_TOO_MANY_TEXTS, name, "another text");
+        }
+}
+
+static double seconds(void)
+{
+    return (double)clock() / CLOCKS_PER_SEC;
+}
+
+/* A call takes as long after many texts as after few. */
+static void long_tables(void)
+{
+    static uint32_t offsets[2 * MOST_TEXTS];
+    double least[2] = {1e9, 1e9};
+    size_t i, round, size;
+    name = "many texts";
+    for (i = 0; i < 2 * MOST_TEXTS; i++)
+        offsets[i] = (uint32_t)(i % MOST_TEXTS);
+    for (round = 0; round < 3; round++)
+        for (size = 0; size < 2; size++) {
+            const size_t count = size ? MOST_TEXTS : 1000, times = MOST_TEXTS / count;
+            const double begin = seconds();
+            double took;
+            for (i = 0; i < times; i++)
+                check(call_each(count, offsets, MOST_TEXTS + 1) == 0, name, "the result");
+            took = seconds() - begin;
+            least[size] = took < least[size] ? took : least[size];
+        }
+    printf("%.0f ns a call of 1,000 texts, %.0f of 64,000\n", 1e9 * least[0] / MOST_TEXTS, 1e9 * least[1] / MOST_TEXTS);
+    check(least[1] < 8 * least[0] + 0.01, name, "a call takes as long");
+}
+
+/* ---- a run within a callback of another one */
+
+struct nested {
+    int depth;
+    uint64_t value;
+};
+
+static int run_nested(void *nested, uint64_t *address)
+{
+    static const uint8_t on_cfa[] = {0x33, 0x9c, 0x22}; /* 3, DW_OP_call_frame_cfa, DW_OP_plus */
+    const dwexpr_text text = {on_cfa, sizeof on_cfa};
+    const struct nested *outer = nested;
+    struct nested inner = {outer->depth - 1, outer->value + 1};
+    dwexpr_callbacks calls = none;
+    dwexpr_text own[1];
+    dwexpr_texts table = {own, 1, 0};
+    dwexpr_outcome ended;
+    dwexpr_piece piece;
+    calls.cfa = run_nested;
+    if (!outer->depth) {
+        *address = outer->value;
+        return 0;
+    }
+    if (dwexpr_run(text, LE8, &calls, &inner, NULL, &table, &ended, &piece, 1))
+        return 1;
+    *address = ended.value;
+    return 0;
+}
+
+static void nested_runs(void)
+{
+    int depth;
+    name = "runs within callbacks";
+    for (depth = 0; depth < 20; depth++) {
+        struct nested outermost = {depth, 1000};
+        uint64_t address = 0;
+        check(run_nested(&outermost, &address) == 0, name, "the result");
+        check(address == 1000 + 4 * (uint64_t)depth, name, "the value");
+    }
+}
+
+/* The parts of the version are those of its number. */
+static void version(void)
+{
+    unsigned first = 0, second = 0, third = 0;
+    check(sscanf(dwexpr_version(), "%u.%u.%u", &first, &second, &third) == 3, "the version", "three numbers");
+    check(DWEXPR_VERSION_NUMBER == 10000 * first + 100 * second + third, "the version", "its number");
+}
+
 static void tables(void)
 {
     dwexpr_callbacks calls = all;
@@ -413,6 +620,7 @@ int main(void)
     context = 100;
     left = SIZE_MAX;
     callbacks();
+    numbers();
     base_types();
     operations();
     arguments();
@@ -420,5 +628,9 @@ int main(void)
     bounds();
     freed();
     tables();
+    full_tables();
+    long_tables();
+    nested_runs();
+    version();
     return finish();
 }

@@ -177,6 +177,7 @@ static void types(void)
 {
     static const uint32_t sizes[] = {0, 32, 8, 8, 16, 16, 32, 32, 64, 64, 0};
     uint32_t type, wanted;
+    unsigned bit;
     uint64_t size;
     for (type = 0; type < COUNT(sizes); type++)
         check(dwexpr_type_bit_size(type, MASK) == sizes[type], "bit size", "of a type");
@@ -189,6 +190,14 @@ static void types(void)
         check(dwexpr_type_from_encoding(7, size) == (wanted ? wanted + 1 : NONE), "encoding", "unsigned");
         check(dwexpr_type_from_encoding(4, size) == NONE, "encoding", "floating point");
     }
+    for (bit = 4; bit < 64; bit++)
+        for (size = 0; size < 16; size++) {
+            const uint64_t large = ((uint64_t)1 << bit) + size;
+            check(dwexpr_type_from_encoding(5, large) == NONE && dwexpr_type_from_encoding(7, large) == NONE, "encoding",
+                  "of a large size");
+        }
+    for (type = 0; type < 256; type++)
+        check((dwexpr_type_from_encoding((uint8_t)type, 4) == NONE) == (type != 5 && type != 7), "encoding", "another");
 }
 
 int main(void)

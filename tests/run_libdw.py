@@ -26,8 +26,11 @@ import pathlib
 import platform
 import re
 import shutil
+import signal
 import struct
+import subprocess
 import sys
+import time
 
 import checks
 import compare_gdb
@@ -164,6 +167,23 @@ INNERMOST = "inner = 43"
 WANTED = ["in middle", INNERMOST, "n = 6", "square = 36", "in outermost", "n = 3", "twice = 6", "in main", "argc = 2"]
 
 
+# The variables of these names in the innermost frame that has one, whether or not it is the first.
+VARIABLES = [INNERMOST, "n = 6", "square = 36", "twice = 6", "argc = 2"]
+
+
+def in_library(folder, variable):
+    """examples/variable.c on a process that waits in the C library."""
+    program = folder / "waiting"
+    if not variable or not check("waiting.c: build", ["cc", "-g", "-O0", TESTS / "waiting.c", "-o", program]):
+        return
+    with subprocess.Popen([program], stdin=subprocess.PIPE) as process:
+        time.sleep(1)
+        process.send_signal(signal.SIGSTOP)
+        prints("examples/variable.c, in the C library", [variable, process.pid, "answer"], "answer = 42\n")
+        prints("examples/variable.c, in no frame", [variable, process.pid, "number"], "", 1)
+        process.kill()
+
+
 def where_on(words, where, checked):
     """examples/where.c by itself, with the sanitizers and under valgrind."""
     done = check(f"examples/where.c {words[0]}", [where, *words])
@@ -180,13 +200,18 @@ def examples(folder):
     """The examples on a stopped process and on its core dump."""
     variable = built("examples/variable.c", folder / "variable", "-O2")
     checked = built("examples/where.c", folder / "where_checked", *SANITIZERS)
+    in_library(folder, variable)
     where, program = built_where(folder), folder / "pieces.c-cc-O0"
     with stopped_at(folder, "pieces.c", "cc", ["-O0"], PLACE) as process:
         if not (variable and where and checked and process):
             return left_out("the examples on a stopped process", "process that stops")
         for words in ([variable, NO_PROCESS, "inner"], [where, "--pid", NO_PROCESS], [where, "--core", program]):
             prints(f"{words[0].name} on nothing", words, "", 2)
-        prints("examples/variable.c", [variable, process.pid, INNERMOST.split()[0]], INNERMOST + "\n")
+        for line in VARIABLES:
+            prints("examples/variable.c", [variable, process.pid, line.split()[0]], line + "\n")
+        done = run([variable, process.pid, "middle"])
+        said = (done.stdout, done.stderr, done.returncode)
+        expect(said == ("", "no frame has a variable middle\n", 1), "examples/variable.c, a function", said)
         if not lacks("c/libdw/tests/stack.cpp", "c++"):
             if stack := built("tests/stack.cpp", folder / "stack", cc=("c++", "-std=c++17")):
                 prints("stack.cpp", [stack, process.pid], "middle\n")

@@ -8,6 +8,7 @@ A command ends with status 0, or with one line on standard error that says why n
 import argparse
 import contextlib
 import fcntl
+import json
 import os
 import pathlib
 import shutil
@@ -22,6 +23,8 @@ NAME = os.path.relpath(pathlib.Path(sys.argv[0]).resolve(), TOP)
 STOPPING = (signal.SIGINT, signal.SIGTERM, signal.SIGHUP)
 # Where a program comes from, if that isn't plain.
 FROM = {"rt": ": add the folder bin of the Rattle kit", "cc": ": add a C compiler"}
+# The crates that features of the Rust crate need, each with the variable that names its folder.
+NEEDED = {"gimli": "DWEXPR_GIMLI", "arrayvec": "DWEXPR_ARRAYVEC"}
 # How long a program that is told to stop may take.
 PATIENCE = 20
 
@@ -125,6 +128,18 @@ def run(*words, **settings):
     if ran.returncode:
         raise Failure(f"{pathlib.Path(words[0]).name} {ended(ran.returncode)}", ran.stdout + ran.stderr)
     return ran.stdout
+
+
+def features():
+    """The features of the Rust crate whose crates are in folders that are named."""
+    return [name for name, variable in NEEDED.items() if os.environ.get(variable)]
+
+
+def patches():
+    """What tells Cargo where those crates are, since there is no network. Without a folder an empty package stands in."""
+    stand_ins = TOP / "tests/crate/stand_ins"
+    places = {name: os.environ.get(variable) or str(stand_ins / name) for name, variable in NEEDED.items()}
+    return ["--offline", *(f"--config=patch.crates-io.{name}.path={json.dumps(it)}" for name, it in places.items())]
 
 
 def need(*programs):

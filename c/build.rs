@@ -2,8 +2,10 @@
 //! programs that are linked with it ask for it. While the first number of the version is 0, each second number may have
 //! other calls.
 
-#[path = "../rust/build/strip.rs"]
-mod strip;
+#[path = "../rust/build/contracts.rs"]
+mod contracts;
+#[path = "../rust/build/sources.rs"]
+mod sources;
 
 const CRATES: &[(&str, &str)] = &[
     ("dwarf_base", "base"),
@@ -14,16 +16,17 @@ const CRATES: &[(&str, &str)] = &[
     ("dwarf_replay", "replay"),
     ("dwexpr_c", "c"),
 ];
-// Lists of the kit's.
-const BY_HAND: &[&str] = &["eval/store/heap.rs", "eval/eval/heap.rs", "eval/store/arrays.rs"];
+// Their lists take an allocator, which C has none of.
+const LEFT_OUT: &[&str] = &["dwarf_eval/src/store/heap.rt", "dwarf_eval/src/eval/heap.rt"];
 // Much of what the crates below have is for Rust.
 const ALLOWED: &str = "#![allow(dead_code, unused_imports, unused_variables, non_upper_case_globals, clippy::all)]";
 
 fn main() {
-    let mut sources = strip::Sources::read("..", CRATES, BY_HAND);
-    sources.apply("both");
-    sources.apply("c");
-    sources.write(ALLOWED);
+    let mut sources = sources::Sources::read("..", CRATES, LEFT_OUT);
+    sources.check_preconditions("c/preconditions", |path| path.starts_with("crates/dwexpr_c/"));
+    sources.apply("rust/build/rows/both");
+    sources.apply("rust/build/rows/c");
+    sources.write(ALLOWED, "use crate::casts::{IntoSigned as _, IntoUnsigned as _};");
     let set = |name: &str| std::env::var(name).expect("Cargo sets it");
     let version = format!("{}.{}", set("CARGO_PKG_VERSION_MAJOR"), set("CARGO_PKG_VERSION_MINOR"));
     match set("CARGO_CFG_TARGET_OS").as_str() {

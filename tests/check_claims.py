@@ -88,13 +88,13 @@ def in_c():
 
 def in_rust():
     """Each program in Rust prints what it says."""
-    if lacks("the programs in Rust", "rustc", "rustfmt"):
+    if lacks("the programs in Rust", "rustc"):
         return
     with commands.temporary() as folder:
         # Without Cargo, which would look for the crates of the features. It would turn on the default one.
         words = ["rustc", "--edition", "2024", "--cfg", 'feature="alloc"']
         library = ["--crate-type", "lib", "--crate-name", "dwexpr", TOP / "rust/src/lib.rs"]
-        check("the crate by rustc", [*words, *library], cwd=folder, env=checks.strip(TOP, folder))
+        check("the crate by rustc", [*words, *library], cwd=folder, env=checks.strip("rust", TOP, folder))
         for page, _, program, wanted in programs("rust", "fn main("):
             (folder / "program.rs").write_text(program)
             if check(f"{page}: rustc", [*words, "--extern", "dwexpr=libdwexpr.rlib", "program.rs"], cwd=folder):

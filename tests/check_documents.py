@@ -37,10 +37,10 @@ DEFINITIONS = "docs/DEFINITIONS.md"
 PROOFS = "docs/PROOFS.md"
 SPEED = "docs/SPEED.md"
 # Folders of what is built or kept beside the repository, and no part of it; and those of a package.
-BESIDE = {"out", "build", "target", "__pycache__", ".git", "dist", "lib", "share"}
+BESIDE = {"out", "target", "__pycache__", ".git", "dist", "lib", "share"}
 GUIDE = "docs/GUIDE.md"
-# Paths in the documents that lead nowhere here: files of gimli's, and a folder that bin/crate writes.
-PATHS_ELSEWHERE = {"src/read/op.rs", "src/read/value.rs", "op.rs", "value.rs", "src/sources"}
+# Paths in the documents that lead nowhere here: files of gimli's.
+PATHS_ELSEWHERE = {"src/read/op.rs", "src/read/value.rs", "op.rs", "value.rs"}
 
 QUOTED = re.compile(r"`([^`\n]+)`")
 LINK = re.compile(r"\]\(([^)#]+)")

@@ -1,12 +1,15 @@
 #!/usr/bin/env python3
-"""Runs the build scripts of the Rust crate and of the library for C, and compares each token that they leave of the
-proved sources with what another reader leaves, and the number of its line. That one goes by tokens, and refuses what it
-doesn't know. Then it changes sources, as tests/crate/changes says, each of which it has to refuse or to take.
+"""Judges what the build scripts of the Rust crate and of the library for C make of the proved sources, by a second reader
+of them, which goes by tokens and refuses what it doesn't know.
+
+- Each token that is written is the one that this reader has after the rows, docs too, and each line has its number.
+- No row adds code: what a function does, and what a constant is, stays as it is proved but for the places in CODE.
+- The preconditions of public functions are those that the lists name, which say what checks each.
+- Of the edits in tests/strip it sees each mutant, and takes each that needs no other change.
 
 It wants rustc, and no Rattle kit. The last line is `N passed, M failed`.
 """
 
-import os
 import re
 import shutil
 import typing
@@ -14,39 +17,103 @@ import typing
 import checks
 import tokens
 from checks import commands, expect, sources
-from commands import TOP
+from commands import TOP, Failure
+from tokens import split
 
-# The precondition of the calls on values that get another name. What is written by hand checks it.
-MASK = "IsAddressMask addr_mask"
-# The preconditions of exports. What is written by hand says that the caller sees to them.
-EXPORTS = [
-    ("dwexpr_evaluation_begin", "evaluation . old . held ≡ None"),
-    ("dwexpr_evaluation_evaluate", "IsBegun evaluation . old . held"),
-    ("dwexpr_evaluation_resume", "IsBegun evaluation . old . held"),
-    ("dwexpr_evaluation_start", "IsBegun evaluation . old . held"),
-]
+# Words that rows put into code, and the words there; another one ends with `_unchecked`, and is what has a precondition.
+WORDS = {"into_signed": "cast_signed", "into_unsigned": "cast_unsigned"}
+# The code that rows change: the source, the function, what stands in it once, and what is put there.
+CODE = {
+    "rust": [
+        ("dwarf_base/src/reading", "copy_of", "*it", "it.clone()"),
+        # It is deleted: what is written by hand has the name, and gives an address.
+        ("dwarf_base/src/slices", "offset_id", "{ ReaderOffsetId(0) }", ""),
+        ("dwarf_op/src/decoding", "block", "ImplicitValue { bytes", "ImplicitValue { data"),
+        ("dwarf_eval/src/run/operations", "operate_in_place", "ImplicitValue { bytes", "ImplicitValue { data: bytes"),
+    ],
+    "c": [
+        ("dwexpr_c/src/steps", "bytes_of", "if text.bytes.is_empty() { &[] } else { text.bytes }", "text.bytes.slice()"),
+    ],
+}
+# What each file ends with.
+IMPORT = "use crate::casts::{IntoSigned as _, IntoUnsigned as _};\n"
+# The module of them all.
+MODULES = re.compile(r"(#!\[allow\([\w:, ]+\)\]\n)+\n(pub mod \w+;\n)+")
 
 
 class Package(typing.NamedTuple):
-    """A build script: its path, the folder of its package, its rows, and whether it renames calls with a mask."""
+    """A package: the path of its build script, its folder, the files of its rows and preconditions, the folder of the
+    functions that have those, the precondition of the methods that get another name, and the folder of its pages."""
 
     script: str
     folder: str
     rows: list
-    has_masks: bool
+    preconditions: str
+    public: str
+    renamed: str
+    pages: str
 
 
 PACKAGES = {
-    "rust": Package("rust/build/main.rs", ".", ["both", "rust"], True),
-    "c": Package("c/build.rs", "c", ["both", "c"], False),
+    "rust": Package(
+        script="rust/build/main.rs",
+        folder=".",
+        rows=["both", "rust"],
+        preconditions="rust/build/preconditions",
+        public="crates/",
+        renamed="IsAddressMask addr_mask",
+        pages="rust/src/pages",
+    ),
+    "c": Package(
+        script="c/build.rs",
+        folder="c",
+        rows=["both", "c"],
+        preconditions="c/preconditions",
+        public="crates/dwexpr_c/",
+        renamed="",
+        pages="",
+    ),
 }
 
 
-def rename_masked(found):
-    names = [name for source in found.values() for name, condition in source.conditions if condition == MASK]
-    others = sum(len(source.conditions) for source in found.values()) - len(names)
-    if (len(names), others) != (24, 27):
-        raise commands.Failure(f"public functions have {len(names)} preconditions on masks, and {others} others")
+def read_sources(top, package, places):
+    """The sources of a package without contracts, each by its place in the module `sources`; and its crates."""
+    text = (top / package.script).read_text(encoding="utf-8")
+    crates = dict(re.findall(r'^    \("(\w+)", "(\w+)"\),$', text, re.MULTILINE))
+    found = {}
+    for crate, name in crates.items():
+        folder = top / "crates" / crate / "src"
+        for path in sorted(folder.rglob("*.rt")):
+            place = re.sub("/lib$", "/mod", f"{name}/{path.relative_to(folder).with_suffix('')}")
+            if place in places:
+                text = path.read_text(encoding="utf-8")
+                found[place] = tokens.without_contracts(str(path.relative_to(top)), text).copy()
+    return found, crates
+
+
+def check_preconditions(top, package, found):
+    """Refuses preconditions that a package doesn't name, and such as it names and aren't there."""
+    text = (top / package.preconditions).read_text(encoding="utf-8")
+    lines = [line.rpartition(": ") for line in text.splitlines() if ": " in line and line[0] != "#"]
+    listed = sorted(f"{name}: {' '.join(split(condition))}" for condition, _, names in lines for name in names.split())
+    public = [source for source in found.values() if source.path.startswith(package.public)]
+    there = sorted(f"{name}: {condition}" for source in public for name, condition in source.conditions)
+    if differs := sources.difference(listed, there, 1):
+        raise Failure(f"{package.preconditions} has other preconditions: {differs}")
+
+
+def apply_rows(top, package, found):
+    """Applies the rows by this reader."""
+    for place, old, new in (row for it in package.rows for row in sources.changes_in(top / "rust/build/rows" / it)):
+        of = [source for source in found.values() if place in ("everywhere", source.path)]
+        met = sum(source.replace_each(old, new.replace("$crate", "crate")) for source in of)
+        if met != 1 and (place != "everywhere" or not met):
+            raise Failure(f"a row is met {met} times: {place}: {old}")
+
+
+def rename(package, found):
+    """Gives the methods with a mask for a precondition their other name, in each call too."""
+    names = {name for source in found.values() for name, condition in source.conditions if condition == package.renamed}
     for source in found.values():
         for at in range(len(source.code)):
             if source.word(at) in names and source.word(at - 1) in ("fn", ".") and source.word(at + 1) == "(":
@@ -58,105 +125,175 @@ def rename_masked(found):
         source.settle()
 
 
-def root_paths(crates, name, source):
-    """Lets paths begin at the module that a crate becomes. Refuses those of unknown crates, and bounds by `Drop`."""
+def check_paths(crates, source):
+    """Refuses paths of unknown crates, and bounds by `Drop`."""
     modules = {source.word(at + 1) for at in range(len(source.code)) if source.word(at) == "mod"}
-    known = {"crate", "super", "core", "arrayvec", *crates, *modules}
+    known = {"crate", "super", "self", "std", "arrayvec", *crates, *modules}
+    for at in range(len(source.code)):
+        source.want(source.word(at) != "use" or source.word(at + 1) in known, at, "a path of an unknown crate")
+        is_bound = source.word(at) == "Drop" and source.word(at - 1) not in "{," and source.word(at - 2) != ":"
+        source.want(not is_bound, at, "an unknown bound")
+
+
+def root_paths(crates, name, source):
+    """Lets paths begin at the module that a crate becomes."""
     for at in range(len(source.code)):
         word, following = source.word(at), source.word(at + 1)
-        source.want(word != "std" and (word != "use" or following in known), at, "a path of an unknown crate")
-        is_bound = word == "Drop" and source.word(at - 1) not in "{," and source.word(at - 2) != ":"
-        source.want(not is_bound, at, "an unknown bound")
         if (word == "crate" or word in crates) and following == ":":
             source.replace(at, at, f"crate::sources::{crates.get(word, name)}")
 
 
-def left(top, package, out):
-    """What the second reader leaves of each source for which the script of a package wrote a file."""
-    text = (TOP / package.script).read_text(encoding="utf-8")
-    crates = dict(re.findall(r'^    \("(\w+)", "(\w+)"\),$', text, re.MULTILINE))
-    found = {}
-    for crate, name in crates.items():
-        folder = top / "crates" / crate / "src"
-        for path in sorted(folder.rglob("*.rt")):
-            place = re.sub("/lib$", "/mod", f"{name}/{path.relative_to(folder).with_suffix('')}")
-            if (out / f"sources/{place}.rs").exists():
-                found[place] = tokens.Source(f"crates/{path.relative_to(top / 'crates')}", path.read_text(encoding="utf-8"))
-                found[place].delete_contracts()
-    for head, old, new in (row for it in package.rows for row in sources.changes_in(TOP / "rust/build/rows" / it)):
-        about, _, times = head.rpartition(" ")
-        # This reader deletes the docs of an item with it.
-        old = re.sub(r"^(?:///.*\n)+", "", old)
-        met = sum(source.replace_each(old, new.replace("$crate", "crate")) for source in found.values())
-        if met != int(times):
-            raise commands.Failure(f"a row about {about} is met {met} times, and not {times}: {old}")
-    if package.has_masks:
-        rename_masked(found)
-    elif EXPORTS != (others := sorted(it for source in found.values() for it in source.conditions if "dwexpr_" in it[0])):
-        raise commands.Failure(f"exports have other preconditions: {others}")
+def wanted_of(top, package, places):
+    """The tokens that each file has to have, by this reader."""
+    found, crates = read_sources(top, package, places)
+    check_preconditions(top, package, found)
+    apply_rows(top, package, found)
+    rename(package, found)
     for place, source in found.items():
+        check_paths(crates, source)
         root_paths(crates, place.partition("/")[0], source)
     return {place: source.left() for place, source in found.items()}
 
 
-def written(program, top, package, out):
-    """What the script writes; the number of lines of each file too."""
+def code_in(found):
+    """The name and the tokens of each body and of each constant's value, in order."""
+    at, said = 0, []
+    while at < len(found):
+        first, ends = at, ()
+        if found[at] == "fn":
+            first = next(place for place in range(at, len(found)) if found[place] in "{;")
+            ends = ("}",) if found[first] == "{" else ()
+        elif found[at] == "const" and found[at + 2] == ":" and found[at - 1] not in "<,":
+            first, ends = found.index("=", at), (";",)
+        if ends:
+            depth, last = 0, first
+            while found[last] not in ends or depth > (found[last] == "}"):
+                depth += (found[last] in "([{") - (found[last] in ")]}")
+                last += 1
+            said.append((found[at + 1], found[first : last + 1]))
+            at = last
+        at += 1
+    return said
+
+
+def plain_word(word):
+    return WORDS.get(word, word.removesuffix("_unchecked"))
+
+
+def judge_code(name, top, package, written):
+    """Refuses code that isn't that of the source, but for the words and the places that CODE has."""
+    found, crates = read_sources(top, package, written)
+    for place, source in found.items():
+        root_paths(crates, place.partition("/")[0], source)
+        ours, theirs = (code_in([plain_word(it) for it in found]) for found in (written[place], source.left()))
+        for path, function, old, new in CODE[name]:
+            if source.path == f"crates/{path}.rt":
+                old, new = " ".join(split(old)), " ".join(split(new))
+                bodies = [(it, " ".join(body)) for it, body in theirs]
+                if sum(body.count(old) for it, body in bodies if it == function) != 1:
+                    raise Failure(f"{source.path} has no `{old}` in {function}")
+                bodies = [(it, body.replace(old, new) if it == function else body) for it, body in bodies]
+                theirs = [(it, body.split()) for it, body in bodies if body]
+        if ours != theirs:
+            at = next((one for one, other in zip(ours, theirs) if one != other), ("", ""))[0]
+            raise Failure(f"{place} has other code than is proved, in `{at}`")
+
+
+def written_by(program, top, package, out):
+    """What the script writes, each text by its place."""
     shutil.rmtree(out, ignore_errors=True)
     out.mkdir()
-    env = {**os.environ, "CARGO_MANIFEST_DIR": str(top / package.folder), "OUT_DIR": str(out)}
-    env |= {"CARGO_PKG_VERSION_MAJOR": "0", "CARGO_PKG_VERSION_MINOR": "0", "CARGO_CFG_TARGET_OS": ""}
-    done = commands.done(program, env=env)
+    done = commands.done(program, env=checks.script_environment(top / package.folder, out))
     if done.returncode:
-        raise commands.Failure(done.stderr)
-    texts = {str(it.relative_to(out / "sources").with_suffix("")): it.read_text() for it in out.rglob("*/*/*.rs")}
-    return {place: tokens.code(text) for place, text in texts.items()}, {it: text.count("\n") for it, text in texts.items()}
+        raise Failure(done.stderr)
+    return {str(it.relative_to(out).with_suffix("")): it.read_text(encoding="utf-8") for it in out.rglob("*.rs")}
+
+
+def without_pages(top, package, texts):
+    """The texts without the pages, each of which ends the docs of its item."""
+    for page in (top / package.pages).rglob("*.md") if package.pages else ():
+        text = page.read_text(encoding="utf-8").replace("\\", "\\\\").replace('"', '\\"').replace("\n", "\\n")
+        found = re.compile(re.escape(f'#[doc = "{text}"] ') + rf"(?=pub (?:trait|enum|fn) {page.stem}\b)")
+        met = 0
+        for place in texts:
+            if place.startswith(f"{page.parent.name}/"):
+                texts[place], times = found.subn("", texts[place])
+                met += times
+        if met != 1:
+            raise Failure(f"{page.name} is in the docs of {met} items")
+    return texts
+
+
+def judge(name, top, package, texts):
+    """Refuses what a script has written, unless all of it is as this reader has it."""
+    texts = dict(texts)
+    if texts.pop("lib") != "mod sources;\n" or not MODULES.fullmatch(texts.pop("sources/mod")):
+        raise Failure("the modules aren't as they should be")
+    texts = without_pages(top, package, {place.removeprefix("sources/"): text for place, text in texts.items()})
+    for place, text in texts.items():
+        if not text.endswith(IMPORT) or text.count(IMPORT) != 1:
+            raise Failure(f"{place} doesn't end with the import")
+        texts[place] = text.removesuffix(IMPORT)
+    plain = wanted_of(top, package, texts)
+    if plain.keys() != texts.keys():
+        raise Failure(f"modules without a source: {texts.keys() - plain.keys()}")
+    written = {place: tokens.code(text) for place, text in texts.items()}
+    for place, wanted in plain.items():
+        if written[place] != wanted:
+            raise Failure(f"{place} has other tokens: {sources.difference(written[place], wanted, 4)}")
+    for place, source in read_sources(top, package, texts)[0].items():
+        if texts[place].count("\n") != (top / source.path).read_text(encoding="utf-8").count("\n"):
+            raise Failure(f"{place} has another number of lines")
+    judge_code(name, top, package, written)
+    return written
+
+
+def built(top, package, folder):
+    """The program of a build script."""
+    commands.run("rustc", "--edition=2024", top / package.script, "-o", folder / "script")
+    return folder / "script"
+
+
+def said_of(edit, name, top, package, program, folder):
+    """Why what an edit makes is refused, or nothing. It is of the sources, the rows or a script; or of what is written."""
+    texts = written_by(program, top, package, folder / "out")
+    place = edit.file.removesuffix(".rs")
+    before = edit.applied(lambda file: texts[place] if place in texts else (top / file).read_text(encoding="utf-8"))
+    try:
+        if place in texts:
+            judge(name, top, package, texts | {place: before[edit.file]})
+            return ""
+        edit.apply(top)
+        if any(file.startswith("rust/build/") and file.endswith(".rs") for file in before):
+            program = built(top, package, folder / "changed")
+        judge(name, top, package, written_by(program, top, package, folder / "out"))
+        return ""
+    except Failure as failure:
+        return str(failure)
+    finally:
+        for file in before:
+            if place not in texts:
+                shutil.copy(TOP / file, top / file)
 
 
 def try_package(name, package, folder):
-    program, out = folder / name, folder / "out"
-    commands.run("rustc", "--edition=2024", TOP / package.script, "-o", program)
-    ours, lines = written(program, TOP, package, out)
-    plain = left(TOP, package, out)
-    expect(len(plain) > 40 and ours.keys() == plain.keys(), "each source has its module")
-    for place, wanted in plain.items():
-        expect(ours[place] == wanted, f"{place} has other tokens", sources.difference(ours[place], wanted, 4))
-    crates = {module: crate for crate, module in re.findall(r'\("(\w+)", "(\w+)"\)', (TOP / package.script).read_text())}
-    top = folder / "changed"
-    shutil.copytree(TOP / "crates", top / "crates", ignore=shutil.ignore_patterns("out", "proofs", "specs"))
-    for it in ("build", package.folder):
-        shutil.copytree(TOP / it, top / it, dirs_exist_ok=True) if it != "." else None
-
-    def path_of(place):
-        crate, _, rest = place.partition("/")
-        return top / "crates" / crates[crate] / "src" / f"{'lib' if rest == 'mod' else rest}.rt"
-
-    for place, count in lines.items():
-        expect(path_of(place).read_text().count("\n") == count, f"{place} has other lines")
-    for head, old, new in sources.changes_in(TOP / "tests/crate/changes" / name):
-        place, verdict, *why = head.split(": ", 2)
-        path = path_of(place)
-        text = path.read_text()
-        expect(old in text, f"{path} has no {old!r}")
-        path.write_text(text.replace(old, new, 1))
-        try:
-            ours, _ = written(program, top, package, out)
-            theirs = left(top, package, out)
-            said = "" if ours == theirs else "the two readers differ"
-        except commands.Failure as failure:
-            said = str(failure)
-        path.write_text(text)
-        if verdict == "refused":
-            expect(said, f"{new!r} for {old!r} in {place} is taken")
-        else:
-            same = theirs == plain if verdict == "taken" else theirs != plain
-            expect(not said and same, f"{new!r} for {old!r} in {place}: {said}")
-    shutil.rmtree(top)
+    top = folder / "top"
+    (folder / "changed").mkdir(parents=True)
+    checks.copy_packages(top)
+    program = built(top, package, folder)
+    written = judge(name, top, package, written_by(program, top, package, folder / "out"))
+    expect(len(written) > 40, "each source has its module")
+    for path, is_taken in (("mutants", False), ("taken", True)):
+        for edit in sources.edits_in(TOP / "tests/strip" / path):
+            if edit.name.partition(": ")[0] not in PACKAGES.keys() - {name}:
+                said = said_of(edit, name, top, package, program, folder)
+                expect(bool(said) is not is_taken, f"{name}: {edit.name}: {said or 'it is taken'}")
 
 
 def main():
     with commands.temporary() as folder:
         for name, package in PACKAGES.items():
-            try_package(name, package, folder)
+            try_package(name, package, folder / name)
 
 
 if __name__ == "__main__":

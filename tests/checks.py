@@ -114,11 +114,29 @@ def check_headers(*names):
             check(what, [compiler, *words], input=text)
 
 
-def strip(top, folder):
-    """Runs the build script of the Rust crate without Cargo. The variables that its code is built with."""
-    commands.run("rustc", "--edition=2024", top / "rust/build/main.rs", "-o", folder / "strip")
-    env = {**os.environ, "CARGO_MANIFEST_DIR": str(top), "OUT_DIR": str(folder / "stripped")}
-    commands.run(folder / "strip", env=env)
+# The build script of each package, and its folder.
+SCRIPTS = {"rust": ("rust/build/main.rs", "."), "c": ("c/build.rs", "c")}
+
+
+def copy_packages(folder):
+    """Copies what the build scripts of the Rust crate and of the library for C read, and the code by hand."""
+    ignored = shutil.ignore_patterns("out", "specs", "proofs", "target", "Cargo.lock")
+    for it in ("crates", "rust", "c"):
+        shutil.copytree(commands.TOP / it, folder / it, ignore=ignored)
+
+
+def script_environment(package, out):
+    """The variables that Cargo sets for the build script of a package, and its code."""
+    env = {**os.environ, "CARGO_MANIFEST_DIR": str(package), "OUT_DIR": str(out)}
+    return env | {"CARGO_PKG_VERSION_MAJOR": "0", "CARGO_PKG_VERSION_MINOR": "0", "CARGO_CFG_TARGET_OS": ""}
+
+
+def strip(name, top, folder):
+    """Runs the build script of a package without Cargo. The variables that its code is built with."""
+    script, package = SCRIPTS[name]
+    commands.run("rustc", "--edition=2024", top / script, "-o", folder / "script")
+    env = script_environment(top / package, folder / "stripped")
+    commands.run(folder / "script", env=env)
     return env
 
 

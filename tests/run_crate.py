@@ -1,71 +1,75 @@
 #!/usr/bin/env python3
-"""Runs the tests of the Rust crate, in a clone of what is committed.
+"""Uses the Rust crate as others do, in clones of what is committed. `cargo test` tests the crate itself.
 
-It builds the crate without features, with all, and without the heap, runs its tests and those of its documentation,
-clippy, the build of the documentation, `cargo fmt --check`, `cargo package`, and the example on a program that `cc -g`
-makes. Over gimli's `EndianArcSlice` and `EndianRcSlice` the rows and vectors have to give what they give over slices,
-and the example has to print the same with `EndianArcSlice` in its `use`: gimli wants stable_deref_trait for these, in a
-folder of that name beside its own.
+- A new package gets it by `cargo add --git` and runs, on a PATH without Python, with an empty CARGO_HOME and no network;
+  and once more with what `cargo vendor` fetched, from a folder in which nothing can be written.
+- A workspace has it under vendor/, as a member and as none.
+- A program that has no allocator links, with the features `arrayvec` and `gimli`.
+- Plain sources, as rust/README.md makes them, are built by rustc alone.
+- The example prints where the variables of a program are that `cc -g` makes.
+- `cargo package` packs it, with its licences.
 
-To build the crate by itself, Cargo wants the crates that the features need even if they are off. The variable
-DWEXPR_GIMLI names a folder with gimli 0.34, and DWEXPR_ARRAYVEC one with arrayvec 0.7. Without a folder an empty
-package stands in for it, and its feature is left out. There is no network. DWEXPR_GIMLI_OLD names one with gimli
-0.32.3, the oldest that the crate takes, if it isn't where Debian's librust-gimli-dev has it: the tests run with it too.
-
-The last line is `N passed, M failed`.
+The variables DWEXPR_GIMLI and DWEXPR_ARRAYVEC name folders with gimli 0.34 and arrayvec 0.7. Without them empty packages
+stand in, and what needs their features is left out. The last line is `N passed, M failed`.
 """
 
 import os
-import pathlib
 import re
 import shutil
+import textwrap
 
 import checks
-import compare_archive
 from checks import check, commands, expect, lacks
 from commands import TOP
 
 checks.SECONDS = 600
-# A package that depends on the crate, a program without an allocator, which evaluates in arrays, one that evaluates
-# over gimli's readers, a program in C, and what stands in for the crates that the features need.
+# A package that depends on the crate, a program without an allocator, a program in C, and what stands in for the crates
+# that the features need.
 PARTS = TOP / "tests" / "crate"
+# What a machine with Rust has.
+PROGRAMS = ["cargo", "rustc", "rustdoc", "cc", "ld", "ar"]
+PRINTED = "Address { address: 12272 }\n"
 
-# The crates that the features need, each with the variable that names its folder.
-NEEDED = {"gimli": "DWEXPR_GIMLI", "arrayvec": "DWEXPR_ARRAYVEC"}
 
-
-def find_crates(folder):
-    """Tells Cargo, for all packages in a folder, where the needed crates are. Gives those that can be had."""
-    found = [name for name, variable in NEEDED.items() if os.environ.get(variable)]
-    config = "[net]\noffline = true\n"
-    for name, variable in NEEDED.items():
-        place = os.environ[variable] if name in found else PARTS / "stand_ins" / name
-        config += f'[patch.crates-io.{name}]\npath = "{place}"\n'
+def write_config(folder):
+    """Tells Cargo, for all packages in a folder, where the needed crates are."""
     (folder / ".cargo").mkdir()
-    (folder / ".cargo/config.toml").write_text(config)
-    return found
+    lines = [it.removeprefix("--config=") + "\n" for it in commands.patches() if it.startswith("--config=")]
+    (folder / ".cargo/config.toml").write_text("net.offline = true\n" + "".join(lines))
 
 
-def write_app(top):
-    """Writes a package that depends on the crate by its path."""
-    shutil.copytree(PARTS / "app", top / "app")
-    check("a clone for a package", ["git", "clone", "-q", TOP, top / "vendor/dwexpr"])
+def environment(folder):
+    """That of a machine with Rust alone, and a CARGO_HOME in which nothing is."""
+    env = {name: os.environ[name] for name in ("HOME", "RUSTUP_HOME", "RUSTUP_TOOLCHAIN") if name in os.environ}
+    return {**env, "PATH": checks.path_with(folder / "programs", *PROGRAMS), "CARGO_HOME": str(folder / "cargo home")}
 
 
-def try_path():
-    """Such a package needs none of the crates of features that are off."""
-    with commands.temporary() as top:
-        write_app(top)
-        check("a package without other crates", ["cargo", "run", "--quiet", "--offline"], cwd=f"{top}/app")
+def try_git(folder):
+    """A package gets the crate by `cargo add --git`, runs, and runs once more with what it vendored."""
+    env, app = environment(folder), folder / "app"
+    check("cargo new", ["cargo", "new", "--quiet", "--vcs=none", app], env=env)
+    shutil.copy(PARTS / "app/src/main.rs", app / "src")
+    # Cargo takes no network for the address of a file.
+    check("cargo add --git", ["cargo", "add", "--git", f"file://{TOP}", "dwexpr"], cwd=app, env=env)
+    checks.prints("a package with the crate from git", ["cargo", "run", "--quiet"], PRINTED, cwd=app, env=env)
+    if done := check("cargo vendor", ["cargo", "vendor", "--quiet", "vendor"], cwd=app, env=env):
+        (app / ".cargo").mkdir()
+        (app / ".cargo/config.toml").write_text(done.stdout)
+        for path in (app / "vendor").rglob("*"):
+            path.chmod(0o555 if path.is_dir() else 0o444)
+        env |= {"CARGO_TARGET_DIR": str(folder / "frozen")}
+        checks.prints("a package with the crate vendored", ["cargo", "run", "-q", "--frozen"], PRINTED, cwd=app, env=env)
 
 
 def try_workspace(folder):
-    """A workspace takes the crate under vendor/, as a member and as none."""
+    """A workspace has the crate under vendor/, as a member and as none."""
     top = folder / "workspace"
-    write_app(top)
+    shutil.copytree(PARTS / "app", top / "app")
+    check("a clone for a workspace", ["git", "clone", "-q", TOP, top / "vendor/dwexpr"])
     for members in ('members = ["app", "vendor/dwexpr"]', 'members = ["app"]\nexclude = ["vendor"]'):
         (top / "Cargo.toml").write_text(f'[workspace]\nresolver = "3"\n{members}\n')
-        check(f"a workspace with {members}", ["cargo", "run", "--quiet", "--package", "app"], cwd=top)
+        words = ["cargo", "run", "--quiet", "--package", "app"]
+        checks.prints(f"a workspace with {members}", words, PRINTED, cwd=top)
 
 
 def try_without_allocator(folder):
@@ -78,79 +82,50 @@ def try_without_allocator(folder):
     expect(done.returncode == 0xF0, "a program without an allocator", done.stderr)
 
 
-def try_readers(folder):
-    """Rows and vectors over gimli's readers that are `Clone` give what they give over slices."""
-    shutil.copytree(PARTS / "readers", folder / "readers")
-    (folder / "cases").write_text(compare_archive.cases())
-    check("gimli's readers", ["cargo", "run", "--quiet", "--", folder / "cases"], cwd=folder / "readers")
+def try_plain_sources(crate, folder):
+    """The commands of the page make sources that rustc builds without a build script."""
+    page = (crate / "rust/README.md").read_text(encoding="utf-8")
+    said = re.search(r"^## Without a build script\n.*?^```sh\n(.*?)^```$", page, re.MULTILINE | re.DOTALL)
+    env = {name: it for name, it in os.environ.items() if not name.startswith("CARGO")}
+    if check("plain sources", ["bash", "-ec", textwrap.dedent(said[1])], cwd=crate, env=env):
+        program = (PARTS / "app/src/main.rs").read_text(encoding="utf-8")
+        (folder / "program.rs").write_text(program)
+        words = ["rustc", "--edition=2024", "--extern", f"dwexpr={crate / 'libdwexpr.rlib'}", folder / "program.rs"]
+        if check("a program over plain sources", [*words, "-o", folder / "plain"]):
+            checks.prints("a program over plain sources, run", [folder / "plain"], PRINTED)
 
 
-def run_example(cargo, features, name, folder):
-    """Compares what an example says of a program's variables with what the program says."""
-    if lacks(f"the example {name}", "cc"):
-        return
+def try_example(crate, folder):
+    """Compares what the example says of a program's variables with what the program says."""
     program = folder / "program"
     check("cc", ["cc", "-g", "-O0", "-no-pie", "-fno-omit-frame-pointer", PARTS / "program.c", "-o", program])
-    done = check("the program", [program])
-    printed = cargo(f"the example {name}", "run", *features, "--example", name, program, "100000000000")
-    if done and printed:
-        said = f"{done.stdout}\nisn't\n{printed}"
-        expect(printed == done.stdout, f"the example {name} says where the variables are", said)
+    words = ["cargo", "run", "--quiet", "--features", "gimli", "--example", "variables", program, "100000000000"]
+    if done := check("the program", [program]):
+        checks.prints("the example", words, done.stdout, cwd=crate)
 
 
 def main():
-    if lacks("the Rust crate", "cargo", "rustfmt"):
+    if lacks("the Rust crate", "cargo", "rustc", "git", "cc"):
         return
+    found = commands.features()
+    for name in commands.NEEDED.keys() - set(found):
+        print(f"left out: the feature {name}: {commands.NEEDED[name]} names no folder")
     with commands.temporary() as folder:
+        try_git(folder)
+    with commands.temporary() as folder:
+        write_config(folder)
         crate = folder / "crate"
         commands.run("git", "clone", "-q", TOP, crate)
-        found = find_crates(folder)
-        for name in NEEDED.keys() - set(found):
-            print(f"left out: the feature {name}: {NEEDED[name]} names no folder")
-        env = {**os.environ, "CARGO_TARGET_DIR": str(folder / "target"), "RUSTDOCFLAGS": "-D warnings"}
-
-        def cargo(name, *words):
-            done = check(name, ["cargo", *words], cwd=crate, env=env)
-            return done.stdout if done else ""
-
-        tree = cargo("tree", "tree")
-        expect(len(tree.splitlines()) == 1, "without features it depends on nothing", tree)
-        cargo("fmt --check", "fmt", "--check")
-        small = ",".join(["small"] + ["arrayvec"] * ("arrayvec" in found))
-        every = ",".join(found + ["gimli-0_34"] * ("gimli" in found))
-        ways = {"": [], f" without alloc, with {small}": ["--no-default-features", "--features", small]}
-        if found:
-            ways[f" with {every}"] = ["--features", every]
-        for said, enabled in ways.items():
-            printed = cargo(f"test{said}", "test", *enabled)
-            print("  ", sum(map(int, re.findall(r"(\d+) passed", printed))), "tests")
-            if shutil.which("cargo-clippy"):
-                cargo(f"clippy{said}", "clippy", "--all-targets", "--no-deps", *enabled, "--", "-D", "warnings")
-            cargo(f"doc{said}", "doc", "--no-deps", *enabled)
-        try_path()
         try_workspace(folder)
-        if "arrayvec" in found and shutil.which("cc"):
+        try_plain_sources(crate, folder)
+        commands.run("git", "clean", "-fdxq", cwd=crate)
+        done = check("cargo package --list", ["cargo", "package", "--list"], cwd=crate)
+        expect(done and {"LICENSE-APACHE", "LICENSE-MIT"} <= set(done.stdout.split()), "the package has its licences")
+        check("cargo package", ["cargo", "package", "--quiet"], cwd=crate)
+        if {"gimli", "arrayvec"} <= set(found):
             try_without_allocator(folder)
-        old = os.environ.get("DWEXPR_GIMLI_OLD", "/usr/share/cargo/registry/gimli-0.32.3")
-        if os.path.isdir(old):
-            older = ["--config", f'patch.crates-io.gimli.path="{old}"']
-            cargo("test with gimli 0.32.3", *older, "test", "--features", "gimli", "--tests")
-        else:
-            print("left out: gimli 0.32.3: DWEXPR_GIMLI_OLD names no folder")
-        listed = cargo("package --list", "package", "--list")
-        expect({"LICENSE-APACHE", "LICENSE-MIT"} <= set(listed.split()), "the package has its licences", listed)
-        cargo("package", "package")
         if "gimli" in found:
-            run_example(cargo, ["--features", ",".join(found)], "variables", folder)
-            if (pathlib.Path(os.environ["DWEXPR_GIMLI"]).parent / "stable_deref_trait").is_dir():
-                try_readers(folder)
-                example = (crate / "rust/examples/variables.rs").read_text().replace("EndianSlice as", "EndianArcSlice as")
-                (crate / "rust/examples/over_arcs.rs").write_text(example)
-                with open(crate / "Cargo.toml", "a", encoding="utf-8") as manifest:
-                    manifest.write('[[example]]\nname = "over_arcs"\npath = "rust/examples/over_arcs.rs"\n')
-                run_example(cargo, ["--features", ",".join([*found, "gimli/endian-reader"])], "over_arcs", folder)
-            else:
-                print("left out: gimli's other readers: there is no stable_deref_trait beside gimli")
+            try_example(crate, folder)
 
 
 if __name__ == "__main__":

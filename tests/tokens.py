@@ -1,6 +1,8 @@
 """A second reader of Rattle sources, by their tokens: which of them are Rust. tests/check_strip.py uses it."""
 
 import bisect
+import copy
+import functools
 import re
 
 from commands import Failure
@@ -15,6 +17,10 @@ KNOWN_ATTRIBUTE = re.compile(
     r"|#!\[allow\(non_upper_case_globals\)\]"
 )
 CLAUSES = ("requires", "ensures")
+# Imports of what Rust doesn't have.
+IMPORTS = ["use std : : marker : : Model ;", "use std : : alloc : : AllocError ;"]
+# A clone that may fail; Rust derives one.
+CLONE = re.compile(r"\{ (ghost [^;]* ; )*fn clone \( & self \) - > Result < Self , AllocError > \{ Ok \( \* self \) \} \}")
 KNOWN_MACROS = {"matches", "unreachable"}
 CLOSING = {"(": ")", "[": "]", "{": "}"}
 
@@ -48,6 +54,12 @@ class Source:
                 self.want(opened and CLOSING[self.tokens[opened[-1]]] == self.word(at), at, "a bracket that isn't open")
                 self.partners[opened.pop()] = index
         self.want(not opened, len(self.code), "a bracket that isn't closed before the end")
+
+    def copy(self):
+        """Another one, in which tokens can be changed."""
+        other = copy.copy(self)
+        other.changed = dict(self.changed)
+        return other
 
     def settle(self):
         """Takes places anew, after tokens were deleted or replaced."""
@@ -109,6 +121,10 @@ class Source:
     def replace_each(self, old, new):
         """Replaces each run of these tokens; without new ones, deletes it and its comments. Gives how many it met."""
         docs, wanted = ([it for it in split(old) if it.startswith("//") is is_doc] for is_doc in (True, False))
+        if not wanted:
+            indices = [index for index, token in enumerate(self.tokens) if [token] == docs]
+            self.changed.update(dict.fromkeys(indices, new))
+            return len(indices)
         places = [at for at, index in enumerate(self.code) if self.tokens[index] == wanted[0]]
         places = [at for at in places if self.words(at, at + len(wanted) - 1) == wanted]
         for at in places:
@@ -123,6 +139,7 @@ class Source:
     def delete_contracts(self):
         """Deletes all that isn't Rust."""
         forms = {"ghost": self.ghost, "impl": self.model, "#": self.attribute, **dict.fromkeys(CLAUSES, self.clause)}
+        forms |= {"final": self.final, "use": self.use}
         at = 0
         while at < len(self.code):
             at = forms.get(self.word(at), lambda at: at + 1)(at)
@@ -156,13 +173,25 @@ class Source:
             self.conditions.append((self.word(function + 1), " ".join(self.words(block + 1, end - 1))))
         return self.delete(at, end)
 
+    def final(self, at):
+        self.want(self.word(at + 1) == "fn", at, "an unknown form of `final`")
+        return self.delete(at, at, above="")
+
+    def use(self, at):
+        end = self.find(";", at)
+        return self.delete(at, end) if " ".join(self.words(at, end)) in IMPORTS else at + 1
+
     def model(self, at):
         block = self.find("{", at)
+        end = self.close(block)
         head = self.words(at, block)
-        if "Model" not in head:
+        if "Clone" in head and head[head.index("Clone") + 1] == "for":
+            self.want(CLONE.fullmatch(" ".join(self.words(block, end))), at, "an unknown form of a clone")
+        elif "Model" not in head:
             return at + 1
-        self.want(head[head.index("Model") + 1] == "for", at, "an unknown form of `impl`")
-        return self.delete(at, self.close(block))
+        else:
+            self.want(head[head.index("Model") + 1] == "for", at, "an unknown form of `impl`")
+        return self.delete(at, end)
 
     def attribute(self, at):
         end = self.close(self.find("[", at))
@@ -176,3 +205,11 @@ class Source:
         """What is left, without comments of code."""
         texts = (self.changed.get(index, token) for index, token in enumerate(self.tokens))
         return code("\n".join(texts))
+
+
+@functools.cache
+def without_contracts(path, text):
+    """A source without its contracts. It is copied before it is changed."""
+    source = Source(path, text)
+    source.delete_contracts()
+    return source

@@ -5,8 +5,12 @@
 #![no_std]
 #![deny(unsafe_op_in_unsafe_fn)]
 
+// By these names the sources know what Rust has without an operating system, and the lists.
+extern crate core as std;
+extern crate self as arrayvec;
+
 /// What the sources have the prover check of a size, where words have 64 bits.
-macro_rules! assert_of_64_bits {
+macro_rules! prove {
     ($($holds:tt)*) => {
         assert!(size_of::<usize>() != 8 || $($holds)*)
     };
@@ -15,7 +19,12 @@ macro_rules! assert_of_64_bits {
 // The module `sources`, which the build script writes. Each line has the number that it has in the proved source.
 include!(concat!(env!("OUT_DIR"), "/lib.rs"));
 
+#[path = "../../rust/src/casts.rs"]
+mod casts;
 mod exports;
+mod lists;
+
+use lists::ArrayVec;
 
 // Functions of rustc's own library name one that runs while a panic unwinds. No panic does.
 #[cfg(not(any(windows, target_vendor = "apple")))]

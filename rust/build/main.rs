@@ -1,6 +1,9 @@
 //! Takes the contracts out of the proved sources of the Rust crate.
 
-mod strip;
+mod contracts;
+mod sources;
+
+use sources::{Sources, files_in, read};
 
 const CRATES: &[(&str, &str)] = &[
     ("dwarf_base", "base"),
@@ -10,34 +13,56 @@ const CRATES: &[(&str, &str)] = &[
     ("dwarf_eval", "eval"),
 ];
 // Their lists take an allocator.
-const BY_HAND: &[&str] = &["eval/store/heap.rs", "eval/eval/heap.rs"];
+const BY_HAND: &[&str] = &["dwarf_eval/src/store/heap.rt", "dwarf_eval/src/eval/heap.rt"];
 // The functions of laws do nothing, and only a list on the heap gives its pieces away. The names of opcodes are the
 // standard's.
 const ALLOWED: &str = "#![allow(dead_code, unused_imports, non_upper_case_globals)]
 #![allow(clippy::derivable_impls, clippy::module_inception, clippy::redundant_pattern_matching)]
 #![allow(clippy::should_implement_trait, clippy::upper_case_acronyms)]";
 
-fn main() {
-    let mut sources = strip::Sources::read("", CRATES, BY_HAND);
-    sources.apply("both");
-    sources.apply("rust");
-    rename_masked(&mut sources);
-    sources.write(ALLOWED);
+/// Adds `_unchecked` to the names of the public methods that have a precondition, in all calls too. What is written by
+/// hand has the names, and checks it.
+fn rename_unchecked(sources: &mut Sources, condition: &str) {
+    let all = sources.all.iter().flat_map(|it| &it.preconditions).filter(|it| it.1 == condition);
+    for name in all.map(|it| it.0.clone()).collect::<Vec<_>>() {
+        sources.replace(|_| true, &format!("pub fn {name}("), &format!("pub(crate) fn {name}_unchecked("));
+        sources.replace(|_| true, &format!(".{name}("), &format!(".{name}_unchecked("));
+    }
 }
 
-/// Renames the calls on values whose precondition is a mask. What is written by hand checks it.
-fn rename_masked(sources: &mut strip::Sources) {
-    let mut names = Vec::new();
-    for (_, _, text) in &sources.files {
-        let mut parts: Vec<_> = text.split("/* requires { IsAddressMask addr_mask } */").collect();
-        parts.pop();
-        let heads = parts.iter().filter_map(|it| it.rsplit_once("fn ")).filter(|it| it.0.ends_with("pub "));
-        names.extend(heads.filter_map(|it| it.1.split('(').next()).map(str::to_owned));
+/// Ends the docs of public items with the pages of a folder, each of which has an example: `base/Reader.md` is of the
+/// item `Reader` somewhere in the module `base`.
+fn add_pages(sources: &mut Sources, folder: &str) {
+    let folder = sources.top.join(folder);
+    for page in files_in(&folder) {
+        let module = page.parent().and_then(|it| it.strip_prefix(&folder).ok()?.to_str()).expect("it is in the folder");
+        let name = page.file_stem().and_then(|it| it.to_str()).expect("it has a name");
+        let items = ["trait", "enum", "fn"].map(|kind| format!("pub {kind} {name}"));
+        let doc = format!("#[doc = {:?}]", read(&page));
+        let met: usize =
+            items.iter().map(|it| sources.replace(|of| of.module == module, it, &format!("{doc} {it}"))).sum();
+        assert!(met == 1, "{} is of {met} items", page.display());
     }
-    for (_, _, text) in &mut sources.files {
-        for name in &names {
-            strip::replace(text, &format!("pub fn {name}("), &format!("pub(crate) fn {name}_unchecked("));
-            strip::replace(text, &format!(".{name}("), &format!(".{name}_unchecked("));
+}
+
+/// Has tests that want what isn't in the repository run if a variable names it.
+fn allow_tests() {
+    for (variable, cfg) in [("GIMLI_TESTS", "gimli_tests"), ("DWEXPR_ARCHIVE", "archive")] {
+        println!("cargo::rerun-if-env-changed={variable}");
+        println!("cargo::rustc-check-cfg=cfg({cfg})");
+        if std::env::var_os(variable).is_some() {
+            println!("cargo::rustc-cfg={cfg}");
         }
     }
+}
+
+fn main() {
+    allow_tests();
+    let mut sources = Sources::read("", CRATES, BY_HAND);
+    sources.check_preconditions("rust/build/preconditions", |_| true);
+    sources.apply("rust/build/rows/both");
+    sources.apply("rust/build/rows/rust");
+    rename_unchecked(&mut sources, "IsAddressMask addr_mask");
+    add_pages(&mut sources, "rust/src/pages");
+    sources.write(ALLOWED, "use crate::casts::{IntoSigned as _, IntoUnsigned as _};");
 }

@@ -9,13 +9,19 @@ use core::ops::Deref;
 
 /// A reader of gimli's. It reads addresses and offsets by gimli's calls, and so relocated if the reader relocates them.
 ///
+/// An error of the reader's that isn't one of the bytes, such as `gimli::Error::Io` of a relocation, has no name in
+/// [`Error`]: it becomes `UnexpectedEof` with the place where the read begins. A reader that has such errors keeps the
+/// last of them itself, for its caller to look at.
+///
 /// ```
+/// # #[cfg(feature = "alloc")] {
 /// use dwexpr::{Evaluation, EvaluationResult, GimliReader};
 ///
 /// let encoding = gimli::Encoding { address_size: 8, format: gimli::Format::Dwarf32, version: 5 };
 /// let expression = gimli::Expression(gimli::EndianSlice::new(&[0x91, 0x70], gimli::LittleEndian));
 /// let mut evaluation = Evaluation::new(GimliReader(expression.0), encoding.into());
 /// assert_eq!(evaluation.evaluate(), Ok(EvaluationResult::RequiresFrameBase));
+/// # }
 /// ```
 #[derive(Clone, Copy, PartialEq, Eq, Hash)]
 pub struct GimliReader<R>(pub R);
@@ -105,8 +111,8 @@ impl<T: gimli::ReaderOffset> ReaderOffset for GimliOffset<T> {
 }
 
 impl<R: gimli::Reader> GimliReader<R> {
-    /// Takes something from the front. An error that has no name here, such as one of input, is `UnexpectedEof` with
-    /// the place where the bytes begin.
+    /// Takes something from the front. An error that has no name here is `UnexpectedEof` with the place where the bytes
+    /// begin.
     #[inline(always)]
     fn take<T>(&mut self, read: impl FnOnce(&mut R) -> gimli::Result<T>) -> Result<T> {
         #[cold]
@@ -253,21 +259,14 @@ offsets!(UnitOffset DebugInfoOffset DebugAddrIndex);
 references!([T: gimli::ReaderOffset] T);
 references!([T] GimliOffset<T>);
 
-/// An error that gimli 0.32 lacks. Where gimli has it, its own name hides this one.
-#[allow(dead_code, non_snake_case)]
-fn InvalidPieceSize(_: u64) -> gimli::Error {
-    gimli::Error::InvalidPiece
-}
-
 /// The same of types of which gimli's has more values: `From` into gimli's, and what comes of these.
 macro_rules! into_gimli {
     ($type:ident: $($name:ident $(($x:ident))? $($text:literal;)?)+) => {
         impl From<$type> for gimli::$type {
             #[inline]
             fn from(ours: $type) -> Self {
-                use gimli::$type::*;
                 match ours {
-                    $($type::$name $(($x))? => $name $(($x.into()))?,)+
+                    $($type::$name $(($x))? => gimli::$type::$name $(($x.into()))?,)+
                 }
             }
         }

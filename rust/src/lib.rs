@@ -24,15 +24,17 @@
 //!
 //! - `alloc`, a default one: lists on the heap. Without it the crate takes no memory, see [`StoreInSlices`].
 //! - `arrayvec`: an evaluation can keep its lists in arrays, see [`EvaluationStorage`].
-//! - `gimli`: `GimliReader` reads from any `gimli::Reader`, and the types of both crates convert.
+//! - `gimli`: `GimliReader` reads from any `gimli::Reader`, and the types of both crates convert. It is for gimli 0.34:
+//!   Cargo takes any other gimli beside it for another crate, whose readers are none here.
 //! - `small`: smaller code by `opt-level = "z"`.
-//! - `gimli-0_34`: so do operations and requests, which gimli 0.34 has alike.
 #![no_std]
 #![forbid(unsafe_code)]
 #![warn(missing_docs)]
 
 #[cfg(feature = "alloc")]
 extern crate alloc;
+// By this name the sources know what Rust has without an operating system.
+extern crate core as std;
 
 // The module `sources`, which the build script writes. Each line has the number that it has in the proved source.
 include!(concat!(env!("OUT_DIR"), "/lib.rs"));
@@ -42,6 +44,7 @@ include!(concat!(env!("OUT_DIR"), "/lib.rs"));
 #[allow(unused_macros)]
 mod lists;
 
+mod casts;
 #[cfg(feature = "gimli")]
 mod conversions;
 mod errors;
@@ -53,7 +56,7 @@ mod interop;
 mod names;
 mod operations;
 mod orders;
-#[cfg(feature = "gimli-0_34")]
+#[cfg(feature = "gimli")]
 mod requests;
 mod slices;
 mod storage;

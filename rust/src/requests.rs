@@ -1,4 +1,4 @@
-//! Conversions between operations, and between requests, here and in gimli. Before 0.34 gimli has fewer of both.
+//! Conversions between operations, and between requests, here and in gimli.
 
 use crate::{EvaluationResult, GimliReader, Operation};
 

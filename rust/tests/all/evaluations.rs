@@ -3,8 +3,8 @@
 use super::{ENCODING, evaluation, little, panics};
 use dwexpr::EvaluationResult::*;
 use dwexpr::{
-    DieReference, Encoding, EndianSlice, Error, Evaluation, Expression, Register, RunTimeEndian, Status, UnitOffset,
-    Value, WaitingKind,
+    DieReference, Encoding, EndianSlice, Error, Evaluation, Expression, LittleEndian, Register, RunTimeEndian, Status,
+    UnitOffset, Value, WaitingKind,
 };
 
 #[test]
@@ -99,4 +99,12 @@ fn evaluations_stand_side_by_side_and_cross_threads() {
         assert_eq!(it.value_result(), Some(Value::Generic(number + 1)));
         assert_eq!(format!("{it:?}"), "Evaluation { status: Complete, .. }");
     }
+}
+
+/// docs/GUIDE.md says so.
+#[test]
+#[cfg(target_pointer_width = "64")]
+fn an_evaluation_on_the_heap_takes_some_300_bytes() {
+    assert_eq!(size_of::<Evaluation<EndianSlice<LittleEndian>>>(), 296);
+    assert_eq!(size_of::<Evaluation<EndianSlice<RunTimeEndian>>>(), 312);
 }

@@ -257,8 +257,6 @@ fn pieces_convert() {
 fn errors_become_gimlis() {
     for (error, _) in ERRORS {
         let (ours, theirs) = (format!("{error:?}"), format!("{:?}", gimli::Error::from(error)));
-        // gimli 0.32 has no such error.
-        let lacks = matches!(error, Error::InvalidPieceSize(_)) && theirs == "InvalidPiece";
-        assert!(theirs == ours || lacks, "{ours} becomes {theirs}");
+        assert_eq!(theirs, ours);
     }
 }

@@ -5,7 +5,7 @@ mod evaluations;
 mod interop;
 mod plain;
 mod reading;
-#[cfg(feature = "gimli-0_34")]
+#[cfg(feature = "gimli")]
 mod requests;
 mod storages;
 

@@ -108,6 +108,20 @@ pub mod test_util {
 }
 
 #[cfg(test)]
-mod op;
+mod op {
+    include!(concat!(env!("OUT_DIR"), "/op.rs"));
+}
 #[cfg(test)]
-mod value;
+mod value {
+    include!(concat!(env!("OUT_DIR"), "/value.rs"));
+}
+
+/// tests/gimli.json says what carries the cases of each test.
+#[test]
+fn each_test_is_listed() {
+    let names: &[&str] = include!(concat!(env!("OUT_DIR"), "/names.rs"));
+    let listed = include_str!("../../gimli.json");
+    for name in names {
+        assert!(listed.contains(&format!("\"{name}\":")), "{name}");
+    }
+}

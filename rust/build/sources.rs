@@ -1,0 +1,164 @@
+//! The proved sources on their way into a package: contracts in comments, rows applied, paths rooted.
+
+use crate::contracts::{Precondition, commented, is_in_word};
+use std::path::{Path, PathBuf};
+use std::{env, fs};
+
+/// How much of a text some tokens take, with white space and contracts between them, if it begins with them.
+fn taken(text: &str, tokens: &str) -> Option<usize> {
+    let mut rest = text;
+    for sign in tokens.chars().filter(|it| !it.is_whitespace()) {
+        while let Some((_, after)) = rest.trim_start().strip_prefix("/*").and_then(|it| it.split_once("*/")) {
+            rest = after;
+        }
+        rest = rest.trim_start().strip_prefix(sign)?;
+    }
+    (!tokens.ends_with(is_in_word) || !rest.starts_with(is_in_word)).then_some(text.len() - rest.len())
+}
+
+/// Whether a place is in a comment.
+fn is_comment(text: &str, at: usize) -> bool {
+    let line = text[..at].rfind('\n').map_or(0, |it| it + 1);
+    text[line..at].contains("//") || text[..at].rfind("/*") > text[..at].rfind("*/")
+}
+
+/// Replaces tokens wherever they stand in code. Gives how often they do.
+fn replace(text: &mut String, old: &str, new: &str) -> usize {
+    let (mut left, mut end, mut met) = (String::new(), 0, 0);
+    for (at, _) in text.match_indices(old.split(char::is_whitespace).next().unwrap_or(old)) {
+        let is_inside = old.starts_with(is_in_word) && text[..at].ends_with(|it| it == '$' || is_in_word(it));
+        let Some(length) = taken(&text[at..], old).filter(|_| at >= end && !is_inside && !is_comment(text, at)) else {
+            continue;
+        };
+        let lines = text[at..at + length].matches('\n').count();
+        let more = lines.checked_sub(new.matches('\n').count()).expect("a row has no more lines than it replaces");
+        left = left + &text[end..at] + new + &"\n".repeat(more);
+        end = at + length;
+        met += 1;
+    }
+    *text = left + &text[end..];
+    met
+}
+
+pub fn read(path: &Path) -> String {
+    println!("cargo::rerun-if-changed={}", path.display());
+    let text = fs::read_to_string(path).unwrap_or_else(|error| panic!("{}: {error}", path.display()));
+    text.replace("\r\n", "\n")
+}
+
+/// The files in a folder and the folders in it, in order.
+pub fn files_in(folder: &Path) -> Vec<PathBuf> {
+    println!("cargo::rerun-if-changed={}", folder.display());
+    let entries = fs::read_dir(folder).unwrap_or_else(|error| panic!("{}: {error}", folder.display()));
+    let mut paths: Vec<_> = entries.map(|it| it.expect("the folder is read").path()).collect();
+    paths.sort();
+    paths.into_iter().flat_map(|it| if it.is_dir() { files_in(&it) } else { vec![it] }).collect()
+}
+
+fn write(path: &Path, text: &str) {
+    let folder = path.parent().expect("it is in a folder");
+    let written = fs::create_dir_all(folder).and_then(|()| fs::write(path, text));
+    written.unwrap_or_else(|error| panic!("{}: {error}", path.display()));
+}
+
+/// A source on its way.
+pub struct Source {
+    /// Its path in the repository.
+    path: String,
+    /// The module that its crate becomes, and its place there.
+    pub module: &'static str,
+    place: PathBuf,
+    text: String,
+    pub preconditions: Vec<Precondition>,
+}
+
+/// Proved crates, each with the module that it becomes, and their sources.
+pub struct Sources {
+    pub top: PathBuf,
+    crates: &'static [(&'static str, &'static str)],
+    pub all: Vec<Source>,
+}
+
+impl Sources {
+    /// Reads the sources but for those that are written by hand, which end with these places.
+    pub fn read(top: &str, crates: &'static [(&str, &str)], by_hand: &[&str]) -> Self {
+        let top = Path::new(&env::var_os("CARGO_MANIFEST_DIR").expect("Cargo sets it")).join(top);
+        let mut sources = Vec::new();
+        for (name, module) in crates {
+            let folder = top.join("crates").join(name).join("src");
+            for file in files_in(&folder) {
+                let place = file.strip_prefix(&folder).expect("it is in the folder");
+                if by_hand.iter().any(|it| file.ends_with(it)) {
+                    continue;
+                }
+                let path = format!("crates/{name}/src/{}", place.display()).replace('\\', "/");
+                let place = if place.ends_with("lib.rt") { Path::new("mod.rs") } else { &place.with_extension("rs") };
+                let (text, preconditions) = commented(&read(&file));
+                sources.push(Source { path, module, place: place.to_owned(), text, preconditions });
+            }
+        }
+        Sources { top, crates, all: sources }
+    }
+
+    /// Refuses a precondition that a file of preconditions doesn't have, and one in it that no function has. A line of
+    /// it has a precondition, a colon and the functions; others say what checks those below.
+    pub fn check_preconditions(&self, list: &str, is_of: impl Fn(&str) -> bool) {
+        let text = read(&self.top.join(list));
+        let lines = text.lines().filter(|it| !it.starts_with('#')).filter_map(|it| it.rsplit_once(": "));
+        let listed = lines.flat_map(|(condition, names)| names.split(' ').map(move |it| (it, condition)));
+        let mut listed: Vec<_> = listed.collect();
+        for source in self.all.iter().filter(|it| is_of(&it.path)) {
+            for (name, condition) in &source.preconditions {
+                let at = listed.iter().position(|it| it == &(name.as_str(), condition.as_str()));
+                let at = at.unwrap_or_else(|| {
+                    panic!(
+                        "`{name}` in {} has the precondition `{condition}`, and {list} names no check of it",
+                        source.path
+                    )
+                });
+                listed.remove(at);
+            }
+        }
+        assert!(listed.is_empty(), "{list} names preconditions that no function has: {listed:?}");
+    }
+
+    /// Applies the rows of a file: each has the path of a source or `everywhere`, text after `-`, and text after `+`, to
+    /// stand in its place. In a source it is met once. A line that begins with `# ` is a remark.
+    pub fn apply(&mut self, rows: &str) {
+        let text = read(&self.top.join(rows));
+        let text: String = text.split_inclusive('\n').filter(|it| !it.starts_with("# ")).collect();
+        for row in text.trim().split("\n\n") {
+            let (place, lines) = row.split_once('\n').expect("a row has more than one line");
+            let of = |sign| lines.lines().filter_map(move |it| it.strip_prefix(sign)).collect::<Vec<_>>();
+            let (old, new) = (of("- ").join("\n"), of("+ "));
+            // It has a line for each only if one is a comment.
+            let new = new.join(if new.iter().any(|it| it.contains("//")) { "\n" } else { " " });
+            let met = self.replace(|it| place == "everywhere" || it.path == place, &old, &new);
+            assert!(met == 1 || place == "everywhere" && met > 1, "a row of {rows} is met {met} times: {row}");
+        }
+    }
+
+    /// Replaces tokens in some of the sources. Gives how often they stand there.
+    pub fn replace(&mut self, is_one: impl Fn(&Source) -> bool, old: &str, new: &str) -> usize {
+        self.all.iter_mut().filter(|it| is_one(it)).map(|it| replace(&mut it.text, old, new)).sum()
+    }
+
+    /// Writes the module `sources`, for which rustc and clippy are allowed something, and to whose files an import is
+    /// added. A path begins at the module that a crate becomes; `$crate` is the package's root.
+    pub fn write(mut self, allowed: &str, import: &str) {
+        let out = PathBuf::from(env::var_os("OUT_DIR").expect("Cargo sets it"));
+        for Source { module, place, text, .. } in &mut self.all {
+            replace(text, "crate::", &format!("$crate::sources::{module}::"));
+            for (name, module) in self.crates {
+                replace(text, &format!("{name}::"), &format!("$crate::sources::{module}::"));
+            }
+            write(
+                &out.join("sources").join(module).join(place),
+                &format!("{}{import}\n", text.replace("$crate", "crate")),
+            );
+        }
+        let modules: String = self.crates.iter().map(|it| format!("pub mod {};\n", it.1)).collect();
+        write(&out.join("sources/mod.rs"), &format!("{allowed}\n\n{modules}"));
+        write(&out.join("lib.rs"), "mod sources;\n");
+    }
+}

@@ -1,0 +1,91 @@
+//! As much of JSON as the rows have.
+
+use std::iter::Peekable;
+use std::str::Chars;
+
+#[derive(Debug)]
+pub enum Json {
+    Text(String),
+    Number(String),
+    List(Vec<Json>),
+    Object(Vec<(String, Json)>),
+}
+
+impl Json {
+    /// The value of a text.
+    pub fn of(text: &str) -> Json {
+        value(&mut text.chars().peekable())
+    }
+
+    pub fn members(&self) -> &[(String, Json)] {
+        if let Json::Object(members) = self { members } else { panic!("{self:?} is no object") }
+    }
+
+    /// A member of an object.
+    pub fn get(&self, name: &str) -> Option<&Json> {
+        self.members().iter().find(|it| it.0 == name).map(|it| &it.1)
+    }
+
+    pub fn items(&self) -> &[Json] {
+        if let Json::List(items) = self { items } else { panic!("{self:?} is no list") }
+    }
+
+    pub fn text(&self) -> &str {
+        if let Json::Text(text) | Json::Number(text) = self { text } else { panic!("{self:?} is no text") }
+    }
+}
+
+/// The next sign that isn't white space. It stays.
+fn peek(signs: &mut Peekable<Chars>) -> char {
+    while signs.next_if(|it| it.is_whitespace()).is_some() {}
+    *signs.peek().expect("the text ends too early")
+}
+
+fn value(signs: &mut Peekable<Chars>) -> Json {
+    match peek(signs) {
+        '"' => Json::Text(text(signs)),
+        '[' => Json::List(until(signs, ']', value)),
+        '{' => Json::Object(until(signs, '}', |signs| {
+            peek(signs);
+            let name = text(signs);
+            assert_eq!((peek(signs), signs.next()), (':', Some(':')));
+            (name, value(signs))
+        })),
+        _ => Json::Number(std::iter::from_fn(|| signs.next_if(|it| it.is_alphanumeric() || *it == '-')).collect()),
+    }
+}
+
+/// What stands between brackets, with commas.
+fn until<T>(signs: &mut Peekable<Chars>, end: char, item: impl Fn(&mut Peekable<Chars>) -> T) -> Vec<T> {
+    let mut items = Vec::new();
+    signs.next();
+    while peek(signs) != end {
+        items.push(item(signs));
+        if peek(signs) == ',' {
+            signs.next();
+        }
+    }
+    signs.next();
+    items
+}
+
+fn text(signs: &mut Peekable<Chars>) -> String {
+    assert_eq!(signs.next(), Some('"'));
+    let mut said = String::new();
+    loop {
+        match signs.next().expect("a text has an end") {
+            '"' => return said,
+            '\\' => said.push(match signs.next().expect("a text has an end") {
+                'n' => '\n',
+                'r' => '\r',
+                't' => '\t',
+                'u' => {
+                    let digits: String = signs.by_ref().take(4).collect();
+                    char::from_u32(u32::from_str_radix(&digits, 16).unwrap()).expect("no pair of surrogates")
+                }
+                sign => sign,
+            }),
+            sign => said.push(sign),
+        }
+    }
+}

@@ -1,4 +1,6 @@
-"""Builds libdwexpr_c.a, the archive for C, and records what it was proved from. bin/package and the tests share it."""
+#!/usr/bin/env python3
+"""Proves and builds libdwexpr_c.a, the archive for C, unless the one that is there is that of these sources, and prints
+what it was proved from."""
 
 import contextlib
 
@@ -43,3 +45,16 @@ def proof_of(target=HERE):
     record = compiler.record_of(path_of(target)).read_text(encoding="utf-8").splitlines(keepends=True)
     remarks = "".join(line.removeprefix("# ") for line in record if line.startswith("#"))
     return f"{remarks}sources {compiler.sum_of_sources(CRATE)}\narchive {record[-1].split()[0]}\n"
+
+
+def main():
+    parser = commands.parser(__doc__)
+    parser.add_argument("target", metavar="TARGET", nargs="?", default=HERE, help="without it this machine's")
+    target = parser.parse_args().target
+    with commands.alone():
+        build(target)
+    print(f"libdwexpr.a for {target}\n{proof_of(target)}", end="")
+
+
+if __name__ == "__main__":
+    commands.end_with(main)

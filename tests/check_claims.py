@@ -2,12 +2,12 @@
 """README.md and docs/GUIDE.md do what they say.
 
 - Each command after a `$` prints the lines that follow it. `bin/test` is the gate itself, and isn't run.
-- Each program in C, a fence with a `main`, is built from a package by the command in front of it, in which DIR is the
-  package. It prints what the remarks after `printf` say. So does each program in Rust, with the crate.
+- Each program in C, a fence with a `main`, is built from what CMake installs by the command in front of it, in which DIR
+  is where that is. It prints what the remarks after `printf` say. So does each program in Rust, with the crate.
 - What README.md says of gdb is so: gdb prints variables of a file that is made by hand, of two units, one with addresses
   of 8 bytes and one of 4.
 
-It wants the program and the archive built, cc, pkg-config, rustc, rustfmt, and the gdb that README.md names. What is
+It wants the program built, cc, CMake, pkg-config, rustc, rustfmt, and the gdb that README.md names. What is
 missing is left out, and said so. The last line is `N passed, M failed`.
 """
 
@@ -23,7 +23,7 @@ from checks import check, commands, expect, lacks, left_out, prints, run
 import archive
 from commands import TOP
 
-sys.path.insert(0, str(TOP / "tests" / "libdw"))
+sys.path.insert(0, str(TOP / "c/libdw/tests"))
 from unit import Unit  # noqa: E402
 
 PAGES = {name: (TOP / name).read_text(encoding="utf-8") for name in ("README.md", "docs/GUIDE.md")}
@@ -75,14 +75,11 @@ def programs(language, entry):
 
 
 def in_c():
-    """Each program in C prints what it says, if it is built from a package as the page says."""
-    if lacks("the programs in C", "cc", "pkg-config", "rt"):
-        return
-    if not archive.is_built():
-        left_out("the programs in C", "archive of these sources")
+    """Each program in C prints what it says, if it is built as the page says."""
+    if lacks("the programs in C", "cc", "cmake", "pkg-config"):
         return
     with commands.temporary() as folder:
-        check("bin/package", [TOP / "bin/package", "--prefix", folder / "package"])
+        checks.build_libraries(folder / "package", archive.path_of() if archive.is_built() else "rustc")
         for page, before, program, wanted in programs("c", "int main("):
             (folder / "program.c").write_text(program)
             command = BUILD.findall(before)[-1].replace("DIR", f"{folder}/package")

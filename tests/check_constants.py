@@ -5,9 +5,6 @@ The constants are those of crates/dwarf_base/src/constants.rt. The law is the co
 too: each of its clauses names a list of specs/StandardNumbers.antt, with rows of a number and a constant. The prover
 sees that the rows are right; it can't see that one is missing.
 
-The numbers that the archive and C share stand in files of crates/dwexpr_c/src, and in enums of include/dwexpr.h. Each
-of both has to be in the other, with the same number.
-
 A constant that doesn't stand there, or twice, is printed. The last line is `N passed, M failed`, of the constants; the
 status is 1 if one failed.
 """
@@ -23,21 +20,6 @@ CRATE = TOP / "crates" / "dwarf_base"
 CONSTANTS = CRATE / "src" / "constants.rt"
 LAW = CRATE / "src" / "laws.rt"
 LISTS = CRATE / "specs" / "StandardNumbers.antt"
-
-HEADER = TOP / "include" / "dwexpr.h"
-# Each enum of the header, and its file. What the header has for the driver and for no kind isn't in a file.
-ENUMS = {
-    "dwexpr_code": "faults",
-    "dwexpr_operation_kind": "kinds",
-    "dwexpr_type": "types",
-    "dwexpr_step_kind": "step_kinds",
-    "dwexpr_request": "requests",
-    "dwexpr_piece_kind": "piece_kinds",
-}
-OF_HEADER_ALONE = {"TOO_MANY_TEXTS", "REFUSED", "NONE"}
-NUMBER = re.compile(r"^pub\(crate\) const (\w+): u32 = (\d+);", re.MULTILINE)
-ENUM = re.compile(r"^enum (\w+) \{(.*?)^\};", re.MULTILINE | re.DOTALL)
-ENTRY = re.compile(r"^ *DWEXPR_(?:OP_)?(\w+) = (\d+)", re.MULTILINE)
 
 COMMENT = re.compile(r"(?://|--).*")
 CONSTANT = re.compile(r"^pub const (\w+):", re.MULTILINE)
@@ -57,12 +39,6 @@ def main():
     rows = collections.Counter(name for clause in CLAUSE.findall(read(LAW)) for name in ROW.findall(lists[clause]))
     for name in CONSTANT.findall(read(CONSTANTS)) or ["no constant"]:
         expect(rows[name] == 1, f"{name} stands {rows[name]} times in the law of constants")
-    for name, body in ENUM.findall(HEADER.read_text(encoding="utf-8")):
-        shared = dict(NUMBER.findall(read(TOP / "crates" / "dwexpr_c" / "src" / f"{ENUMS[name]}.rt")))
-        for entry, number in ENTRY.findall(body):
-            if entry not in OF_HEADER_ALONE:
-                expect(shared.pop(entry, None) == number, f"{entry} isn't {number} in {ENUMS[name]}.rt")
-        expect(not shared, f"{name} lacks {', '.join(shared)}")
 
 
 if __name__ == "__main__":

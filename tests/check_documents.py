@@ -162,7 +162,7 @@ def operations():
 
 def figures():
     """Figures that a page takes from elsewhere: they are the same there."""
-    limits = tuple(LIMIT.findall(read("include/dwexpr.h")))
+    limits = tuple(LIMIT.findall(read("c/include/dwexpr.h")))
     # SPEED.md names the lists of the benchmark.
     for page in filter(SPEED.__ne__, documents()):
         for named in LIMITS.findall(read(page)):
@@ -171,7 +171,7 @@ def figures():
     for page in documents():
         for named in FAULTS.findall(read(page)):
             expect(named == faults, f"{page} names {named} faults, and there are {faults}")
-    size = re.search(r"#define DWEXPR_EVALUATION_SIZE (\d+)", read("include/dwexpr.h"))[1]
+    size = re.search(r"#define DWEXPR_EVALUATION_SIZE (\d+)", read("c/include/dwexpr.h"))[1]
     expect(f"at most {int(size):,} bytes" in read(GUIDE), f"{GUIDE} names another size of an evaluation")
     logic = set(LOGIC.findall(read(PROOFS)))
     expect(logic == set(LOGIC.findall(read(README))), f"{README} and {PROOFS} name different logics")

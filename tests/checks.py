@@ -11,8 +11,11 @@ sys.path.insert(0, str(pathlib.Path(__file__).resolve().parent.parent / "bin"))
 import commands  # noqa: E402
 import compiler  # noqa: E402
 import sources  # noqa: E402
-from libraries import OWN, STRICT  # noqa: E402
+from commands import TOP  # noqa: E402
 
+# How C and C++ are compiled here, with no warning; and how else the headers are, as a user may do it.
+STRICT = ["-pedantic", "-Wall", "-Wextra", "-Werror", f"-I{TOP / 'c/include'}", f"-I{TOP / 'c/libdw/include'}"]
+OWN = ["-Wconversion", "-Wsign-conversion", "-Wshadow"]
 SANITIZERS = ["-g", "-fsanitize=address,undefined", "-fno-sanitize-recover=all"]
 # How callers in C are built here.
 KINDS = {"": ["-O2"], " with sanitizers": SANITIZERS}
@@ -83,6 +86,15 @@ def count_of(name, words, **more):
 def built(source, program, *words, cc=("cc", "-std=c11"), kind=""):
     """Builds a program of a source with these words, without a warning. Its path, or `None` if it isn't built."""
     return check(f"{source.name}{kind}: build", [*cc, *STRICT, source, *words, "-o", program]) and program
+
+
+def build_libraries(folder, core, *flags):
+    """Builds the libraries for C by CMake in a folder, with these flags, and installs them there. Their folder."""
+    options = [f"-DDWEXPR_CORE={core}", f"-DCMAKE_C_FLAGS={' '.join(flags)}", "-DBUILD_TESTING=OFF"]
+    commands.run("cmake", "-S", TOP / "c", "-B", folder / "build", *options, f"-DCMAKE_INSTALL_PREFIX={folder}")
+    commands.run("cmake", "--build", folder / "build", "--parallel", "4")
+    commands.run("cmake", "--install", folder / "build")
+    return folder / "lib"
 
 
 def check_by_valgrind(name, words):

@@ -2,7 +2,7 @@
 """Tries wrong bodies of the Rust crate: the program of tests/beside_archive has to see that the crate differs from the
 archive for C. `cargo test` runs that program on the crate as it is, if DWEXPR_ARCHIVE names the archive.
 
-A wrong body changes a line of a proved source, and the archive stays as it is proved; tests/run_c.py builds it.
+A wrong body changes a line of a proved source, and the archive stays as it is proved; bin/archive.py builds it.
 tests/beside_archive/wrong-bodies has them: a name, a file, a text that stands in it once, and another.
 
 The last line is `N passed, M failed`.
@@ -57,7 +57,7 @@ def main():
     if lacks("wrong bodies of the Rust crate", "rustc"):
         return
     if not archive.is_built():
-        raise Failure("there is no archive of these sources: tests/run_c.py builds it")
+        raise Failure("there is no archive of these sources: bin/archive.py builds it")
     with commands.temporary(prefix="beside-archive-") as folder:
         checks.copy_packages(folder)
         checks.try_wrong_bodies(PROGRAM / "wrong-bodies", folder, ".", seen)

@@ -1,7 +1,7 @@
 """Compares what examples/where.c prints of stopped programs, and of their core dumps, with what gdb says.
 tests/run_libdw.py uses it.
 
-Each program of tests/stopped is built at -O0 to -O3 in versions 4 and 5 of DWARF, and stopped at each of its places.
+Each program of c/libdw/tests/stopped is built at -O0 to -O3 in versions 4 and 5 of DWARF, and stopped at each of its places.
 Some are also built with split debug information, link-time optimization, type units, the 64-bit format and for i386, if
 the compiler can. At each place `where` prints the stopped process. The process then goes on to its end by the same
 signal, and `where` prints the core dump that the kernel writes.
@@ -26,8 +26,8 @@ import time
 from checks import commands
 from commands import TOP
 
-IN_GDB = TOP / "tests" / "libdw" / "in_gdb.py"
-SOURCES = sorted((TOP / "tests" / "stopped").iterdir())
+IN_GDB = TOP / "c/libdw/tests/in_gdb.py"
+SOURCES = sorted((TOP / "c/libdw/tests/stopped").iterdir())
 COMPILERS = {".c": ["gcc", "clang"], ".cpp": ["g++", "clang++"], ".rs": ["rustc"]}
 OPTIMIZATIONS = ["-O0", "-O1", "-O2", "-O3"]
 VERSIONS = ["-gdwarf-4", "-gdwarf-5"]
@@ -182,7 +182,7 @@ LOST = "known here alone, as gdb doesn't find what a pointer points into"
 NO_OFFSET = "in thread-local storage at a wrong offset, refused here alone"
 # Functions call each other by tail calls. gdb takes what the first one was given, if it is in LLVM's form.
 CHANGED_ON_THE_WAY = "on entry of a function that calls itself by tail calls, refused here alone"
-# gdb stops after 256 expressions. The variables of tests/stopped/deep.c are known by the level.
+# gdb stops after 256 expressions. The variables of c/libdw/tests/stopped/deep.c are known by the level.
 BEYOND = "known here alone, as the source says, after more expressions than gdb evaluates"
 OF_LEVEL = {("deep", "n"): lambda level: level, ("deep", "step"): lambda level: 302 - level}
 # LLVM leaves out the last pieces of a static struct.
@@ -267,7 +267,7 @@ def compare_all(where, jobs):
     """Compares programs: the sums, for the process and the core dump."""
     sums = {"process": collections.Counter(), "core dump": collections.Counter()}
     with concurrent.futures.ProcessPoolExecutor() as pool:
-        jobs = [(where, TOP / "tests" / "stopped" / source, *words) for source, *words in jobs]
+        jobs = [(where, TOP / "c/libdw/tests/stopped" / source, *words) for source, *words in jobs]
         for found, lines in pool.map(compare_program, *zip(*jobs)):
             for what, counted in found.items():
                 sums[what] += counted

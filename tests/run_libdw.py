@@ -2,17 +2,17 @@
 """Builds and runs what stands on libdw: libdwexpr_libdw.a and the examples.
 
 - The headers, without a warning as C11, C17 and C++17.
-- tests/libdw/values.c, rules.c and entries.c: values of expressions, bytes that are put together from libdw's
+- c/libdw/tests/values.c, rules.c and entries.c: values of expressions, bytes that are put together from libdw's
   operations, call frame information, entries that expressions name; with the sanitizers of addresses and of undefined
   behaviour too.
 - Bytes that are put together are the file's: for every operation in every encoding of a unit, and for libc6-dbg.
 - examples/expressions.c: libdw's operations and this library's are the same, for programs and for libc6-dbg. It says so
   if they aren't, whichever field of an operation but the kind is changed.
-- examples/variable.c and tests/libdw/stack.cpp on a stopped process, and examples/where.c on a process and its core
+- examples/variable.c and c/libdw/tests/stack.cpp on a stopped process, and examples/where.c on a process and its core
   dump, under valgrind.
-- tests/libdw/frames.c on stopped processes: registers and values of callers, limits, and reads by two threads.
+- c/libdw/tests/frames.c on stopped processes: registers and values of callers, limits, and reads by two threads.
 - examples/where.c and gdb, for processes and core dumps (compare_gdb.py).
-- tests/libdw/hostile.c: programs whose debug information has wrong bytes.
+- c/libdw/tests/hostile.c: programs whose debug information has wrong bytes.
 
 It takes two minutes on four processors. It wants cc and libdw; what else is missing is left out, and said so. The last
 line is `N passed, M failed`.
@@ -26,8 +26,11 @@ import pathlib
 import platform
 import re
 import shutil
+import signal
 import struct
+import subprocess
 import sys
+import time
 
 import checks
 import compare_gdb
@@ -35,11 +38,14 @@ from checks import KINDS, SANITIZERS, check, check_headers, commands, count, cou
 from checks import lacks, left_out, prints, run
 
 import archive
-import libraries
 from commands import TOP
 
+C = TOP / "c"
+LIBDW = C / "libdw"
+TESTS = LIBDW / "tests"
+
 NO_LEAKS = {"ASAN_OPTIONS": "detect_leaks=0"}
-BUT_FOR_LIBDW = {"LSAN_OPTIONS": f"suppressions={TOP / 'tests/libdw/leaks'}:print_suppressions=0"}
+BUT_FOR_LIBDW = {"LSAN_OPTIONS": f"suppressions={TESTS / 'leaks'}:print_suppressions=0"}
 ALL = "--all" in sys.argv
 if ALL:
     checks.SECONDS = 3000
@@ -53,14 +59,16 @@ COMPARED = re.compile(
 NONE_DIFFERS = {"status": 0, "differing": 0, "refused": 0}
 
 
-# libdwexpr_libdw.a, as it is and with the sanitizers.
+# The folders of the libraries, as they are and with the sanitizers.
 LIBRARIES = {}
 
 
 def built(source, program, *words, **more):
     """Builds a source of the repository over the library and the archive, without a warning: the program, or None."""
     kind = "checked" if SANITIZERS[-1] in words else "plain"
-    return checks.built(TOP / source, program, *words, LIBRARIES[kind], archive.path_of(), "-ldw", "-lelf", **more)
+    libraries = [LIBRARIES[kind] / "libdwexpr_libdw.a", LIBRARIES[kind] / "libdwexpr.a"]
+    words = [*words, f"-I{C / 'tests'}", *libraries, "-ldw", "-lelf"]
+    return checks.built(LIBDW / source, program, *words, **more)
 
 
 @functools.cache
@@ -70,23 +78,23 @@ def built_where(folder):
 
 
 def callers(folder):
-    check("entries.py", [sys.executable, TOP / "tests/libdw/entries.py", folder])
+    check("entries.py", [sys.executable, TESTS / "entries.py", folder])
     for name in ["values", "rules", "entries"]:
         if name == "rules" and platform.machine() != "x86_64":
-            left_out("tests/libdw/rules.c", "x86-64")
+            left_out("c/libdw/tests/rules.c", "x86-64")
             continue
         given = sorted(folder.glob("*.entries")) if name == "entries" else []
         for kind, words in KINDS.items():
-            if program := built(f"tests/libdw/{name}.c", folder / name, *words):
+            if program := built(f"tests/{name}.c", folder / name, *words):
                 # libdwfl keeps some memory
                 count_of(f"{name}.c{kind}", [program, *given], env=NO_LEAKS if name == "rules" else {})
 
 
 def programs(folder, what, stems, levels):
-    """Programs of tests/stopped with debug information."""
+    """Programs of c/libdw/tests/stopped with debug information."""
     for compiler, stem, level, version in itertools.product(("gcc", "clang"), stems, levels, ("4", "5")):
         file = folder / f"{stem}-{compiler}{level}-{version}"
-        words = [compiler, level, "-g", f"-gdwarf-{version}", TOP / f"tests/stopped/{stem}.c", "-o", file]
+        words = [compiler, level, "-g", f"-gdwarf-{version}", TESTS / f"stopped/{stem}.c", "-o", file]
         if not lacks(f"{what} of {compiler}", compiler) and check(f"{file.name}: build", words):
             yield file
 
@@ -109,8 +117,8 @@ def put_together(round_trip, files, what):
 
 def expressions(folder):
     compare = built("examples/expressions.c", folder / "expressions", "-O2")
-    round_trip = built("tests/libdw/round_trip.c", folder / "round_trip", "-O2")
-    made = check("every operation", [sys.executable, TOP / "tests/libdw/every_operation.py", folder])
+    round_trip = built("tests/round_trip.c", folder / "round_trip", "-O2")
+    made = check("every operation", [sys.executable, TESTS / "every_operation.py", folder])
     if not (compare and round_trip and made):
         return
     every, total = sorted(folder.glob("*.elf")), int(made.stdout)
@@ -137,10 +145,10 @@ def expressions(folder):
 
 def changed_fields(folder, file):
     """examples/expressions.c tells each field of an operation that is changed."""
-    words = ["-Wl,--wrap=dwexpr_decode", TOP / "tests/libdw/changed.c"]
+    words = ["-Wl,--wrap=dwexpr_decode", TESTS / "changed.c"]
     program = built("examples/expressions.c", folder / "changed", *words)
     # The first of the three places is that of a machine whose words have 64 bits.
-    places = re.findall(r"DWEXPR_AT\(dwexpr_operation, (\w+), (\d+), ", (TOP / "include/dwexpr.h").read_text())
+    places = re.findall(r"DWEXPR_AT\(dwexpr_operation, (\w+), (\d+), ", (C / "include/dwexpr.h").read_text())
     if program and expect(len(places) == 14, "the fields of an operation", places):
         found = {name: compared(program, [file], env={"CHANGED": place}) for name, place in places}
         # Those of a fault's code and of the kind, which libdw doesn't have.
@@ -153,10 +161,27 @@ def changed_fields(folder, file):
 
 # Above the largest id of a process.
 NO_PROCESS = 2**22 + 1
-# Place 11 of tests/stopped/pieces.c is in `middle`, which `outermost` called with 3 and `main` with argc 2.
+# Place 11 of c/libdw/tests/stopped/pieces.c is in `middle`, which `outermost` called with 3 and `main` with argc 2.
 PLACE = 11
 INNERMOST = "inner = 43"
 WANTED = ["in middle", INNERMOST, "n = 6", "square = 36", "in outermost", "n = 3", "twice = 6", "in main", "argc = 2"]
+
+
+# The variables of these names in the innermost frame that has one, whether or not it is the first.
+VARIABLES = [INNERMOST, "n = 6", "square = 36", "twice = 6", "argc = 2"]
+
+
+def in_library(folder, variable):
+    """examples/variable.c on a process that waits in the C library."""
+    program = folder / "waiting"
+    if not variable or not check("waiting.c: build", ["cc", "-g", "-O0", TESTS / "waiting.c", "-o", program]):
+        return
+    with subprocess.Popen([program], stdin=subprocess.PIPE) as process:
+        time.sleep(1)
+        process.send_signal(signal.SIGSTOP)
+        prints("examples/variable.c, in the C library", [variable, process.pid, "answer"], "answer = 42\n")
+        prints("examples/variable.c, in no frame", [variable, process.pid, "number"], "", 1)
+        process.kill()
 
 
 def where_on(words, where, checked):
@@ -175,15 +200,20 @@ def examples(folder):
     """The examples on a stopped process and on its core dump."""
     variable = built("examples/variable.c", folder / "variable", "-O2")
     checked = built("examples/where.c", folder / "where_checked", *SANITIZERS)
+    in_library(folder, variable)
     where, program = built_where(folder), folder / "pieces.c-cc-O0"
     with stopped_at(folder, "pieces.c", "cc", ["-O0"], PLACE) as process:
         if not (variable and where and checked and process):
             return left_out("the examples on a stopped process", "process that stops")
         for words in ([variable, NO_PROCESS, "inner"], [where, "--pid", NO_PROCESS], [where, "--core", program]):
             prints(f"{words[0].name} on nothing", words, "", 2)
-        prints("examples/variable.c", [variable, process.pid, INNERMOST.split()[0]], INNERMOST + "\n")
-        if not lacks("tests/libdw/stack.cpp", "c++"):
-            if stack := built("tests/libdw/stack.cpp", folder / "stack", cc=("c++", "-std=c++17")):
+        for line in VARIABLES:
+            prints("examples/variable.c", [variable, process.pid, line.split()[0]], line + "\n")
+        done = run([variable, process.pid, "middle"])
+        said = (done.stdout, done.stderr, done.returncode)
+        expect(said == ("", "no frame has a variable middle\n", 1), "examples/variable.c, a function", said)
+        if not lacks("c/libdw/tests/stack.cpp", "c++"):
+            if stack := built("tests/stack.cpp", folder / "stack", cc=("c++", "-std=c++17")):
                 prints("stack.cpp", [stack, process.pid], "middle\n")
         where_on(["--pid", process.pid], where, checked)
         if core := compare_gdb.dumped(process, folder):
@@ -196,10 +226,10 @@ def examples(folder):
 
 @contextlib.contextmanager
 def stopped_at(folder, source, compiler, words, place):
-    """A process that stopped at a place of a program in tests/stopped or tests/libdw, or None. It ends with the block.
+    """A process that stopped at a place of a program in c/libdw/tests/stopped or tests/libdw, or None. It ends with the block.
     """
     program = folder / f"{source}-{compiler}{words[0]}"
-    path = next(filter(pathlib.Path.exists, (TOP / "tests" / it / source for it in ("stopped", "libdw"))))
+    path = next(filter(pathlib.Path.exists, (TESTS / it / source for it in ("stopped", "."))))
     call = [compiler, "-g", *words, path, "-o", program]
     # gnatmake writes what it makes on the way where it is called
     if lacks(f"{source} by {compiler}", compiler) or not check(f"{program.name}: build", call, cwd=folder):
@@ -209,7 +239,7 @@ def stopped_at(folder, source, compiler, words, place):
         yield process
 
 
-# What tests/libdw/frames.c looks at, and the program for it.
+# What c/libdw/tests/frames.c looks at, and the program for it.
 FRAMES = [
     ("deep", "deep.c", "gcc", ["-O1"], 1),
     ("members", "pieces.c", "gcc", ["-O0", "-gdwarf-4"], 1),
@@ -224,9 +254,9 @@ FRAMES = [
 
 
 def frames(folder):
-    """tests/libdw/frames.c: registers and values of callers, limits, and reads by two threads."""
+    """c/libdw/tests/frames.c: registers and values of callers, limits, and reads by two threads."""
     for kind, flags in KINDS.items():
-        program = built("tests/libdw/frames.c", folder / "frames", "-pthread", *flags)
+        program = built("tests/frames.c", folder / "frames", "-pthread", *flags)
         for which, source, compiler, words, place in FRAMES:
             with stopped_at(folder, source, compiler, words, place) as process:
                 if program and process:
@@ -234,7 +264,7 @@ def frames(folder):
                     count_of(name, [program, which, process.pid], env=NO_LEAKS)
 
 
-# What examples/where.c prints of place 3 of tests/stopped/registers.c. A long double has 10 bytes of 16.
+# What examples/where.c prints of place 3 of c/libdw/tests/stopped/registers.c. A long double has 10 bytes of 16.
 CHARACTERS = ["negative = -98", "large = 202 (0xca)", "letter = -3", "counted = 7", "is_set = 1 (0x1)"]
 
 
@@ -286,7 +316,7 @@ def with_gdb(folder):
 
 def hostile(folder):
     """Programs with wrong bytes; each job changes some 10 bytes for each of its numbers."""
-    program = built("tests/libdw/hostile.c", folder / "hostile", "-O1", *SANITIZERS)
+    program = built("tests/hostile.c", folder / "hostile", "-O1", *SANITIZERS)
     if not program or platform.machine() != "x86_64":
         return left_out("hostile debug information", "x86-64")
     numbers = 4000 if ALL else 130
@@ -317,10 +347,10 @@ def main():
     with commands.temporary() as folder:
         if not has_libdw(folder):
             return left_out("include/dwexpr_libdw.h and the examples over it", "libdw")
-        with commands.alone():
-            archive.build()
-        for kind, words in [("plain", ["-O2"]), ("checked", ["-O1", *SANITIZERS])]:
-            LIBRARIES[kind] = libraries.build("libdw", folder / kind, *words)
+        core = archive.path_of() if archive.is_built() else "rustc"
+        print(f"over {'the proved archive' if archive.is_built() else 'the library by rustc'}")
+        for kind, words in [("plain", []), ("checked", ["-O1", *SANITIZERS])]:
+            LIBRARIES[kind] = checks.build_libraries(folder / kind, core, *words)
         check_headers("dwexpr_libdw.h", "dwexpr_names.h")
         for stage in [callers, expressions, examples, frames, texts, with_gdb, hostile]:
             stage(folder)

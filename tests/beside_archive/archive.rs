@@ -1,4 +1,4 @@
-//! The archive's structs and functions, as `include/dwexpr.h` declares them. All unsafe code is here.
+//! The archive's structs and functions, as `c/include/dwexpr.h` declares them. All unsafe code is here.
 
 use std::mem::{offset_of, size_of};
 

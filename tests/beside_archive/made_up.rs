@@ -25,9 +25,13 @@ pub const KINDS: [Kind; 9] = [
 
 /// The form of the operands of each opcode, as the header has it.
 static FORMS: LazyLock<Vec<u8>> = LazyLock::new(|| {
-    let header = include_str!("../../include/dwexpr_names.h");
-    let table = header.split_once("char forms[] =").and_then(|(_, rest)| rest.split_once(';'));
-    table.expect("the header has a table of forms").0.split('"').skip(1).step_by(2).flat_map(str::bytes).collect()
+    let rows = include_str!("../../c/include/dwexpr_opcodes.h").lines();
+    let mut forms = vec![b'.'; 256];
+    for row in rows.filter_map(|line| line.trim().strip_prefix("row(0x")) {
+        let opcode = usize::from_str_radix(&row[..2], 16).expect("a row begins with an opcode");
+        forms[opcode] = row.split('\'').nth(1).expect("a row ends with a form").as_bytes()[0];
+    }
+    forms
 });
 
 /// `lit0`, `lit1`, `lit31`, all constants, `dup`, `over`, `pick`.

@@ -42,7 +42,7 @@ pub fn numbers_of(value: Value) -> archive::Value {
 
 /// The number of the one constant of the header whose name begins so, and whose rest is accepted.
 fn constant(prefix: &str, is_it: impl Fn(&str) -> bool) -> u32 {
-    let lines = include_str!("../../include/dwexpr.h").lines();
+    let lines = include_str!("../../c/include/dwexpr.h").lines();
     let mut found = lines.filter_map(|line| line.trim().strip_prefix(prefix)?.split_once(" = "));
     let (_, rest) = found.find(|(name, _)| is_it(name)).expect("the header has the constant");
     assert!(!found.any(|(name, _)| is_it(name)), "the header has two such constants");

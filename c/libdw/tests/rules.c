@@ -1,0 +1,175 @@
+/* Expressions of call frame information: the bytes that the assembler was given, and what they come to. For x86-64. */
+#include "check.h"
+#include "dwexpr_libdw.h"
+#include <stdlib.h>
+#include <string.h>
+#include <unistd.h>
+
+void rules(void);
+
+/* The CFA is what memory holds 8 bytes above rsp. Registers: 3 is at the CFA + 16, by an expression with a number of
+ * two bytes; 12 has the value CFA * 2 - 1; 6 is at the CFA - 16; 14 has the value CFA - 8; 13 is in 15. */
+__asm__(".text\n"
+        ".globl rules\n"
+        ".type rules, @function\n"
+        "rules:\n"
+        ".cfi_startproc\n"
+        ".cfi_escape 0x0f, 0x04, 0x77, 0x88, 0x00, 0x06\n"
+        ".cfi_escape 0x10, 0x03, 0x04, 0x23, 0x90, 0x00, 0x96\n"
+        ".cfi_escape 0x16, 0x0c, 0x06, 0x12, 0x22, 0x11, 0x7f, 0x22, 0x96\n"
+        ".cfi_offset 6, -16\n"
+        ".cfi_val_offset 14, -8\n"
+        ".cfi_register 13, 15\n"
+        ".cfi_undefined 2\n"
+        ".cfi_same_value 5\n"
+        "nop\n"
+        "ret\n"
+        ".cfi_endproc\n"
+        ".size rules, .-rules\n");
+
+/* A function without a rule. */
+void plain(void);
+__asm__(".globl plain\n"
+        ".type plain, @function\n"
+        "plain:\n"
+        ".cfi_startproc\n"
+        "nop\n"
+        "ret\n"
+        ".cfi_endproc\n"
+        ".size plain, .-plain\n");
+
+static const struct {
+    int number; /* -1 for the CFA */
+    const char *bytes;
+    int on_cfa, is_value;
+    uint32_t code, piece; /* what it comes to if the CFA is 0x5000 */
+    uint64_t value;
+} rows[] = {
+    {-1, "77 8800 06", 0, 0, 0, DWEXPR_AT_ADDRESS, 0x5000},
+    {3, "23 9000 96", 1, 0, 0, DWEXPR_AT_ADDRESS, 0x5010},
+    {12, "12 22 11 7f 22 96", 1, 1, 0, DWEXPR_AT_ADDRESS, 0x9fff},
+    {6, "23 f0ffffffffffffffff01", 1, 0, 0, DWEXPR_AT_ADDRESS, 0x4ff0},
+    {14, "23 f8ffffffffffffffff01", 1, 1, 0, DWEXPR_AT_ADDRESS, 0x4ff8},
+    {13, "90 0f", 0, 0, 0, DWEXPR_IN_REGISTER, 15},
+    {2, "", 0, 0, DWEXPR_LIBDW_OPTIMIZED_AWAY, 0, 0},
+    {5, "", 0, 0, DWEXPR_LIBDW_SAME_VALUE, 0, 0},
+    /* no rule names rax, which a call may change */
+    {0, "", 0, 0, DWEXPR_LIBDW_OPTIMIZED_AWAY, 0, 0},
+};
+
+/* register 7 has 0x1000, and memory at 0x1008 has 0x5000 */
+static int read_register(void *context, uint32_t number, uint8_t *bytes, size_t *size)
+{
+    static const uint64_t content = 0x1000;
+    (void)context;
+    *size = sizeof content;
+    memcpy(bytes, &content, sizeof content);
+    return number != 7;
+}
+
+static int read_memory(void *context, uint64_t address, uint8_t *bytes, size_t size)
+{
+    static const uint64_t content = 0x5000;
+    (void)context;
+    if (address != 0x1008 || size > sizeof content)
+        return 1;
+    memcpy(bytes, &content, size);
+    return 0;
+}
+
+/* Registers of the caller: those of memory from 0x4ff0 on aren't known. */
+static void check_registers(dwexpr_libdw_frame *frame)
+{
+    static const struct {
+        int number;
+        uint64_t value;
+        uint32_t code;
+    } wanted[] = {
+        {DWEXPR_LIBDW_CFA, 0x5000, 0},
+        {12, 0x9fff, 0},
+        {14, 0x4ff8, 0},
+        {3, 0, DWEXPR_LIBDW_NOT_READABLE},
+        {13, 0, DWEXPR_LIBDW_NOT_READABLE},
+        {2, 0, DWEXPR_LIBDW_OPTIMIZED_AWAY},
+        {7, 0x5000, 0},
+        {5, 0, DWEXPR_LIBDW_NOT_READABLE},
+    };
+    size_t i;
+    for (i = 0; i < COUNT(wanted); i++) {
+        uint8_t got[DWEXPR_LIBDW_REGISTER_SIZE];
+        char name[32];
+        size_t size;
+        const uint32_t code = dwexpr_libdw_caller_register(frame, wanted[i].number, got, &size);
+        snprintf(name, sizeof name, "register %d of the caller", wanted[i].number);
+        check(code == wanted[i].code, name, dwexpr_libdw_code_name(code));
+        check(code || (size == 8 && !memcmp(got, &wanted[i].value, 8)), name, "its value");
+    }
+}
+
+/* What call frame information says at an address, or NULL, and its file. */
+static Dwarf_Frame *rules_at(Dwfl *dwfl, void (*function)(void), Elf **elf)
+{
+    const Dwarf_Addr address = (Dwarf_Addr)(uintptr_t)function;
+    Dwfl_Module *module = dwfl_addrmodule(dwfl, address);
+    Dwarf_Addr bias, bias_of_elf;
+    Dwarf_CFI *table = dwfl_module_eh_cfi(module, &bias);
+    Dwarf_Frame *state = NULL;
+    *elf = dwfl_module_getelf(module, &bias_of_elf);
+    dwarf_cfi_addrframe(table, address - bias, &state);
+    return state;
+}
+
+/* What the ABI says of registers that no rule names: a call keeps rbx, and may change rax. */
+static void check_plain(Dwfl *dwfl)
+{
+    Elf *elf;
+    Dwarf_Frame *state = rules_at(dwfl, plain, &elf);
+    dwexpr_libdw_text text;
+    check(state != NULL, "no rules", "a state");
+    check(dwexpr_libdw_rule(state, elf, 3, &text) == DWEXPR_LIBDW_SAME_VALUE, "rbx", "it is kept");
+    check(dwexpr_libdw_rule(state, elf, 0, &text) == DWEXPR_LIBDW_OPTIMIZED_AWAY, "rax", "it isn't");
+    free(state);
+}
+
+int main(void)
+{
+    static const Dwfl_Callbacks finders = {dwfl_linux_proc_find_elf, dwfl_standard_find_debuginfo, NULL, NULL};
+    Dwfl *dwfl = dwfl_begin(&finders);
+    const dwexpr_libdw_source source = {.dwfl = dwfl, .pc = (Dwarf_Addr)(uintptr_t)rules, .is_activation = 1,
+                                        .read_register = read_register, .read_memory = read_memory};
+    Dwarf_Frame *state;
+    dwexpr_libdw_frame *frame;
+    Elf *elf;
+    size_t i;
+    dwfl_linux_proc_report(dwfl, getpid());
+    dwfl_report_end(dwfl, NULL, NULL);
+    state = rules_at(dwfl, rules, &elf);
+    check(state != NULL, "rules", "they are there");
+    dwexpr_libdw_make_frame(&source, &frame);
+    for (i = 0; state && i < COUNT(rows); i++) {
+        uint8_t wanted[64];
+        char name[32];
+        const size_t length = bytes_of(rows[i].bytes, wanted);
+        dwexpr_libdw_text expression;
+        dwexpr_libdw_value *value;
+        const uint32_t code = dwexpr_libdw_rule(state, elf, rows[i].number, &expression);
+        snprintf(name, sizeof name, "register %d", rows[i].number);
+        check(code == rows[i].code, name, dwexpr_libdw_code_name(code));
+        check(expression.text.length == length && (!length || !memcmp(expression.text.bytes, wanted, length)), name,
+              "bytes");
+        check(expression.on_cfa == rows[i].on_cfa && expression.is_value == rows[i].is_value, name, "what it means");
+        if (!code) {
+            check(!dwexpr_libdw_evaluate(frame, &expression, NULL, NULL, &value) && value->outcome.pieces == 1 &&
+                      value->pieces[0].kind == rows[i].piece && value->pieces[0].number == rows[i].value,
+                  name, "its value");
+            dwexpr_libdw_release(value);
+        }
+        dwexpr_libdw_free_text(&expression);
+    }
+    check_registers(frame);
+    check_plain(dwfl);
+    free(state);
+    dwexpr_libdw_free_frame(frame);
+    dwfl_end(dwfl);
+    return finish();
+}

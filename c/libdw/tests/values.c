@@ -1,0 +1,338 @@
+/* Values of expressions in a frame whose registers and memory are known, in both byte orders, and bytes that are put
+ * together from operations. Expected bits are counted by hand. */
+#include "check.h"
+#include "frame.h"
+
+static uint8_t bytes[256], got[64], unknown[64], wanted[64];
+
+/* ---- values */
+
+#define AWAY DWEXPR_LIBDW_OPTIMIZED_AWAY
+#define SMALL DWEXPR_LIBDW_TOO_SMALL
+#define POINTER DWEXPR_LIBDW_IMPLICIT_POINTER
+#define UNREADABLE DWEXPR_LIBDW_NOT_READABLE
+
+static const struct {
+    const char *name;
+    int big_endian;
+    const char *expression;
+    unsigned bits;
+    const char *bytes, *unknown;
+    uint32_t code;
+} rows[] = {
+    {"a register", 0, "50", 32, "88776655", "00000000", 0},
+    {"a register", 1, "50", 32, "55667788", "00000000", 0},
+    {"one bit of a register", 0, "50 9d 01 03", 1, "01", "00", 0},
+    {"one bit of a register", 1, "50 9d 01 03", 1, "80", "00", 0},
+    {"two registers", 0, "50 93 08 51 93 08", 128, "8877665544332211 00ffeeddccbbaa99",
+     "00000000000000000000000000000000", 0},
+    {"two registers", 1, "50 93 08 51 93 08", 128, "1122334455667788 99aabbccddeeff00",
+     "00000000000000000000000000000000", 0},
+    {"halves of registers", 0, "50 93 04 51 93 04", 64, "88776655 00ffeedd", "0000000000000000", 0},
+    {"halves of registers", 1, "50 93 04 51 93 04", 64, "55667788 ddeeff00", "0000000000000000", 0},
+    {"a wide register", 0, "61", 128, "000102030405060708090a0b0c0d0e0f", "00000000000000000000000000000000", 0},
+    {"the front of a wide register", 0, "61", 32, "00010203", "00000000", 0},
+    {"the end of a wide register", 1, "61", 32, "0c0d0e0f", "00000000", 0},
+    {"a register that is too small", 0, "50", 72, "887766554433221100", "0000000000000000ff", SMALL},
+    {"a register that is too small", 1, "50", 72, "001122334455667788", "ff0000000000000000", SMALL},
+    {"an unknown register", 0, "52", 32, "00000000", "ffffffff", UNREADABLE},
+    {"a half that is optimized away", 0, "50 93 04 93 04", 64, "8877665500000000", "00000000ffffffff", AWAY},
+    {"a half that is optimized away", 1, "93 04 50 93 04", 64, "0000000055667788", "ffffffff00000000", AWAY},
+    {"no piece for the rest", 0, "50 93 02", 32, "88770000", "0000ffff", AWAY},
+    /* the bits 1 to 3 of 88 are 100, and then come five ones */
+    {"bits of a register and a value", 0, "50 9d 03 01 4f 9f 9d 05 00", 8, "fc", "00", 0},
+    {"bits of a register and a value", 1, "50 9d 03 01 4f 9f 9d 05 00", 8, "9f", "00", 0},
+    {"bits that are optimized away", 0, "50 9d 03 01 9d 02 00 4f 9f 9d 03 00", 8, "e4", "18", AWAY},
+    {"bits that are optimized away", 1, "50 9d 03 01 9d 02 00 4f 9f 9d 03 00", 8, "87", "18", AWAY},
+    {"bits across bytes", 0, "50 9d 04 00 0c 00100000 93 02", 20, "081000", "000000", 0},
+    {"bits across bytes", 1, "50 9d 04 00 0c 00001000 93 02", 20, "800010", "000000", 0},
+    {"memory", 0, "0c 00100000", 24, "000102", "000000", 0},
+    {"memory", 1, "0c 00001000", 24, "000102", "000000", 0},
+    {"bits of memory", 0, "0c 05100000 9d 0c 04", 12, "6000", "0000", 0},
+    {"bits of memory", 1, "0c 00001005 9d 0c 04", 12, "5060", "0000", 0},
+    /* of 07 08 */
+    {"bits beyond the first byte", 0, "0c 05100000 9d 08 14", 8, "80", "00", 0},
+    {"the last byte of memory", 0, "0c ff1f0000", 8, "ff", "00", 0},
+    {"memory that ends", 0, "0c ff1f0000", 16, "ff00", "00ff", UNREADABLE},
+    {"memory that ends and begins", 0, "0c fe1f0000 93 04 0c fe0f0000 93 04", 64, "feff000000000001",
+     "0000ffffffff0000", UNREADABLE},
+    {"literal bytes", 0, "9e 04 aabbccdd", 32, "aabbccdd", "00000000", 0},
+    {"literal bytes", 1, "9e 04 aabbccdd", 32, "aabbccdd", "00000000", 0},
+    {"the front of literal bytes", 1, "9e 04 aabbccdd", 8, "aa", "00", 0},
+    {"bits of literal bytes", 0, "9e 02 a50f 9d 04 04", 4, "0a", "00", 0},
+    {"bits of literal bytes", 1, "9e 02 a50f 9d 04 04", 4, "50", "00", 0},
+    {"literal bytes that are too few", 0, "9e 01 aa", 16, "aa00", "00ff", SMALL},
+    {"literal bytes that are too few", 1, "9e 01 aa", 16, "aa00", "00ff", SMALL},
+    {"a value", 0, "31 9f", 32, "01000000", "00000000", 0},
+    {"a value", 1, "31 9f", 32, "00000001", "00000000", 0},
+    {"the bits of a value from bit 4", 0, "08 a5 9f 9d 04 04", 4, "0a", "00", 0},
+    {"the bits of a value from bit 4", 1, "08 a5 9f 9d 04 04", 4, "a0", "00", 0},
+    {"a value that is too small", 0, "31 9f", 128, "01000000000000000000000000000000",
+     "0000000000000000ffffffffffffffff", SMALL},
+    {"a value that is too small", 1, "31 9f", 128, "00000000000000000000000000000001",
+     "ffffffffffffffff0000000000000000", SMALL},
+    {"bits of a value that end before those of the piece", 0, "08 a5 9f 9d 10 3c", 16, "0000", "f0ff", SMALL},
+    {"an implicit pointer", 0, "a0 10000000 02", 64, "0000000000000000", "ffffffffffffffff", POINTER},
+    {"a struct with an implicit pointer", 0, "50 93 02 a0 10000000 02 93 02", 32, "88770000", "0000ffff", POINTER},
+    {"the first unknown bit", 0, "93 02 a0 10000000 02 93 02", 32, "00000000", "ffffffff", AWAY},
+    {"an empty expression", 0, "", 8, "00", "ff", AWAY},
+    {"a fault", 0, "22", 8, "00", "ff", DWEXPR_NOT_ENOUGH_STACK_ITEMS},
+    {"an endless loop", 0, "2f fdff", 8, "00", "ff", DWEXPR_TOO_MANY_ITERATIONS},
+    {"no memory", 0, "08 10 06", 8, "00", "ff", DWEXPR_LIBDW_WANTS + DWEXPR_WANTS_MEMORY},
+    {"another address space", 0, "30 0a 0010 18", 8, "00", "ff", DWEXPR_LIBDW_WANTS + DWEXPR_WANTS_MEMORY},
+    {"no register", 0, "75 00", 8, "00", "ff", DWEXPR_LIBDW_WANTS + DWEXPR_WANTS_REGISTER},
+    {"no frame base", 0, "91 00", 8, "00", "ff", DWEXPR_LIBDW_WANTS + DWEXPR_WANTS_FRAME_BASE},
+    {"no thread-local storage", 0, "30 9b", 8, "00", "ff", DWEXPR_LIBDW_WANTS + DWEXPR_WANTS_TLS},
+    {"no CFA", 0, "9c", 8, "00", "ff", DWEXPR_LIBDW_WANTS + DWEXPR_WANTS_CFA},
+    {"no entry to call", 0, "99 00000000", 8, "00", "ff", DWEXPR_LIBDW_WANTS + DWEXPR_WANTS_LOCATION},
+    {"no caller", 0, "a3 01 50 9f", 8, "00", "ff", DWEXPR_LIBDW_WANTS + DWEXPR_WANTS_ENTRY_VALUE},
+    {"no caller that passes a parameter", 0, "fa 00000000", 8, "00", "ff", DWEXPR_LIBDW_WANTS + DWEXPR_WANTS_PARAMETER},
+    {"no .debug_addr", 0, "a1 00", 8, "00", "ff", DWEXPR_LIBDW_WANTS + DWEXPR_WANTS_INDEXED},
+    {"no base type", 0, "31 a8 05", 8, "00", "ff", DWEXPR_LIBDW_WANTS + DWEXPR_WANTS_BASE_TYPE},
+    {"no base type of a register", 0, "a5 00 05", 8, "00", "ff", DWEXPR_LIBDW_WANTS + DWEXPR_WANTS_BASE_TYPE},
+    {"no WebAssembly", 0, "ed 00 00", 8, "00", "ff", DWEXPR_LIBDW_WANTS + DWEXPR_WANTS_WASM_LOCAL},
+};
+
+/* Evaluates an expression in a frame, which it frees, and reads bits of the value. Gives back whether there is a value,
+ * and the code. */
+static int read_value(const char *name, dwexpr_libdw_frame *frame, const uint8_t *expression, size_t length,
+                      dwexpr_encoding encoding, unsigned bits, uint32_t *code)
+{
+    const dwexpr_libdw_text text = {.text = {expression, length}, .encoding = encoding};
+    const size_t size = (bits + 7) / 8;
+    dwexpr_libdw_value *value;
+    int is_there;
+    *code = dwexpr_libdw_evaluate(frame, &text, NULL, NULL, &value);
+    is_there = !*code;
+    memset(got, 0x55, sizeof got);
+    memset(unknown, 0x55, sizeof unknown);
+    if (is_there) {
+        uint8_t again[64];
+        *code = dwexpr_libdw_read(frame, value, bits, got, unknown);
+        check(got[size] == 0x55 && unknown[size] == 0x55, name, "more is written");
+        check(dwexpr_libdw_read(frame, value, bits, again, NULL) == *code && !memcmp(again, got, size), name,
+              "without a place for unknown bits");
+    }
+    dwexpr_libdw_release(value);
+    dwexpr_libdw_free_frame(frame);
+    return is_there;
+}
+
+static void check_values(void)
+{
+    size_t i;
+    for (i = 0; i < COUNT(rows); i++) {
+        int big_endian = rows[i].big_endian;
+        const size_t length = bytes_of(rows[i].expression, bytes);
+        uint32_t code;
+        const int is_there = read_value(rows[i].name, make_frame(&big_endian), bytes, length,
+                                        encoding_of(8, 4, 5, big_endian), rows[i].bits, &code);
+        check(code == rows[i].code, rows[i].name, dwexpr_libdw_code_name(code));
+        if (is_there) {
+            const size_t size = bytes_of(rows[i].bytes, wanted);
+            check(size == (rows[i].bits + 7) / 8 && !memcmp(got, wanted, size), rows[i].name, "bytes");
+            bytes_of(rows[i].unknown, wanted);
+            check(!memcmp(unknown, wanted, size), rows[i].name, "unknown bits");
+        }
+    }
+}
+
+/* A generic value has the size of an address, which isn't always 8 bytes. */
+static void check_narrow_value(void)
+{
+    static const char name[] = "a value of 4 bytes";
+    static const uint8_t one[] = {0x31, 0x9f};
+    int big_endian = 0;
+    uint32_t code;
+    read_value(name, make_frame(&big_endian), one, sizeof one, encoding_of(4, 4, 5, 0), 64, &code);
+    check(code == SMALL, name, "the code");
+    check(!memcmp(got, "\1\0\0\0\0\0\0\0", 8), name, "bytes");
+    check(!memcmp(unknown, "\0\0\0\0\xff\xff\xff\xff", 8), name, "unknown bits");
+}
+
+/* What is given to an evaluation: the value on the stack, and the object's address. */
+static void check_given(void)
+{
+    static const uint8_t sum[] = {0x97, 0x22};
+    const dwexpr_libdw_text expression = {.text = {sum, sizeof sum}, .encoding = LE8};
+    const uint64_t initial = 3, object = 4;
+    int big_endian = 0;
+    dwexpr_libdw_frame *frame = make_frame(&big_endian);
+    dwexpr_libdw_value *value;
+    uint32_t code = dwexpr_libdw_evaluate(frame, &expression, &object, &initial, &value);
+    check(!code && value->outcome.value == 7, "an initial value and an object", dwexpr_libdw_code_name(code));
+    dwexpr_libdw_release(value);
+    code = dwexpr_libdw_evaluate(frame, &expression, NULL, &initial, &value);
+    check(code == DWEXPR_INVALID_PUSH_OBJECT_ADDRESS, "no object", dwexpr_libdw_code_name(code));
+    dwexpr_libdw_release(value);
+    dwexpr_libdw_free_frame(frame);
+}
+
+/* A callback that gives `*context` bytes. */
+static int read_bytes(void *context, uint32_t number, uint8_t *content, size_t *size)
+{
+    (void)number;
+    (void)content;
+    *size = *(size_t *)context;
+    return 0;
+}
+
+static void check_callbacks(void)
+{
+    static const uint8_t texts[][2] = {{0x50, 0}, {0x70, 0x00}};
+    static const char name[] = "a register of a wrong size";
+    static const size_t sizes[] = {65, SIZE_MAX};
+    size_t size, i;
+    for (i = 0; i < 4; i++) {
+        uint32_t code;
+        size = sizes[i % 2];
+        read_value(name, frame_of(read_bytes, NULL, &size), texts[i / 2], 1 + i / 2, LE8, 64, &code);
+        check(code == DWEXPR_LIBDW_BAD_REGISTER, name, dwexpr_libdw_code_name(code));
+    }
+}
+
+/* ---- callbacks that write nothing */
+
+/* The first of these calls writes, and each returns 0. */
+static int read_one_register(void *context, uint32_t number, uint8_t *content, size_t *size)
+{
+    (void)number;
+    if (*(int *)context) {
+        memset(content, 0xff, 8);
+        *size = 8;
+    }
+    *(int *)context = 0;
+    return 0;
+}
+
+static int read_memory_once(void *context, uint64_t address, uint8_t *content, size_t size)
+{
+    (void)address;
+    memset(content, 0xff, *(int *)context ? size : 0);
+    *(int *)context = 0;
+    return 0;
+}
+
+static void check_unwritten(void)
+{
+    static const struct {
+        const char *name, *expression;
+        uint32_t code;
+    } unwritten[] = {
+        {"memory that isn't written", "30 06 13 30 06 9f", 0},
+        {"a place in memory that isn't written", "30 06 13 08 10", 0},
+        {"a register that isn't written", "70 00 13 70 00 9f", DWEXPR_LIBDW_WANTS + DWEXPR_WANTS_REGISTER},
+        {"a piece in a register that isn't written", "70 00 13 50", UNREADABLE},
+    };
+    static const uint8_t zeros[8];
+    size_t i;
+    for (i = 0; i < COUNT(unwritten); i++) {
+        const size_t length = bytes_of(unwritten[i].expression, bytes);
+        const char *name = unwritten[i].name;
+        int writes = 1;
+        uint32_t code;
+        read_value(name, frame_of(read_one_register, read_memory_once, &writes), bytes, length, LE8, 64, &code);
+        check(code == unwritten[i].code, name, dwexpr_libdw_code_name(code));
+        check(code || !memcmp(got, zeros, sizeof zeros), name, "zeros");
+    }
+}
+
+/* ---- how many operations */
+
+static void check_operation_count(void)
+{
+    static uint8_t many[100001];
+    int big_endian = 0;
+    uint32_t code;
+    memset(many, 0x96, sizeof many);
+    many[99999] = 0x31;
+    check(read_value("100,000 operations", make_frame(&big_endian), many, 100000, LE8, 8, &code), "100,000 operations",
+          "they are done");
+    read_value("100,001 operations", make_frame(&big_endian), many, 100001, LE8, 8, &code);
+    check(code == DWEXPR_TOO_MANY_ITERATIONS, "100,001 operations", "they are too many");
+}
+
+/* ---- bytes of operations */
+
+#define BAD NULL
+
+static const uint8_t block[] = {0x82, 0x00, 0xaa, 0xbb}, type_block[] = {0x01, 0xcc};
+
+static const struct {
+    const char *name;
+    int address_size, offset_size, version, big_endian;
+    Dwarf_Op operations[3];
+    size_t count;
+    const char *bytes;
+} operations[] = {
+    {"no operation", 8, 4, 5, 0, {{0, 0, 0, 0}}, 0, ""},
+    {"an address of 1 byte", 1, 4, 4, 0, {{0x03, 0xfe, 0, 0}}, 1, "03 fe"},
+    {"an address of 2 bytes", 2, 4, 4, 0, {{0x03, 0xfedc, 0, 0}}, 1, "03 dcfe"},
+    {"an address of 2 bytes", 2, 4, 4, 1, {{0x03, 0xfedc, 0, 0}}, 1, "03 fedc"},
+    {"an address of 3 bytes", 3, 4, 4, 1, {{0x03, 0x123456, 0, 0}}, 1, "03 123456"},
+    {"an address that doesn't fit", 4, 4, 4, 0, {{0x03, 0x100000000, 0, 0}}, 1, BAD},
+    {"an address of 0 bytes", 0, 4, 4, 0, {{0x03, 0, 0, 0}}, 1, BAD},
+    {"an address of 9 bytes", 9, 4, 4, 0, {{0x03, 0, 0, 0}}, 1, BAD},
+    {"a constant that doesn't fit", 8, 4, 5, 0, {{0x08, 256, 0, 0}}, 1, BAD},
+    {"a negative constant without a sign", 8, 4, 5, 0, {{0x0a, UINT64_MAX, 0, 0}}, 1, BAD},
+    {"a constant below the least", 8, 4, 5, 0, {{0x09, (Dwarf_Word)-129, 0, 0}}, 1, BAD},
+    {"a constant above the most", 8, 4, 5, 0, {{0x09, 128, 0, 0}}, 1, BAD},
+    {"an entry that doesn't fit", 8, 4, 5, 0, {{0x98, 0x10000, 0, 0}}, 1, BAD},
+    {"an offset whose sign is unknown", 8, 4, 5, 0, {{0xa0, 1, 64, 0}}, 1, BAD},
+    {"an offset of two bytes whose sign is unknown", 8, 4, 5, 0, {{0xa0, 1, 0x3f81, 0}}, 1, BAD},
+    {"an offset with a sign", 8, 4, 5, 0, {{0xa0, 1, (Dwarf_Word)-1, 0}}, 1, "a0 01000000 7f"},
+    {"an offset with a size", 8, 4, 5, 0, {{0xa0, 1, 64, 0}, {0x96, 0, 0, 7}}, 2, "a0 01000000 c000 96"},
+    {"an offset with a smaller size", 8, 4, 5, 0, {{0xa0, 1, 64, 0}, {0x96, 0, 0, 6}}, 2, "a0 01000000 40 96"},
+    {"a LEB128 number that is too long", 8, 4, 5, 0, {{0x10, 5, 0, 0}, {0x9f, 0, 0, 2000}}, 2, BAD},
+    {"a LEB128 number that is too short", 8, 4, 5, 0, {{0x10, 128, 0, 0}, {0x9f, 0, 0, 2}}, 2, BAD},
+    {"two LEB128 numbers, one of which is longer", 8, 4, 5, 0, {{0x92, 17, 5, 0}, {0x9f, 0, 0, 4}}, 2, BAD},
+    {"a block", 8, 4, 5, 0, {{0x9e, 2, (uintptr_t)block, 0}, {0x9f, 0, 0, 5}}, 2, "9e 8200aabb 9f"},
+    {"no block", 8, 4, 5, 0, {{0x9e, 2, 0, 0}}, 1, BAD},
+    {"a block of a type", 8, 4, 5, 0, {{0xa4, 40, (uintptr_t)type_block, 0}, {0x9f, 0, 0, 5}}, 2, "a4 a800 01cc 9f"},
+    {"an operation that begins elsewhere", 8, 4, 5, 0, {{0x30, 0, 0, 0}, {0x9f, 0, 0, 2}}, 2, BAD},
+    {"offsets that count from another", 8, 4, 5, 0, {{0x30, 0, 0, 7}, {0x9f, 0, 0, 8}}, 2, "30 9f"},
+    {"an unknown opcode", 8, 4, 5, 0, {{0x01, 0, 0, 0}}, 1, BAD},
+    {"the last opcode", 8, 4, 5, 0, {{0xff, 0, 0, 0}}, 1, BAD},
+};
+
+static void check_operations(void)
+{
+    size_t i, length, room;
+    for (i = 0; i < COUNT(operations); i++) {
+        const dwexpr_encoding encoding = encoding_of(operations[i].address_size, operations[i].offset_size,
+                                                     operations[i].version, operations[i].big_endian);
+        const uint32_t code = dwexpr_libdw_encode(operations[i].operations, operations[i].count, encoding, got,
+                                                  sizeof got, &length);
+        if (!operations[i].bytes) {
+            check(code == DWEXPR_LIBDW_NOT_ENCODABLE, operations[i].name, "it has no bytes");
+            continue;
+        }
+        check(!code && length == bytes_of(operations[i].bytes, wanted) && !memcmp(got, wanted, length),
+              operations[i].name, "its bytes");
+        for (room = 0; room < length; room++) {
+            memset(got, 0x55, sizeof got);
+            check(!dwexpr_libdw_encode(operations[i].operations, operations[i].count, encoding, got, room, &length) &&
+                      got[room] == 0x55,
+                  operations[i].name, "it writes no more than there is room for");
+        }
+    }
+}
+
+int main(void)
+{
+    uint32_t code;
+    check_values();
+    check_narrow_value();
+    check_given();
+    check_callbacks();
+    check_unwritten();
+    check_operation_count();
+    check_operations();
+    for (code = DWEXPR_LIBDW_FAILED; code <= DWEXPR_LIBDW_NO_NUMBER; code++)
+        check(strcmp(dwexpr_libdw_code_name(code), "unknown code") != 0, "the name of a code", "it has one");
+    check(!strcmp(dwexpr_libdw_code_name(DWEXPR_LIBDW_NO_NUMBER + 1), "unknown code"), "a code", "there is no such");
+    check(!strcmp(dwexpr_libdw_code_name(DWEXPR_LIBDW_WANTS + DWEXPR_WANTS_CFA), "the canonical frame address"),
+          "a request", "its name");
+    check(!strcmp(dwexpr_libdw_code_name(DWEXPR_DIVISION_BY_ZERO), "a division by zero"), "a fault", "its name");
+    return finish();
+}

@@ -1,0 +1,127 @@
+/* What the callers share: counts of checks, encodings, bytes from hexadecimal text, made-up numbers. */
+#ifndef CHECK_H
+#define CHECK_H
+
+#include <stdio.h>
+#include <stdlib.h>
+#include <string.h>
+
+#include "dwexpr.h"
+
+#define COUNT(rows) (sizeof(rows) / sizeof *(rows))
+#define LE8 encoding_of(8, 4, 5, 0)
+
+static int passed, failed;
+
+static void check(int holds, const char *name, const char *what)
+{
+    if (holds) {
+        passed++;
+    } else {
+        failed++;
+        printf("FAILED %s: %s\n", name, what);
+    }
+}
+
+static int finish(void)
+{
+    printf("%d passed, %d failed\n", passed, failed);
+    return failed || !passed;
+}
+
+static inline dwexpr_encoding encoding_of(int address_size, int offset_size, int version, int big_endian)
+{
+    const dwexpr_encoding encoding = {(uint8_t)address_size, (uint8_t)offset_size, (uint8_t)big_endian,
+                                      (uint8_t)version};
+    return encoding;
+}
+
+/* How many bytes the hexadecimal digits say; spaces between them are left out. */
+static inline size_t bytes_of(const char *digits, uint8_t *bytes)
+{
+    size_t count = 0;
+    int read = 0;
+    for (; sscanf(digits, "%2hhx%n", &bytes[count], &read) == 1; digits += read)
+        count++;
+    return count;
+}
+
+/* Whether an operation that a call decoded doesn't fit that call's code or the length of its text. */
+static inline int bad_operation(const dwexpr_operation *op, uint32_t code, size_t length)
+{
+    return code != op->fault || (code == 0) != (op->kind != DWEXPR_OP_NONE) || (code == 0) != (op->size != 0) ||
+           op->offset > length || op->size > length - op->offset ||
+           (op->block_length && op->block_offset + op->block_length != op->offset + op->size);
+}
+
+/* Whether two structs have the same fields. There may be room between them that nothing sets. */
+static inline int same_outcome(const dwexpr_outcome *a, const dwexpr_outcome *b)
+{
+    return a->code == b->code && a->request == b->request && a->detail == b->detail && a->step == b->step &&
+           a->number == b->number && a->base_type == b->base_type && a->space == b->space &&
+           a->register_number == b->register_number && a->size == b->size && a->flag == b->flag &&
+           a->value_type == b->value_type && a->value == b->value && a->block_text == b->block_text &&
+           a->block_offset == b->block_offset && a->block_length == b->block_length && a->pieces == b->pieces;
+}
+
+static inline int same_pieces(const dwexpr_piece *a, const dwexpr_piece *b, size_t count)
+{
+    for (; count; a++, b++, count--)
+        if (a->kind != b->kind || a->has_size != b->has_size || a->size_in_bits != b->size_in_bits ||
+            a->bit_offset != b->bit_offset || a->has_bit_offset != b->has_bit_offset ||
+            a->value_type != b->value_type || a->number != b->number || a->byte_offset != b->byte_offset ||
+            a->block_text != b->block_text || a->block_offset != b->block_offset ||
+            a->block_length != b->block_length)
+            return 0;
+    return 1;
+}
+
+/* The next made-up number, of the same series in each run. */
+static inline uint64_t any(void)
+{
+    static uint64_t state = 88172645463325252u;
+    state ^= state << 13;
+    state ^= state >> 7;
+    state ^= state << 17;
+    return state;
+}
+
+/* The step that answers a request; of none and of one that is complete the start. */
+static inline uint32_t answer_of(uint32_t request)
+{
+    static const uint32_t answers[] = {
+        [DWEXPR_NOTHING] = DWEXPR_EVALUATE,
+        [DWEXPR_COMPLETE] = DWEXPR_EVALUATE,
+        [DWEXPR_WANTS_MEMORY] = DWEXPR_ANSWER_MEMORY,
+        [DWEXPR_WANTS_REGISTER] = DWEXPR_ANSWER_REGISTER,
+        [DWEXPR_WANTS_FRAME_BASE] = DWEXPR_ANSWER_FRAME_BASE,
+        [DWEXPR_WANTS_TLS] = DWEXPR_ANSWER_TLS,
+        [DWEXPR_WANTS_CFA] = DWEXPR_ANSWER_CFA,
+        [DWEXPR_WANTS_LOCATION] = DWEXPR_ANSWER_LOCATION,
+        [DWEXPR_WANTS_ENTRY_VALUE] = DWEXPR_ANSWER_ENTRY_VALUE,
+        [DWEXPR_WANTS_PARAMETER] = DWEXPR_ANSWER_PARAMETER,
+        [DWEXPR_WANTS_RELOCATED] = DWEXPR_ANSWER_RELOCATED,
+        [DWEXPR_WANTS_INDEXED] = DWEXPR_ANSWER_INDEXED,
+        [DWEXPR_WANTS_BASE_TYPE] = DWEXPR_ANSWER_BASE_TYPE,
+        [DWEXPR_WANTS_WASM_LOCAL] = DWEXPR_ANSWER_WASM,
+        [DWEXPR_WANTS_WASM_GLOBAL] = DWEXPR_ANSWER_WASM,
+        [DWEXPR_WANTS_WASM_STACK] = DWEXPR_ANSWER_WASM,
+    };
+    return answers[request];
+}
+
+/* The steps that settings stand for, and how many they are. */
+static inline size_t steps_of(const dwexpr_settings *settings, dwexpr_step *steps)
+{
+    size_t count = 0;
+    memset(steps, 0, 4 * sizeof *steps);
+    steps[count].kind = DWEXPR_SET_MAX_ITERATIONS, steps[count++].number = settings->max_iterations;
+    if (settings->has_object_address)
+        steps[count].kind = DWEXPR_SET_OBJECT_ADDRESS, steps[count++].number = settings->object_address;
+    if (settings->has_initial_value)
+        steps[count].kind = DWEXPR_SET_INITIAL_VALUE, steps[count++].number = settings->initial_value;
+    steps[count++].kind = DWEXPR_EVALUATE;
+    return count;
+}
+
+#endif

@@ -1,10 +1,12 @@
 //! Expressions evaluated on the heap and over lent slices, in three loops that a user may write.
 #![tactic(auto)]
 
-ghost use Rattle.dwarf_eval.specs.Evaluation.{IsClosed};
+ghost use Rattle.dwarf_expr.specs.Evaluation.{IsClosed};
 
 mod registers;
 mod requests;
+#[cfg(test)]
+mod tests;
 
 use crate::registers::complete_with_registers;
 use crate::requests::{Process, complete, count_requests};

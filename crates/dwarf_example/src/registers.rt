@@ -1,7 +1,7 @@
 //! An evaluation that answers some requests alone, and allows itself more operations at each.
 
 ghost use Rattle.std.specs.Prelude.{◌≡◌, IfOk, true};
-ghost use Rattle.dwarf_eval.specs.Evaluation.{IsClosed, IsComplete};
+ghost use Rattle.dwarf_expr.specs.Evaluation.{IsClosed, IsComplete};
 
 use dwarf_base::{Reader, Result};
 use dwarf_expr::eval::Evaluation;

@@ -1,10 +1,10 @@
 //! Two evaluations that answer every request: the loop of a debugger, and one that is driven by the status.
 
 ghost use Rattle.std.specs.Prelude.{◌≢◌, ◌<◌, IfOk, OnOk};
-ghost use Rattle.dwarf_meaning.specs.Bounds.{calls_left};
-ghost use Rattle.dwarf_eval.specs.Evaluation.{IsClosed, IsComplete};
-ghost use Rattle.dwarf_eval.specs.Permits.{Admits, IsOpenFor};
-ghost use Rattle.dwarf_eval.specs.declared.op.results.EvaluationResult.TheVariants as reply;
+ghost use Rattle.dwarf_expr.specs.Bounds.{calls_left};
+ghost use Rattle.dwarf_expr.specs.Evaluation.{IsClosed, IsComplete};
+ghost use Rattle.dwarf_expr.specs.Permits.{Admits, IsOpenFor};
+ghost use Rattle.dwarf_expr.specs.EvaluationResult.TheVariants as reply;
 
 use dwarf_base::{DebugAddrIndex, Reader, Register, Result, UnitOffset};
 use dwarf_expr::eval::{Evaluation, Status, WaitingKind};

@@ -1,5 +1,5 @@
-use Rattle.dwarf_eval.specs.Permits.{Admits}
-use Rattle.dwarf_meaning.specs.Bounds.{calls_left}
+use Rattle.dwarf_expr.specs.Permits.{Admits}
+use Rattle.dwarf_expr.specs.Bounds.{calls_left}
 use Rattle.dwarf_example.proofs.requests.complete.Given as goal
 
 abbrev pub invariant-requests : goal.invariant-requests

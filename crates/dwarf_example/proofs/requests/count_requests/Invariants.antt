@@ -1,4 +1,4 @@
-use Rattle.dwarf_meaning.specs.Bounds.{calls_left}
+use Rattle.dwarf_expr.specs.Bounds.{calls_left}
 use Rattle.dwarf_example.proofs.requests.count_requests.Given as goal
 
 abbrev pub decreases-requests : goal.decreases-requests

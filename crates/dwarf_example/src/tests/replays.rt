@@ -1,15 +1,15 @@
 //! A test of the end of a replay, from which the caller goes on by hand.
 
 ghost use Rattle.std.specs.Prelude.{◌≡◌, None};
-ghost use Rattle.dwarf_meaning.specs.Rest.{Start};
+ghost use Rattle.dwarf_expr.specs.Rest.{Start};
 
-use crate::evaluation::{SMALL, little, replayed};
-use dwarf_base::Reader;
-use dwarf_eval::eval::{Evaluation, Status, WaitingKind};
-use dwarf_eval::op::{EvaluationResult, Location, Piece};
-use dwarf_eval::store::{EvaluationStorage, StoreOnHeap};
-use dwarf_replay::{Replayed, Step};
-use dwarf_value::Value::Generic;
+use crate::tests::evaluation::{SMALL, little, replayed};
+use dwarf_expr::base::Reader;
+use dwarf_expr::eval::{Evaluation, Status, WaitingKind};
+use dwarf_expr::op::{EvaluationResult, Location, Piece};
+use dwarf_expr::store::{EvaluationStorage, StoreOnHeap};
+use dwarf_expr::replay::{Replayed, Step};
+use dwarf_expr::value::Value::Generic;
 use std::alloc::Global;
 use std::process::Abort;
 

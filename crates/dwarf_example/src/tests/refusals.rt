@@ -1,18 +1,18 @@
 //! Each push of an evaluation is refused in turn, and each growth of its lists and of the answers.
 
 ghost use Rattle.std.specs.Prelude.{◌≡◌, ◌<◌, ◌≤◌, [], None};
-ghost use Rattle.dwarf_meaning.specs.Rest.{Start};
+ghost use Rattle.dwarf_expr.specs.Rest.{Start};
 
-use crate::allocators::{NEVER, RefusesGrowth};
-use crate::cases::{LATER, read};
-use crate::evaluation::{Bytes, COMPLETE, FULL, SMALL, little, replayed, replayed_on_heap};
-use crate::lists::{ListsOfTests, RefusesOne};
-use dwarf_base::{Encoding, Error, Format, Reader, UnitOffset};
-use dwarf_eval::eval::{Evaluation, Status};
-use dwarf_eval::op::{DieReference, EvaluationResult, Expression};
-use dwarf_eval::store::{ArrayLike, EvaluationStorage};
-use dwarf_replay::{Answer, Replayed, Step};
-use dwarf_value::Value::{self, Generic};
+use crate::tests::allocators::{NEVER, RefusesGrowth};
+use crate::tests::cases::{LATER, read};
+use crate::tests::evaluation::{Bytes, COMPLETE, FULL, SMALL, little, replayed, replayed_on_heap};
+use crate::tests::lists::{ListsOfTests, RefusesOne};
+use dwarf_expr::base::{Encoding, Error, Format, Reader, UnitOffset};
+use dwarf_expr::eval::{Evaluation, Status};
+use dwarf_expr::op::{DieReference, EvaluationResult, Expression};
+use dwarf_expr::store::{ArrayLike, EvaluationStorage};
+use dwarf_expr::replay::{Answer, Replayed, Step};
+use dwarf_expr::value::Value::{self, Generic};
 use std::alloc::{AllocError, Allocator, Global};
 use std::process::Abort;
 

@@ -1,10 +1,10 @@
 //! Tests of calls on values, but for those that the archive exports: tests/c/values.c has these.
 
-use crate::evaluation::little;
-use dwarf_base::constants::{DW_ATE_float, DW_ATE_signed, DW_ATE_unsigned};
-use dwarf_base::{DwAte, Error};
-use dwarf_value::Value::{Generic, I8, I16};
-use dwarf_value::{Value, ValueType, equality_laws, is_addr_mask, value_laws};
+use crate::tests::evaluation::little;
+use dwarf_expr::base::constants::{DW_ATE_float, DW_ATE_signed, DW_ATE_unsigned};
+use dwarf_expr::base::{DwAte, Error};
+use dwarf_expr::value::Value::{Generic, I8, I16};
+use dwarf_expr::value::{Value, ValueType, equality_laws, is_addr_mask, value_laws};
 
 // The mask of an address of 4 bytes.
 const MASK: u64 = 0xffff_ffff;

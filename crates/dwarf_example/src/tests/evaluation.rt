@@ -1,13 +1,13 @@
 //! What tests of evaluations share.
 
 ghost use Rattle.std.specs.Prelude.{◌≡◌, [], None};
-ghost use Rattle.dwarf_meaning.specs.Rest.{Start};
+ghost use Rattle.dwarf_expr.specs.Rest.{Start};
 
-use dwarf_base::{Encoding, EndianSlice, Error, Format, Reader, RunTimeEndian};
-use dwarf_eval::eval::Evaluation;
-use dwarf_eval::op::EvaluationResult;
-use dwarf_eval::store::{ArrayLike, EvaluationStorage};
-use dwarf_replay::{Answer, Replayed, Step, replay};
+use dwarf_expr::base::{Encoding, EndianSlice, Error, Format, Reader, RunTimeEndian};
+use dwarf_expr::eval::Evaluation;
+use dwarf_expr::op::EvaluationResult;
+use dwarf_expr::store::{ArrayLike, EvaluationStorage};
+use dwarf_expr::replay::{Answer, Replayed, Step, replay};
 use std::alloc::Allocator;
 
 pub(crate) type Bytes<'a> = EndianSlice<'a, RunTimeEndian>;

@@ -2,11 +2,11 @@
 
 ghost use Rattle.std.specs.Prelude.{◌≡◌, [], None};
 
-use crate::allocators::{NEVER, RefusesGrowth};
-use dwarf_base::Reader;
-use dwarf_eval::op::Piece;
-use dwarf_eval::store::{ArrayLike, EvaluationStorage, OneInLine};
-use dwarf_value::Value;
+use crate::tests::allocators::{NEVER, RefusesGrowth};
+use dwarf_expr::base::Reader;
+use dwarf_expr::op::Piece;
+use dwarf_expr::store::{ArrayLike, EvaluationStorage, OneInLine};
+use dwarf_expr::value::Value;
 use std::alloc::{Allocator, Global};
 use std::process::Abort;
 

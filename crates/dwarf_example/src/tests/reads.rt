@@ -1,10 +1,10 @@
 //! Each byte of an operation that is decoded is read once, and no other byte is.
 
-use crate::evaluation::{SMALL, little, replayed_on_heap};
-use crate::readers::Watched;
-use dwarf_base::Reader;
-use dwarf_eval::op::{Expression, Operation};
-use dwarf_replay::Step;
+use crate::tests::evaluation::{SMALL, little, replayed_on_heap};
+use crate::tests::readers::Watched;
+use dwarf_expr::base::Reader;
+use dwarf_expr::op::{Expression, Operation};
+use dwarf_expr::replay::Step;
 use std::alloc::{AllocError, Global};
 use std::cell::Cell;
 use std::process::Abort;

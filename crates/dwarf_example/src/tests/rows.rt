@@ -1,13 +1,13 @@
 //! Evaluations over lists with a limit, and replays.
 
-use crate::cases::{Case, LATER, expect_case};
-use crate::evaluation::{Bytes, COMPLETE, FULL, SMALL, little};
-use dwarf_base::{DebugAddrIndex, DebugInfoOffset, Error, Register, UnitOffset};
-use dwarf_eval::eval::{Status, WaitingKind};
-use dwarf_eval::op::{DieReference, EvaluationResult, Location, Piece};
-use dwarf_replay::{Answer, Replayed, Step};
-use dwarf_value::Value::{Generic, U16};
-use dwarf_value::ValueType;
+use crate::tests::cases::{Case, LATER, expect_case};
+use crate::tests::evaluation::{Bytes, COMPLETE, FULL, SMALL, little};
+use dwarf_expr::base::{DebugAddrIndex, DebugInfoOffset, Error, Register, UnitOffset};
+use dwarf_expr::eval::{Status, WaitingKind};
+use dwarf_expr::op::{DieReference, EvaluationResult, Location, Piece};
+use dwarf_expr::replay::{Answer, Replayed, Step};
+use dwarf_expr::value::Value::{Generic, U16};
+use dwarf_expr::value::ValueType;
 use std::alloc::AllocError;
 
 // No steps, over lists without a limit.

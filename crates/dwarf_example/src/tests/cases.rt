@@ -1,17 +1,17 @@
 //! Evaluations as data, and what runs them over lists of each kind.
 
 ghost use Rattle.std.specs.Prelude.{◌≡◌, ◌<◌, ◌≤◌, [], None};
-ghost use Rattle.dwarf_meaning.specs.Rest.{Start};
+ghost use Rattle.dwarf_expr.specs.Rest.{Start};
 
-use crate::evaluation::{Bytes, FULL, little, replayed};
+use crate::tests::evaluation::{Bytes, FULL, little, replayed};
 use arrayvec::ArrayVec;
-use dwarf_base::{Encoding, Reader};
-use dwarf_eval::eval::{Evaluation, Status};
-use dwarf_eval::op::{Expression, Piece};
-use dwarf_eval::store::{ArrayLike, EvaluationStorage, OneInLine, SliceVec, StoreInSlices};
-use dwarf_replay::{Answer, Replayed, Step, Stepped, take_step};
-use dwarf_value::Value::{self, Generic};
-use dwarf_value::ValueType;
+use dwarf_expr::base::{Encoding, Reader};
+use dwarf_expr::eval::{Evaluation, Status};
+use dwarf_expr::op::{Expression, Piece};
+use dwarf_expr::store::{ArrayLike, EvaluationStorage, OneInLine, SliceVec, StoreInSlices};
+use dwarf_expr::replay::{Answer, Replayed, Step, Stepped, take_step};
+use dwarf_expr::value::Value::{self, Generic};
+use dwarf_expr::value::ValueType;
 use std::alloc::{AllocError, Global};
 use std::process::Abort;
 

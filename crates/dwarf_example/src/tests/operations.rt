@@ -1,12 +1,12 @@
 //! Tests of decoding.
 
 ghost use Rattle.std.specs.Prelude.{length, ◌<◌, ◌^◌, false};
-ghost use Rattle.dwarf_base.specs.EndianSlice.{slice_bytes};
+ghost use Rattle.dwarf_expr.specs.EndianSlice.{slice_bytes};
 
-use crate::evaluation::{SMALL, little};
-use dwarf_base::{Encoding, EndianSlice, Error, Format, LittleEndian, Reader, Result, UnitOffset};
-use dwarf_eval::op::Expression;
-use dwarf_op::Operation;
+use crate::tests::evaluation::{SMALL, little};
+use dwarf_expr::base::{Encoding, EndianSlice, Error, Format, LittleEndian, Reader, Result, UnitOffset};
+use dwarf_expr::op::Expression;
+use dwarf_expr::op::Operation;
 use std::process::Abort;
 
 // A literal of two bytes with one to spare.

@@ -1,6 +1,6 @@
 #!/usr/bin/env python3
-"""Judges what the build scripts of the Rust crate and of the library for C make of the proved sources, by a second reader
-of them, which goes by tokens and refuses what it doesn't know.
+"""Judges what the build scripts of the Rust crate and of the library for C make of the proved sources, by a second
+reader of them, which goes by tokens and refuses what it doesn't know.
 
 - Each token that is written is the one that this reader has after the rows, docs too, and each line has its number.
 - No row adds code: what a function does, and what a constant is, stays as it is proved but for the places in CODE.
@@ -20,7 +20,7 @@ from checks import commands, expect, sources
 from commands import TOP, Failure
 from tokens import split
 
-# Words that rows put into code, and the words there; another one ends with `_unchecked`, and is what has a precondition.
+# Words that rows put into code, and the words there. Any other ends with `_unchecked`: the call has a precondition.
 WORDS = {"into_signed": "cast_signed", "into_unsigned": "cast_unsigned"}
 # The code that rows change: the source, the function, what stands in it once, and what is put there.
 CODE = {
@@ -32,7 +32,10 @@ CODE = {
         ("dwarf_eval/src/run/operations", "operate_in_place", "ImplicitValue { bytes", "ImplicitValue { data: bytes"),
     ],
     "c": [
-        ("dwexpr_c/src/steps", "bytes_of", "if text.bytes.is_empty() { &[] } else { text.bytes }", "text.bytes.slice()"),
+        (
+            *("dwexpr_c/src/steps", "bytes_of"),
+            *("if text.bytes.is_empty() { &[] } else { text.bytes }", "text.bytes.slice()"),
+        ),
     ],
 }
 # What each file ends with.
@@ -255,7 +258,7 @@ def built(top, package, folder):
 
 
 def said_of(edit, name, top, package, program, folder):
-    """Why what an edit makes is refused, or nothing. It is of the sources, the rows or a script; or of what is written."""
+    """Why what an edit makes is refused, or nothing. It is of sources, rows or a script; or of what is written."""
     texts = written_by(program, top, package, folder / "out")
     place = edit.file.removesuffix(".rs")
     before = edit.applied(lambda file: texts[place] if place in texts else (top / file).read_text(encoding="utf-8"))

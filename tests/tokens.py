@@ -20,7 +20,9 @@ CLAUSES = ("requires", "ensures")
 # Imports of what Rust doesn't have.
 IMPORTS = ["use std : : marker : : Model ;", "use std : : alloc : : AllocError ;"]
 # A clone that may fail; Rust derives one.
-CLONE = re.compile(r"\{ (ghost [^;]* ; )*fn clone \( & self \) - > Result < Self , AllocError > \{ Ok \( \* self \) \} \}")
+CLONE = re.compile(
+    r"\{ (ghost [^;]* ; )*fn clone \( & self \) - > Result < Self , AllocError > \{ Ok \( \* self \) \} \}"
+)
 KNOWN_MACROS = {"matches", "unreachable"}
 CLOSING = {"(": ")", "[": "]", "{": "}"}
 

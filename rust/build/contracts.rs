@@ -1,7 +1,7 @@
-//! What isn't Rust in a Rattle source: it is put in comments, so that a Rust compiler accepts the source, each line keeps
-//! its number, and the contract stays beside the code.
+//! Puts what isn't Rust in a Rattle source in comments. So a Rust compiler accepts the source, each line keeps its
+//! number, and the contract stays beside the code.
 //!
-//! This reader goes by how lines begin. The repository's tests read the same sources by their tokens, and compare.
+//! This goes by how lines begin. The repository's tests read the same sources by their tokens, and compare.
 
 /// What begins in a line and isn't Rust; and whether it ends with the braces after it, or right there.
 const CONTRACTS: &[(&str, bool)] = &[
@@ -40,8 +40,8 @@ fn braces(text: &str) -> usize {
     text.len()
 }
 
-/// How long the contract is that begins here, if one does: a clause, a ghost item, a tactic, a word of Rattle's own, the
-/// model of a type, or a clone that may fail, which in Rust is derived.
+/// How long the contract is that begins here, if one does: a clause, a ghost item, a tactic, a word of Rattle's own,
+/// the model of a type, or a clone that may fail, which in Rust is derived.
 fn contract(text: &str) -> Option<usize> {
     if let Some(&(begin, has_braces)) = CONTRACTS.iter().find(|it| text.starts_with(it.0)) {
         return Some(if has_braces { braces(text) } else { begin.trim_end().len() });

@@ -19,7 +19,7 @@ import shutil
 import textwrap
 
 import checks
-from checks import check, commands, expect, lacks
+from checks import check, commands, expect, lacks, left_out
 from commands import TOP
 
 checks.SECONDS = 600
@@ -105,6 +105,9 @@ def try_example(crate, folder):
 
 def main():
     if lacks("the Rust crate", "cargo", "rustc", "git", "cc"):
+        return
+    if not (TOP / ".git").exists():
+        left_out("users of the Rust crate", "commit of these sources, which is cloned")
         return
     found = commands.features()
     for name in commands.NEEDED.keys() - set(found):

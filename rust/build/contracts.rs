@@ -63,13 +63,15 @@ fn contract(text: &str) -> Option<usize> {
     Some(if is_clause { end } else { end + text[end..].find([';', ','])? + 1 })
 }
 
-/// The precondition that a clause says, if the function whose signature ends a text is public.
+/// The precondition that a clause says, if the function whose signature ends a text is public, or a public trait's.
 fn precondition(before: &str, clause: &str) -> Option<Precondition> {
     let inside = clause.strip_prefix("requires ")?.split_once('{')?.1.strip_suffix('}')?;
     let (head, after) = before.rsplit_once("fn ")?;
     let line = head.rsplit('\n').next()?.trim_start();
     let name = after.split(|sign: char| !is_in_word(sign)).next()?;
-    line.starts_with("pub ").then(|| (name.to_owned(), inside.split_whitespace().collect::<Vec<_>>().join(" ")))
+    let is_in_trait = before.rsplit("\n}").next()?.contains("\npub trait ");
+    let is_public = line.starts_with("pub ") || is_in_trait;
+    is_public.then(|| (name.to_owned(), inside.split_whitespace().collect::<Vec<_>>().join(" ")))
 }
 
 /// A source with its contracts in comments, and the preconditions of its public functions.

@@ -159,8 +159,8 @@ def wanted_of(top, package, places):
 
 
 def code_in(found):
-    """The name and the tokens of each body and of each constant's value, in order."""
-    at, said = 0, []
+    """The name and the tokens of each body and of each constant's value, in order; and the numbers in all else."""
+    at, said, numbers = 0, [], []
     while at < len(found):
         first, ends = at, ()
         if found[at] == "fn":
@@ -175,8 +175,9 @@ def code_in(found):
                 last += 1
             said.append((found[at + 1], found[first : last + 1]))
             at = last
+        numbers += [found[at]] * found[at][0].isdigit()
         at += 1
-    return said
+    return [*said, ("types", numbers)]
 
 
 def plain_word(word):
@@ -196,7 +197,7 @@ def judge_code(name, top, package, written):
                 if sum(body.count(old) for it, body in bodies if it == function) != 1:
                     raise Failure(f"{source.path} has no `{old}` in {function}")
                 bodies = [(it, body.replace(old, new) if it == function else body) for it, body in bodies]
-                theirs = [(it, body.split()) for it, body in bodies if body]
+                theirs = [(it, body.split()) for it, body in bodies if body or it == "types"]
         if ours != theirs:
             at = next((one for one, other in zip(ours, theirs) if one != other), ("", ""))[0]
             raise Failure(f"{place} has other code than is proved, in `{at}`")

@@ -122,8 +122,8 @@ impl Sources {
         assert!(listed.is_empty(), "{list} names preconditions that no function has: {listed:?}");
     }
 
-    /// Applies the rows of a file: each has the path of a source or `everywhere`, text after `-`, and text after `+`, to
-    /// stand in its place. In a source it is met once. A line that begins with `# ` is a remark.
+    /// Applies the rows of a file: each has the path of a source or `everywhere`, text after `-`, and text after `+`,
+    /// to stand in its place. In a source it is met once. A line that begins with `# ` is a remark.
     pub fn apply(&mut self, rows: &str) {
         let text = read(&self.top.join(rows));
         let text: String = text.split_inclusive('\n').filter(|it| !it.starts_with("# ")).collect();

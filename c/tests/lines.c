@@ -99,7 +99,7 @@ static void long_lines(void)
     }
     check(number == 0x10000, "registers", "each is shown");
     bytes[0] = 0x9e; /* DW_OP_implicit_value */
-    for (length = 0; length < 70000; length += 1 + length / 50) {
+    for (length = 0; length < 70000; length += 1 + length / 16) {
         size_t got;
         bytes[1] = (uint8_t)(length | 0x80), bytes[2] = (uint8_t)(length >> 7 | 0x80), bytes[3] = (uint8_t)(length >> 14);
         dwexpr_decode(bytes, 4 + length, LE8, 0, &operation);

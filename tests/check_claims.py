@@ -20,8 +20,7 @@ import textwrap
 import checks
 from checks import check, commands, expect, lacks, left_out, prints, run
 
-import archive
-from commands import TOP
+from commands import ARCHIVE, TOP
 
 sys.path.insert(0, str(TOP / "c/libdw/tests"))
 from unit import Unit  # noqa: E402
@@ -79,7 +78,7 @@ def in_c():
     if lacks("the programs in C", "cc", "cmake", "pkg-config"):
         return
     with commands.temporary() as folder:
-        checks.build_libraries(folder / "package", archive.path_of() if archive.is_built() else "rustc")
+        checks.build_libraries(folder / "package", ARCHIVE if ARCHIVE.exists() else "rustc")
         for page, before, program, wanted in programs("c", "int main("):
             (folder / "program.c").write_text(program)
             command = BUILD.findall(before)[-1].replace("DIR", f"{folder}/package")

@@ -9,11 +9,9 @@
 - docs/GUIDE.md names exactly the operations that are known and aren't the standard's. The number of faults, the limits
   of the archive's lists, the size of an evaluation there, the logic's sum and README.md's ratios are those of the
   sources and docs/SPEED.md.
-- The figures in CONTRIBUTING.md are those that `bin/figures` prints.
 - docs/ARCHITECTURE.md has a row for each crate.
 - No line of a page but a table's row has more than 120 columns.
 - Each block whose fence names a file is what stands in that file, byte for byte.
-- Each text that a wrong body takes away stands once in the file that it names. The gate tries few of them.
 
 It prints a line for each failure. The last line is `N passed, M failed`.
 """
@@ -27,7 +25,6 @@ import re
 import checks
 from checks import commands, expect
 
-import compiler
 import sources
 from commands import TOP
 from sources import read
@@ -179,17 +176,10 @@ def figures():
         expect(ratio in RATIO.findall(read(SPEED)), f"{README} names {ratio}, and {SPEED} doesn't")
 
 
-def counted():
-    """Each line of figures in CONTRIBUTING.md is one that bin/figures prints."""
-    printed = commands.run(TOP / "bin/figures").splitlines()
-    for line in re.findall(r"^    (.+)$", read("CONTRIBUTING.md").split("\n## Figures\n")[1].split("\n## ")[0], re.M):
-        expect(line in printed, f"CONTRIBUTING.md has {line!r}, which bin/figures doesn't print")
-
-
 def crates():
     """Each crate has a row in docs/ARCHITECTURE.md."""
     rows = re.findall(r"^\| `(\w+)` \|", read("docs/ARCHITECTURE.md"), re.MULTILINE)
-    for name in compiler.named():
+    for name in re.findall(r"^(\w+)", read("crates.txt"), re.MULTILINE):
         expect(name in rows, f"docs/ARCHITECTURE.md has no row of {name}")
 
 
@@ -214,22 +204,8 @@ def changed():
             expect(shows(path, block), f"a block of {page} isn't what stands in {path}")
 
 
-def stale():
-    """Each wrong body can be applied."""
-    crates = fnmatch.filter(files(), "crates/*/must-fail/*.edit") + fnmatch.filter(files(), "crates/*/wrong-bodies")
-    for path in ["tests/wrong-bodies", *sorted(crates)]:
-        folder = "" if path.startswith("tests/") else re.split("/(?:must-fail|wrong-bodies)", path)[0]
-        for edit in sources.edits_in(TOP / path):
-            said = ""
-            try:
-                edit.applied(lambda file: read(os.path.normpath(os.path.join(folder, file))))
-            except commands.Failure as failure:
-                said = failure
-            expect(not said, f"{path}: {said}")
-
-
 def main():
-    for check in (uncommented, unknown, astray, partless, operations, figures, counted, crates, wide, changed, stale):
+    for check in (uncommented, unknown, astray, partless, operations, figures, crates, wide, changed):
         check()
 
 

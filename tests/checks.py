@@ -2,16 +2,13 @@
 
 import concurrent.futures
 import os
-import pathlib
 import shutil
 import subprocess
 import sys
 
-sys.path.insert(0, str(pathlib.Path(__file__).resolve().parent.parent / "bin"))
-import commands  # noqa: E402
-import compiler  # noqa: E402
-import sources  # noqa: E402
-from commands import TOP  # noqa: E402
+import commands
+import sources
+from commands import TOP
 
 # How C and C++ are compiled here, with no warning; and how else the headers are, as a user may do it.
 STRICT = ["-pedantic", "-Wall", "-Wextra", "-Werror", f"-I{TOP / 'c/include'}", f"-I{TOP / 'c/libdw/include'}"]
@@ -149,13 +146,6 @@ def path_with(folder, *programs):
     return str(folder)
 
 
-def wants_wrong_bodies(doc):
-    """Whether the words of a script ask it to try its wrong bodies, and nothing else."""
-    parser = commands.parser(doc)
-    parser.add_argument("--wrong-bodies", action="store_true", help="try the wrong bodies, and nothing else")
-    return parser.parse_args().wrong_bodies
-
-
 def try_wrong_bodies(path, package, place, sees):
     """Tries the wrong bodies in a file, each in a copy of a package, of files under a place in it. A function says what
     sees the copy, which it gets with a folder to work in; "" if nothing does."""
@@ -172,7 +162,7 @@ def try_wrong_bodies(path, package, place, sees):
             return bool(by), by or "nothing sees it"
 
     edits = sources.edits_in(path)
-    with concurrent.futures.ThreadPoolExecutor(compiler.JOBS) as pool:
+    with concurrent.futures.ThreadPoolExecutor(os.cpu_count()) as pool:
         for edit, (is_seen, said) in zip(edits, pool.map(tried, edits)):
             print(f"{'seen' if is_seen else 'NOT SEEN'}: {edit.name}: {said}", flush=True)
             expect(is_seen, f"{edit.name} is seen")
@@ -184,7 +174,7 @@ def end_with(main, doc=None):
 
     def counted():
         if doc:
-            commands.words_of(doc)
+            commands.parser(doc).parse_args()
         try:
             main()
         except commands.Failure as failure:

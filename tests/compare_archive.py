@@ -2,7 +2,7 @@
 """Tries wrong bodies of the Rust crate: the program of tests/beside_archive has to see that the crate differs from the
 archive for C. `cargo test` runs that program on the crate as it is, if DWEXPR_ARCHIVE names the archive.
 
-A wrong body changes a line of a proved source, and the archive stays as it is proved; bin/archive.py builds it.
+A wrong body changes a line of a proved source, and the archive stays as it is proved; bin/archive builds it.
 tests/beside_archive/wrong-bodies has them: a name, a file, a text that stands in it once, and another.
 
 The last line is `N passed, M failed`.
@@ -15,9 +15,8 @@ import checks
 import run_rows
 from checks import commands, lacks
 
-import archive
 import sources
-from commands import TOP, Failure
+from commands import ARCHIVE, TOP, Failure
 
 PROGRAM = TOP / "tests" / "beside_archive"
 COUNT = 20_000
@@ -33,7 +32,7 @@ DIFFERENCE = re.compile(r"^DIFFERS (.*?): (.*\n.*\n.*)\n", re.MULTILINE)
 def build(crate, folder):
     """Builds the program with a crate, into a folder."""
     library = folder / "libdwexpr.rlib"
-    uses = ["-L", archive.path_of().parent, "--extern", f"dwexpr={library}"]
+    uses = ["-L", ARCHIVE.parent, "--extern", f"dwexpr={library}"]
     commands.run(*RUSTC, *CRATE, crate / "rust/src/lib.rs", "-o", library, env=checks.strip("rust", crate, folder))
     commands.run(*RUSTC, "-D", "warnings", *uses, PROGRAM / "main.rs", "-o", folder / "beside_archive")
 
@@ -56,8 +55,8 @@ def seen(crate, folder):
 def main():
     if lacks("wrong bodies of the Rust crate", "rustc"):
         return
-    if not archive.is_built():
-        raise Failure("there is no archive of these sources: bin/archive.py builds it")
+    if not ARCHIVE.exists():
+        raise Failure("there is no archive of these sources: bin/archive builds it")
     with commands.temporary(prefix="beside-archive-") as folder:
         checks.copy_packages(folder)
         checks.try_wrong_bodies(PROGRAM / "wrong-bodies", folder, ".", seen)

@@ -123,7 +123,6 @@ def interrupt(library, kind, buffer):
 
 
 def main():
-    commands.run(TOP / "bin/build", stderr=None)
     with commands.temporary() as folder:
         library = folder / "refuse.so"
         words = ["cc", "-std=c11", "-O1", "-Wall", "-Wextra", "-Werror", "-shared", "-fPIC"]

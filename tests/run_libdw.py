@@ -37,8 +37,7 @@ import compare_gdb
 from checks import KINDS, SANITIZERS, check, check_headers, commands, count, count_of, expect
 from checks import lacks, left_out, prints, run
 
-import archive
-from commands import TOP
+from commands import ARCHIVE, TOP
 
 C = TOP / "c"
 LIBDW = C / "libdw"
@@ -343,12 +342,11 @@ def main():
     said = "compare all programs with gdb, and change 30 times as many bytes"
     parser.add_argument("--all", action="store_true", help=said)
     parser.parse_args()
-    commands.need("cc")
     with commands.temporary() as folder:
         if not has_libdw(folder):
             return left_out("include/dwexpr_libdw.h and the examples over it", "libdw")
-        core = archive.path_of() if archive.is_built() else "rustc"
-        print(f"over {'the proved archive' if archive.is_built() else 'the library by rustc'}")
+        core = ARCHIVE if ARCHIVE.exists() else "rustc"
+        print(f"over {'the proved archive' if ARCHIVE.exists() else 'the library by rustc'}")
         for kind, words in [("plain", []), ("checked", ["-O1", *SANITIZERS])]:
             LIBRARIES[kind] = checks.build_libraries(folder / kind, core, *words)
         check_headers("dwexpr_libdw.h", "dwexpr_names.h")

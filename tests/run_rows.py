@@ -13,20 +13,17 @@ it stands. A row may say besides
 - `error`, or `error_pattern`: the same of standard error, which isn't looked at in a row that has neither;
 - `by`: the script of the repository that is run in place of the program.
 
-The rows of bin/dwexpr are run once more in a copy without the proved program. There it makes an unproved one, and
-keeps that.
+It wants the program that `bin/build` or `rt ci` has built. bin/dwexpr is run once more in a copy without it, where it
+runs the program unproved.
 
 Each vector of tests/vectors/decode.json makes a row: `dwexpr ops` lists its operation by its name, or its fault.
 
 The entries of tests/rows/integers.json are in the form that tests/integers.py says. Each makes rows, and the table
-there has to give their results. A row that a test of gimli's states has that test's name before a colon, and a vector of
-tests/vectors has it as `gimli`. tests/gimli.json lists these tests: how many `rows` and vectors carry the cases of
-each, which function `elsewhere` carries how many, and how many are left out for which reason.
+there has to give their results.
 
 The last line is `N passed, M failed`; the status is 1 if a row failed.
 """
 
-import collections
 import contextlib
 import functools
 import json
@@ -44,11 +41,9 @@ from commands import TOP
 ROWS = TOP / "tests" / "rows"
 INTEGERS = "integers.json"
 VECTORS = TOP / "tests" / "vectors" / "decode.json"
-GIMLI = TOP / "tests" / "gimli.json"
 PROGRAM = TOP / "crates" / "dwexpr" / "out" / "dwexpr"
-UNPROVED_PROGRAM = PROGRAM.parent / "unproved" / PROGRAM.name
 SECONDS = 60
-# Of a row whose program may have to be built.
+# Of a row whose program is built first.
 BUILD_SECONDS = 600
 INPUTS = {"input", "input_from"}
 OUTPUTS = {"output", "output_pattern"}
@@ -57,8 +52,8 @@ FIELDS = {"name", "words", "program", "by", "status", "output_to", "megabytes"}
 FIELDS |= INPUTS | OUTPUTS | ERRORS
 # What stands in the names of variants as it does in those of C.
 ABBREVIATIONS = {"TLS", "CFA"}
-# What bin/dwexpr and bin/build say of a program that isn't proved.
-UNPROVED = re.compile(rb"^bin/.*\n", re.MULTILINE)
+# What bin/dwexpr and the kit say of a program that isn't proved.
+UNPROVED = re.compile(rb"^(?:bin/dwexpr: this program isn't proved|checked: |run=).*\n", re.MULTILINE)
 
 
 def variant_of(name):
@@ -175,67 +170,28 @@ def complaints_of(row, top=TOP):
     return complaints
 
 
-def gimli_complaints():
-    """Which of gimli's tests aren't carried as tests/gimli.json says."""
-    known = json.loads(GIMLI.read_text(encoding="utf-8"))
-    reasons = {"rows", "elsewhere", *known.pop("left_out")}
-    tests = {name: said for part in known.values() for name, said in part.items()}
-    vectors = json.loads(VECTORS.read_text(encoding="utf-8"))
-    named = [row["name"].partition(":")[0] for _, row in rows()] + [vector.get("gimli", "") for vector in vectors]
-    carried = collections.Counter(name for name in named if re.match(r"(test|value|valuetype)_", name))
-    for name in carried.keys() | tests.keys():
-        said = tests.get(name, {})
-        if carried[name] != said.get("rows", 0) or not said or not said.keys() <= reasons:
-            yield f"{name}: there are {carried[name]} rows and vectors"
-        for place in said.get("elsewhere", []):
-            file, function = place.split()
-            if f"fn {function}(" not in (TOP / file).read_text(encoding="utf-8"):
-                yield f"{name}: there is no {place}"
-
-
-def unproved_complaints(rows):
-    """What is wrong with the answers of bin/dwexpr where there is no proved program: by each row's name."""
+def unproved_complaints(row):
+    """What is wrong with the answer of bin/dwexpr to a row where there is no proved program."""
     with commands.temporary() as top:
-        for name in ("bin", "crates", "include"):
+        for name in ("bin", "crates", "c/include"):
             shutil.copytree(TOP / name, top / name, ignore=shutil.ignore_patterns("out"))
         shutil.copy(TOP / "crates.txt", top)
-        kept = top / "crates/dwexpr/out/unproved/dwexpr"
-        complaints, built = {}, set()
-        for row in rows:
-            complaints[row["name"]] = complaints_of(row, top)
-            built |= {kept.stat().st_ctime_ns} if kept.exists() else set()
-        complaints["one build for all rows"] = [] if len(built) == 1 else [f"there were {len(built)}"]
-        return complaints
+        return complaints_of(row, top)
 
 
 def main():
-    global PROGRAM, SECONDS
-    parser = commands.parser(__doc__)
-    said = "run rows on a program built without a proof, until one fails; not those of scripts and of little memory"
-    parser.add_argument("--unproved", action="store_true", help=said)
-    asked = parser.parse_args()
-    commands.run(TOP / "bin/build", *["--unproved"] * asked.unproved, stderr=None)
-    if asked.unproved:
-        # It looks after its memory, and so takes long.
-        PROGRAM, SECONDS = UNPROVED_PROGRAM, BUILD_SECONDS
+    if not PROGRAM.exists():
+        raise commands.Failure("there is no program: bin/build or rt ci builds it")
     entries = json.loads((ROWS / INTEGERS).read_text(encoding="utf-8"))
     complaints = {"integers: the table": list(integers.complaints_of(entries))}
-    complaints["gimli's tests"] = list(gimli_complaints())
-    by_script = []
     for name, row in rows():
-        if asked.unproved and row.keys() & {"by", "megabytes"}:
-            continue
         words = " ".join(repr(bytes_of(word))[1:60] for word in row["words"])
-        complaints[f"{name} ({words})"] = said = complaints_of(row)
-        by_script += [row] if "by" in row else []
-        if asked.unproved and said:
-            break
-    if by_script:
-        found = unproved_complaints(by_script)
-        complaints |= {f"bin/dwexpr, unproved: {name}": found[name] for name in found}
+        complaints[f"{name} ({words})"] = complaints_of(row)
+        if "by" in row and row["name"] == "a value":
+            complaints["bin/dwexpr, unproved"] = unproved_complaints(row)
     for name, said in complaints.items():
         expect(not said, name, "\n".join(said))
 
 
 if __name__ == "__main__":
-    checks.end_with(main)
+    checks.end_with(main, __doc__)

@@ -98,10 +98,12 @@ def check_preconditions(top, package, found):
     """Refuses preconditions that a package doesn't name, and such as it names and aren't there."""
     text = (top / package.preconditions).read_text(encoding="utf-8")
     lines = [line.rpartition(": ") for line in text.splitlines() if ": " in line and line[0] != "#"]
-    listed = sorted(f"{name}: {' '.join(split(condition))}" for condition, _, names in lines for name in names.split())
+    listed = {(name, " ".join(split(condition))) for condition, _, names in lines for name in names.split()}
     public = [source for source in found.values() if source.path.startswith(package.public)]
-    there = sorted(f"{name}: {condition}" for source in public for name, condition in source.conditions)
-    if differs := sources.difference(listed, there, 1):
+    # A `*` stands for all that have the precondition.
+    conditions = [it for source in public for it in source.conditions]
+    there = {("*", condition) if ("*", condition) in listed else (name, condition) for name, condition in conditions}
+    if differs := sources.difference(sorted(map(str, listed)), sorted(map(str, there)), 1):
         raise Failure(f"{package.preconditions} has other preconditions: {differs}")
 
 

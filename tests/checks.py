@@ -1,6 +1,5 @@
 """What the scripts that run programs share: a count of checks, runs that end, and how C is compiled."""
 
-import concurrent.futures
 import os
 import shutil
 import subprocess
@@ -144,28 +143,6 @@ def path_with(folder, *programs):
         if found := shutil.which(program):
             (folder / program).symlink_to(sys.executable if program == "python3" else found)
     return str(folder)
-
-
-def try_wrong_bodies(path, package, place, sees):
-    """Tries the wrong bodies in a file, each in a copy of a package, of files under a place in it. A function says what
-    sees the copy, which it gets with a folder to work in; "" if nothing does."""
-
-    def tried(edit):
-        with commands.temporary(prefix="wrong-body-") as name:
-            copy = name / "package"
-            shutil.copytree(package, copy, ignore=shutil.ignore_patterns("target"))
-            try:
-                edit.apply(copy / place)
-                by = sees(copy, name)
-            except commands.Failure as failure:
-                return False, f"{failure}\n{failure.said}"
-            return bool(by), by or "nothing sees it"
-
-    edits = sources.edits_in(path)
-    with concurrent.futures.ThreadPoolExecutor(os.cpu_count()) as pool:
-        for edit, (is_seen, said) in zip(edits, pool.map(tried, edits)):
-            print(f"{'seen' if is_seen else 'NOT SEEN'}: {edit.name}: {said}", flush=True)
-            expect(is_seen, f"{edit.name} is seen")
 
 
 def end_with(main, doc=None):

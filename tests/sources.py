@@ -1,4 +1,4 @@
-"""How the repository's scripts read its sources: definitions, wrong bodies, and counts of checks."""
+"""How the repository's scripts read its sources: definitions, edits, and counts of checks."""
 
 import functools
 import re

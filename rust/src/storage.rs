@@ -1,13 +1,14 @@
-//! Where an evaluation keeps its lists: gimli's traits, over those of the sources.
+//! Where an evaluation keeps its lists: gimli's traits, of which each says what list of the sources it takes.
 
-use crate::sources::eval::store::{self, SliceVec, StoreInSlices};
+use crate::sources::eval::store::{List, SliceVec};
 use crate::{Piece, Reader, Value};
 #[cfg(feature = "arrayvec")]
 use arrayvec::ArrayVec;
+use core::fmt;
 use core::marker::PhantomData;
 
 /// A list of an evaluation: a `Vec<T>` on the heap, or a [`SliceVec`] over a slice of the caller's; with the feature
-/// `arrayvec` also an array `[T; N]` or an `ArrayVec<T, N>`.
+/// `arrayvec` also an array `[T; N]` or an `ArrayVec<T, N>`. It is sealed, as gimli's is.
 ///
 /// ```
 /// # #[cfg(feature = "alloc")] {
@@ -31,19 +32,38 @@ use core::marker::PhantomData;
 /// assert_eq!(evaluation.resume_with_at_location(called), Err(Error::StackFull));
 /// # }
 /// ```
-pub trait ArrayLike {
+pub trait ArrayLike: sealed::Sealed {
     /// The items.
     type Item: Clone;
 
     #[doc(hidden)]
-    type List: store::ArrayLike<Item = Self::Item>;
+    type List: List<Item = Self::Item>;
 
     // What the pieces are kept in.
     #[doc(hidden)]
-    type Pieces: store::ArrayLike<Item = Self::Item> + From<Self::List>;
+    type Pieces: List<Item = Self::Item> + From<Self::List>;
 
     #[doc(hidden)]
     fn new_list() -> Self::List;
+}
+
+pub(crate) mod sealed {
+    /// No type of a user's is a list.
+    ///
+    /// ```compile_fail,E0277
+    /// struct Mine;
+    ///
+    /// impl dwexpr::ArrayLike for Mine {
+    ///     type Item = u8;
+    ///     type List = dwexpr::SliceVec<'static, u8>;
+    ///     type Pieces = dwexpr::SliceVec<'static, u8>;
+    ///
+    ///     fn new_list() -> dwexpr::SliceVec<'static, u8> {
+    ///         dwexpr::SliceVec::new(&mut [])
+    ///     }
+    /// }
+    /// ```
+    pub trait Sealed {}
 }
 
 /// Where an evaluation keeps its lists. With the feature `alloc`, `StoreOnHeap` is the default.
@@ -78,20 +98,29 @@ pub trait EvaluationStorage<R: Reader> {
     type Result: ArrayLike<Item = Piece<R>>;
 }
 
+/// Lists over slices that the caller lends.
+#[derive(Clone, Copy, Debug, PartialEq, Eq)]
+pub struct StoreInSlices<'a>(PhantomData<&'a ()>);
+
 impl<'a, R: Reader + 'a> EvaluationStorage<R> for StoreInSlices<'a> {
     type Stack = SliceVec<'a, Value>;
     type ExpressionStack = SliceVec<'a, (R, R)>;
     type Result = SliceVec<'a, Piece<R>>;
 }
 
-/// The storage `S`, as the evaluation of the sources wants it.
-pub(crate) struct Lists<S>(PhantomData<S>);
+/// What an evaluation of the sources keeps its values or its callers in.
+pub(crate) type ListOf<A> = <A as ArrayLike>::List;
 
-impl<R: Reader, S: EvaluationStorage<R>> store::EvaluationStorage<R> for Lists<S> {
-    type Stack = <S::Stack as ArrayLike>::List;
-    type ExpressionStack = <S::ExpressionStack as ArrayLike>::List;
-    type Result = <S::Result as ArrayLike>::Pieces;
+/// What it keeps its pieces in.
+pub(crate) type PiecesOf<A> = <A as ArrayLike>::Pieces;
+
+impl<T: Clone + fmt::Debug> fmt::Debug for SliceVec<'_, T> {
+    fn fmt(&self, f: &mut fmt::Formatter<'_>) -> fmt::Result {
+        self.as_slice().fmt(f)
+    }
 }
+
+impl<T: Clone> sealed::Sealed for SliceVec<'_, T> {}
 
 impl<'a, T: Clone> ArrayLike for SliceVec<'a, T> {
     type Item = T;
@@ -105,6 +134,9 @@ impl<'a, T: Clone> ArrayLike for SliceVec<'a, T> {
 }
 
 #[cfg(feature = "arrayvec")]
+impl<T: Clone, const N: usize> sealed::Sealed for [T; N] {}
+
+#[cfg(feature = "arrayvec")]
 impl<T: Clone, const N: usize> ArrayLike for [T; N] {
     type Item = T;
     type List = ArrayVec<T, N>;
@@ -115,6 +147,9 @@ impl<T: Clone, const N: usize> ArrayLike for [T; N] {
         ArrayVec::new()
     }
 }
+
+#[cfg(feature = "arrayvec")]
+impl<T: Clone, const N: usize> sealed::Sealed for ArrayVec<T, N> {}
 
 #[cfg(feature = "arrayvec")]
 impl<T: Clone, const N: usize> ArrayLike for ArrayVec<T, N> {

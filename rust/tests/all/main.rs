@@ -1,9 +1,13 @@
 //! What gimli's own tests don't show: calls out of turn, storages, readers of the user's, errors.
 
+#[cfg(feature = "gimli")]
+mod clones;
 mod evaluations;
+mod generic;
 #[cfg(feature = "gimli")]
 mod interop;
 mod plain;
+mod ranges;
 mod reading;
 #[cfg(feature = "gimli")]
 mod requests;

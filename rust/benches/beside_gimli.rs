@@ -387,7 +387,7 @@ pub fn measure(side: &str, rows: &[Row], is_timed: bool) -> ExitCode {
 
 /// Each expression is done twice, since what is left of the first time may change the second.
 fn compare(rows: &[Row], lists: &[List]) -> bool {
-    let mut is_same = true;
+    let (mut passed, mut failed) = (0, 0);
     for (list, cases) in lists {
         for row in rows {
             let differs =
@@ -397,10 +397,11 @@ fn compare(rows: &[Row], lists: &[List]) -> bool {
             for case in differing.iter().take(5) {
                 println!("    {:02x?}", case.bytes);
             }
-            is_same &= differing.is_empty();
+            *if differing.is_empty() { &mut passed } else { &mut failed } += 1;
         }
     }
-    is_same
+    println!("{passed} passed, {failed} failed");
+    failed == 0
 }
 
 /// Prints a table of Markdown.

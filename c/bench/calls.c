@@ -2,7 +2,7 @@
  * expressions, and dwexpr_run. Requests get the answers that rust/benches/beside_gimli.rs gives. */
 #include "dwexpr_run.h"
 
-enum { MOST_ANSWERS = 64, CONTENT = 0x1234, ADDRESS = 0x7000 };
+enum { CONTENT = 0x1234, ADDRESS = 0x7000 };
 
 /* How many operations there are before the end or the first fault. */
 uint64_t bench_decode(const uint8_t *bytes, size_t length, dwexpr_encoding encoding)
@@ -50,13 +50,13 @@ uint64_t bench_evaluate(const uint8_t *bytes, size_t length, dwexpr_encoding enc
     const dwexpr_settings settings = {.max_iterations = DWEXPR_RUN_OPERATIONS};
     dwexpr_outcome outcome;
     dwexpr_piece pieces[DWEXPR_MAX_PIECES];
-    uint32_t code, given = 0;
+    uint32_t code;
     if (!evaluation.memory) {
         evaluation.memory = memory;
         dwexpr_evaluation_begin(&evaluation);
     }
     code = dwexpr_evaluation_evaluate(&evaluation, texts, 2, encoding, &settings, &outcome, pieces, DWEXPR_MAX_PIECES);
-    while (code == DWEXPR_OK && outcome.request != DWEXPR_COMPLETE && given++ < MOST_ANSWERS)
+    while (code == DWEXPR_OK && outcome.request != DWEXPR_COMPLETE)
         code = dwexpr_evaluation_resume(&evaluation, texts, 2, answer_to(&outcome), &outcome, pieces,
                                         DWEXPR_MAX_PIECES);
     return pieces_of(code, &outcome);

@@ -3,9 +3,8 @@
 
 - The first definition of each file under `specs/` has a comment right above it, which those after it may share.
 - Each name in docs/DEFINITIONS.md is one of the code, of the definitions or of a file of theirs.
-- Each path in README.md, CHANGELOG.md, CONTRIBUTING.md, SECURITY.md, bench/README.md and docs/ leads to a file or
-  folder of the repository; what is built, gimli's files and the web aside. Each link to a part of a page finds its
-  heading.
+- Each path in README.md, CHANGELOG.md, CONTRIBUTING.md, SECURITY.md and docs/ leads to a file or folder of the
+  repository; what is built, gimli's files and the web aside. Each link to a part of a page finds its heading.
 - docs/GUIDE.md names exactly the operations that are known and aren't the standard's. The number of faults, the limits
   of the archive's lists, the size of an evaluation there, the logic's sum and README.md's ratios are those of the
   sources and docs/SPEED.md.
@@ -82,7 +81,7 @@ def folders():
 
 
 def documents():
-    pages = (README, "CHANGELOG.md", "CONTRIBUTING.md", "SECURITY.md", "bench/README.md")
+    pages = (README, "CHANGELOG.md", "CONTRIBUTING.md", "SECURITY.md")
     return [name for name in files() if name in pages or name.startswith("docs/")]
 
 

@@ -5,7 +5,12 @@
  *     cc expressions.c $(pkg-config --cflags --libs dwexpr-libdw) -o expressions
  *     ./expressions FILE..
  *
- * The last line counts. The status is 1 if an operation that both decode differs. */
+ * The last line counts. The status is 1 if an operation that both decode differs.
+ *
+ *     ./expressions --list FILE.. > LIST.tsv
+ *
+ * This prints them in place of that, but for those of no bytes or of an empty range: a list for DWEXPR_LISTS, which
+ * the benchmarks take. */
 #include <dwarf.h>
 #include <fcntl.h>
 #include <stdio.h>
@@ -17,6 +22,7 @@
 
 static const char *file;
 static dwexpr_encoding encoding;
+static int prints;
 static size_t expressions, operations, differing, refused_by_libdw, refused_by_both, refused_here, refused_lists;
 
 /* ---- one operation */
@@ -71,12 +77,28 @@ static void differ(const uint8_t *bytes, size_t length, size_t at, const char *w
     printf("\n");
 }
 
+static void print_expression(const uint8_t *bytes, size_t length)
+{
+    size_t i;
+    if (!length)
+        return;
+    printf("%d\t%d\t%d\t%s\t", encoding.address_size, encoding.offset_size, encoding.version,
+           encoding.big_endian ? "be" : "le");
+    for (i = 0; i < length; i++)
+        printf("%02x", bytes[i]);
+    printf("\n");
+}
+
 /* libdw's operations, or none if it refuses the expression */
 static void compare(const uint8_t *bytes, size_t length, const Dwarf_Op *theirs, size_t count, int refused)
 {
     size_t at, i = 0;
     dwexpr_operation op;
     expressions++;
+    if (prints) {
+        print_expression(bytes, length);
+        return;
+    }
     for (at = 0; at < length; at += op.size, i++) {
         if (dwexpr_decode(bytes, length, encoding, at, &op) != DWEXPR_OK) {
             if (refused) {
@@ -110,8 +132,8 @@ static void compare_list(Dwarf_Attribute *attribute)
     ptrdiff_t place = 0;
     while ((place = dwarf_getlocations(attribute, place, &base, &first, &last, &theirs, &count)) > 0)
         if (dwexpr_libdw_encode(theirs, count, encoding, bytes, sizeof bytes, &length) || length > sizeof bytes)
-            printf("%s: an expression can't be put together\n", file);
-        else
+            fprintf(prints ? stderr : stdout, "%s: an expression can't be put together\n", file);
+        else if (!prints || first != last)
             compare(bytes, length, theirs, count, 0);
     refused_lists += place < 0;
 }
@@ -173,10 +195,13 @@ static int compare_file(void)
 int main(int argc, char **argv)
 {
     int i, failed = 0;
-    for (i = 1; i < argc; i++) {
+    prints = argc > 1 && !strcmp(argv[1], "--list");
+    for (i = 1 + prints; i < argc; i++) {
         file = argv[i];
         failed |= compare_file();
     }
+    if (prints)
+        return failed;
     printf("%zu expressions, %zu operations, %zu differing; refused by libdw alone %zu, here alone %zu, by both %zu; "
            "lists that libdw refuses %zu\n",
            expressions, operations, differing, refused_by_libdw, refused_here, refused_by_both, refused_lists);

@@ -4,9 +4,10 @@
 const SOURCES: &str = "../crates/dwarf_bench/src";
 
 /// What differs in Rust: the names come of either crate, which both call a block's bytes `data`, and gimli has
-/// floating-point numbers, of which no answer has one. A contract is lines of its own.
+/// floating-point numbers, of which no answer has one. A reader is cloned. A contract is lines of its own.
 const SUMS: &[(&str, &str)] = &[
     ("//! Checksums", "// Checksums"),
+    ("R: Reader + Copy", "R: Reader"),
     ("use crate::jobs::Bytes;", "use super::work::Bytes;"),
     ("use dwarf_base::{", "use super::layer::{"),
     ("use dwarf_eval::op::{", "use super::layer::{"),
@@ -16,6 +17,9 @@ const SUMS: &[(&str, &str)] = &[
 ];
 const ANSWERING: &[(&str, &str)] = &[
     ("//! Made-up", "// Made-up"),
+    ("R: Reader + Copy", "R: Reader"),
+    ("called: R", "called: &R"),
+    ("location(called)", "location(called.clone())"),
     ("use crate::sums::", "use super::sums::"),
     ("use dwarf_base::{", "use super::layer::{"),
     ("use dwarf_eval::eval::", "use super::layer::"),

@@ -1,5 +1,8 @@
 //! Expressions: of a list, of any bytes, and repeated ones.
 
+use std::cell::RefCell;
+use std::sync::Arc;
+
 /// How the bytes are to be read, and what is done with them: `Job` of `crates/dwarf_bench/src/jobs.rt`, field by field.
 #[repr(C)]
 #[derive(Clone, Copy, Debug)]
@@ -84,6 +87,22 @@ fn case_of(line: &str) -> Option<Case> {
     let bytes =
         pairs.map(|pair| u8::from_str_radix(std::str::from_utf8(pair).ok()?, 16).ok()).collect::<Option<_>>()?;
     Some(Case::new(bytes, job))
+}
+
+thread_local! {
+    static TOGETHER: RefCell<Option<(*const Case, Arc<[u8]>)>> = const { RefCell::new(None) };
+}
+
+/// The bytes of all cases, one after another. Those of the last call are kept, so that they cost no round anything.
+pub fn together(cases: &[Case]) -> Arc<[u8]> {
+    TOGETHER.with_borrow_mut(|kept| match kept {
+        Some((place, bytes)) if *place == cases.as_ptr() => bytes.clone(),
+        _ => {
+            let bytes: Arc<[u8]> = cases.iter().flat_map(|case| case.bytes()).copied().collect();
+            *kept = Some((cases.as_ptr(), bytes.clone()));
+            bytes
+        }
+    })
 }
 
 /// Short expressions, the same in every run: one in four of any bytes, else mostly of opcodes that work on the stack.

@@ -41,6 +41,7 @@ const IN_RUST: &[Way] = &[
     way("decode", theirs::decode, ours::decode),
     way("evaluate on the heap", theirs::on_heap, ours::on_heap),
     unsummed("by gimli's reader, on the heap", theirs::on_heap, ours::by_gimlis_reader),
+    unsummed("by `EndianArcSlice`, on the heap", theirs::over_arcs, ours::over_arcs),
     way("restarted on the heap", theirs::on_heap, ours::restarted),
     way("evaluate in arrays", theirs::in_arrays, ours::in_arrays),
 ];

@@ -39,5 +39,10 @@ fn one_by_gimlis_reader(case: &Case) -> u64 {
     let order = if case.job.is_big_endian { gimli::RunTimeEndian::Big } else { gimli::RunTimeEndian::Little };
     let [text, nothing] = [case.bytes(), &[]].map(|bytes| GimliReader(gimli::EndianSlice::new(bytes, order)));
     let mut evaluation = Evaluation::new(text, encoding_of(&case.job));
-    complete::<_, _, false>(&mut evaluation, text, nothing, &case.job, &mut 0).0.into()
+    complete::<_, _, false>(&mut evaluation, &text, &nothing, &case.job, &mut 0).0.into()
+}
+
+/// By a new evaluation on the heap, from gimli's reader over an `Arc`. It makes no checksum.
+pub fn over_arcs(cases: &[Case], times: u32) -> u64 {
+    work::over_arcs(cases, times, GimliReader)
 }

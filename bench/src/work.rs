@@ -6,7 +6,8 @@ use super::layer::{
     RunTimeEndian, StoreOnHeap, Value,
 };
 use super::sums::{mix, mix_location, mix_operation, mix_option, mix_value};
-use crate::cases::{Case, Job};
+use crate::cases::{Case, Job, together};
+use gimli::EndianArcSlice;
 use std::hint::black_box;
 
 /// The bytes of an expression, in an order that is known when the program runs.
@@ -100,7 +101,8 @@ pub fn finish<'a, S: EvaluationStorage<Bytes<'a>>>(
     text: Bytes<'a>,
     job: &Job,
 ) -> u64 {
-    let nothing = text_of(&[], job);
+    let nothing = &text_of(&[], job);
+    let text = &text;
     if job.counted != 0 {
         return complete::<_, _, false>(evaluation, text, nothing, job, &mut 0).0.into();
     }
@@ -117,10 +119,10 @@ pub fn finish<'a, S: EvaluationStorage<Bytes<'a>>>(
 /// Evaluates to the end, to a fault or until no more answers are given: the number of answers, and the last reply. If
 /// `SUMS` is true, it adds each request.
 #[inline(always)]
-pub fn complete<R: Reader + Copy, S: EvaluationStorage<R>, const SUMS: bool>(
+pub fn complete<R: Reader, S: EvaluationStorage<R>, const SUMS: bool>(
     evaluation: &mut Evaluation<R, S>,
-    text: R,
-    nothing: R,
+    text: &R,
+    nothing: &R,
     job: &Job,
     sum: &mut u64,
 ) -> (u32, Result<EvaluationResult<R>>) {
@@ -138,6 +140,35 @@ pub fn complete<R: Reader + Copy, S: EvaluationStorage<R>, const SUMS: bool>(
         reply = respond::<R, S, SUMS>(evaluation, request, called, sum);
     }
     (met, reply)
+}
+
+/// By a new evaluation on the heap, over parts of bytes that an `Arc` holds. It makes no checksum.
+pub fn over_arcs<R: Reader>(
+    cases: &[Case],
+    times: u32,
+    reader_of: fn(EndianArcSlice<gimli::RunTimeEndian>) -> R,
+) -> u64 {
+    let bytes = together(cases);
+    let [little, big] = [gimli::RunTimeEndian::Little, gimli::RunTimeEndian::Big]
+        .map(|order| EndianArcSlice::new(bytes.clone(), order));
+    let nothing = reader_of(little.range(0..0));
+    let (mut total, mut start) = (0u64, 0);
+    for case in cases {
+        let end = start + case.bytes().len();
+        let whole = if case.job.is_big_endian { &big } else { &little };
+        for _ in 0..times {
+            let text = reader_of(whole.range(start..end));
+            total = total.wrapping_add(one_over_arcs(black_box(case), text, &nothing));
+        }
+        start = end;
+    }
+    total
+}
+
+#[inline(never)]
+fn one_over_arcs<R: Reader>(case: &Case, text: R, nothing: &R) -> u64 {
+    let mut evaluation = Evaluation::<R>::new_in(text.clone(), encoding_of(&case.job));
+    complete::<_, _, false>(&mut evaluation, &text, nothing, &case.job, &mut 0).0.into()
 }
 
 #[inline(never)]

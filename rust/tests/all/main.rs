@@ -1,5 +1,7 @@
 //! What gimli's own tests don't show: calls out of turn, storages, readers of the user's, errors.
 
+#[cfg(feature = "gimli")]
+mod clones;
 mod evaluations;
 #[cfg(feature = "gimli")]
 mod interop;

@@ -13,7 +13,7 @@ ghost use Rattle.dwarf_op.specs.Views.{operation_of, location_of, piece_of};
 ghost use Rattle.dwarf_meaning.specs.Inputs.{fresh_state, with_maximum, with_object, with_status};
 ghost use Rattle.dwarf_eval.specs.Evaluation.{request_in};
 ghost use Rattle.dwarf_eval.specs.inner.Machine.{last_of, on_answer_of, replied_status, status_of};
-ghost use Rattle.dwarf_eval.specs.inner.StateChanges.{Asks, CountsOne, GoesBack, Jumps, Pops, ReadsOperation, TriesChange, TriesToEnter, at_rest, is_free, is_running, read_to, with_last};
+ghost use Rattle.dwarf_eval.specs.inner.StateChanges.{Asks, CountsOne, GoesBack, Jumps, Pops, ReadsOperation, TriesChange, TriesToEnter, at_rest, is_free, is_running, read_to, with_last, with_place};
 
 use crate::op::EvaluationResult;
 use crate::run::states::{EvaluationState, LastOperation, OnAnswer};
@@ -34,8 +34,10 @@ pub(crate) struct Machine<R: Reader + Copy, S: EvaluationStorage<R>> {
     object_address: Option<u64>,
     max_iterations: u32,
     iteration: u32,
-    // What is left of the running text, and the whole of it, as a caller is kept: it is copied as a whole then.
-    running: (R, R),
+    // What is left of the running text, or `None` while a run has it.
+    rest: Option<R>,
+    // The whole of it.
+    whole: R,
     last: LastOperation,
     // The location that waits for its piece, if the last operation gave one.
     location: Location<R>,
@@ -54,21 +56,21 @@ impl<R: Reader + Copy, S: EvaluationStorage<R>> Model for Machine<R, S> {
     ghost Value = { State };
 
     ghost use Rattle.dwarf_meaning.specs.Stores.{setup_of};
-    ghost use Rattle.dwarf_eval.specs.inner.Machine.{on_answer_of, status_of, store_of, place_of, callers_of, IsSound};
+    ghost use Rattle.dwarf_eval.specs.inner.Machine.{on_answer_of, status_of, store_of, left_of, place_of, callers_of, IsSound};
 
     ghost view = { λ e. record {
       status = status_of R.text R.Offset.number e.state (on_answer_of R.text e.on_answer);
       setup = setup_of e.encoding R.Offset.BITS (S.Stack.limit e.stack)
           (S.ExpressionStack.limit e.expression_stack) (S.Result.limit e.pieces);
-      text = R.text e.running.1;
-      place = place_of (R.text e.running.1) (R.text e.running.0);
+      text = R.text e.whole;
+      place = place_of (R.text e.whole) (R.text (left_of e.rest e.whole));
       callers = callers_of R.text (S.ExpressionStack.items e.expression_stack);
       store = store_of R.text R.Offset.number (S.Stack.items e.stack) (S.Result.items e.pieces)
           e.iteration e.object_address e.max_iterations e.last e.location;
       decodings = e.decodings.count;
     } };
 
-    ghost invariant = { λ e. IsSound R.text e.encoding e.addr_mask e.running.1 e.running.0
+    ghost invariant = { λ e. IsSound R.text e.encoding e.addr_mask e.whole (left_of e.rest e.whole)
         (S.ExpressionStack.items e.expression_stack) };
 }
 
@@ -292,7 +294,10 @@ impl<R: Reader + Copy, S: EvaluationStorage<R>> Machine<R, S> {
         ensures ends { result ≡ true → self.now.place ≡ length self.now.text.bytes }
         ensures inside { result ≡ false → self.now.place < length self.now.text.bytes }
     {
-        self.running.0.is_empty()
+        match &self.rest {
+            Some(rest) => rest.is_empty(),
+            None => self.whole.is_empty(),
+        }
     }
 
     /// Whether there are pieces.
@@ -333,7 +338,10 @@ impl<R: Reader + Copy, S: EvaluationStorage<R>> Machine<R, S> {
     pub(crate) fn place(&self) -> R::Offset
         ensures value { R.Offset.number result ≡ self.now.place }
     {
-        self.running.0.offset_from(&self.running.1)
+        match &self.rest {
+            Some(rest) => rest.offset_from(&self.whole),
+            None => R::Offset::from_u8(0),
+        }
     }
 
     /// The place that is before what is left of the running text.
@@ -343,16 +351,20 @@ impl<R: Reader + Copy, S: EvaluationStorage<R>> Machine<R, S> {
         ensures value { R.Offset.number result ≡ (at_rest (R.text rest.now).bytes self.now).place }
         ensures bits { self.now.setup.offset_bits ≡ R.Offset.BITS }
     {
-        rest.offset_from(&self.running.1)
+        rest.offset_from(&self.whole)
     }
 
-    /// What is left of the running text.
+    /// Takes what is left of the running text, which stands at its start meanwhile.
     #[inline(always)]
-    pub(crate) fn rest(&self) -> R
-        ensures rest { IsRestOf (R.text result) self.now.text }
-        ensures here { at_rest (R.text result).bytes self.now ≡ self.now }
+    pub(crate) fn take_rest(&mut self) -> R
+        ensures rest { IsRestOf (R.text result) self.old.text }
+        ensures here { at_rest (R.text result).bytes self.old ≡ self.old }
+        ensures alone { self.new ≡ with_place 0 self.old }
     {
-        copy_of(&self.running.0)
+        match self.rest.take() {
+            Some(rest) => rest,
+            None => copy_of(&self.whole),
+        }
     }
 
     /// Goes to what is left of the running text.
@@ -361,7 +373,7 @@ impl<R: Reader + Copy, S: EvaluationStorage<R>> Machine<R, S> {
         requires { IsRestOf (R.text rest) self.old.text }
         ensures { self.new ≡ at_rest (R.text rest).bytes self.old }
     {
-        self.running.0 = rest;
+        self.rest = Some(rest);
     }
 
     /// Reads the operation before what is left of the running text, and counts that. Nothing else of an evaluation
@@ -391,7 +403,7 @@ impl<R: Reader + Copy, S: EvaluationStorage<R>> Machine<R, S> {
             (at_rest (R.text rest.new).bytes self.new) result }
         ensures rest { IsRestOf (R.text rest.new) self.new.text }
     {
-        let mut target = copy_of(&self.running.1);
+        let mut target = copy_of(&self.whole);
         let Ok(()) = target.skip(place) else {
             self.fail(Error::BadBranchTarget(place.into_u64()));
             return false;
@@ -404,12 +416,20 @@ impl<R: Reader + Copy, S: EvaluationStorage<R>> Machine<R, S> {
     pub(crate) fn push_caller(&mut self, callee: R) -> bool
         ensures { TriesToEnter (R.text callee) self.old self.new result }
     {
-        let Ok(()) = self.expression_stack.push(copy_of(&self.running)) else {
-            self.fail(Error::StackFull);
-            return false;
-        };
-        self.running = (copy_of(&callee), callee);
-        true
+        let rest = self.take_rest();
+        let whole = mem::replace(&mut self.whole, copy_of(&callee));
+        match self.expression_stack.push((rest, whole)) {
+            Ok(()) => {
+                self.rest = Some(callee);
+                true
+            }
+            Err((rest, whole)) => {
+                self.rest = Some(rest);
+                self.whole = whole;
+                self.fail(Error::StackFull);
+                false
+            }
+        }
     }
 
     /// Goes back to the innermost caller, if there is one.
@@ -419,7 +439,8 @@ impl<R: Reader + Copy, S: EvaluationStorage<R>> Machine<R, S> {
         let Some(caller) = self.expression_stack.pop() else {
             return false;
         };
-        self.running = caller;
+        self.rest = Some(caller.0);
+        self.whole = caller.1;
         true
     }
 
@@ -472,7 +493,8 @@ impl<R: Reader + Copy, S: EvaluationStorage<R>> Machine<R, S> {
         self.object_address = None;
         self.max_iterations = u32::MAX;
         self.iteration = 0;
-        self.running = (copy_of(&bytecode), bytecode);
+        self.rest = Some(copy_of(&bytecode));
+        self.whole = bytecode;
         self.last = LastOperation::Nothing;
         self.decodings = Ticks::new();
     }
@@ -501,7 +523,8 @@ impl<R: Reader + Copy, S: EvaluationStorage<R>> Machine<R, S> {
             object_address: None,
             max_iterations: u32::MAX,
             iteration: 0,
-            running: (copy_of(&bytecode), bytecode),
+            rest: Some(copy_of(&bytecode)),
+            whole: bytecode,
             last: LastOperation::Nothing,
             location: Location::Empty,
             on_answer: OnAnswer::Push,

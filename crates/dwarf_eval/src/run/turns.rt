@@ -63,7 +63,7 @@ impl<R: Reader + Copy, S: EvaluationStorage<R>> Machine<R, S> {
         requires { IsReady self.old }
         ensures { Turns self.old self.new }
     {
-        let mut rest = self.rest();
+        let mut rest = self.take_rest();
         let mut goes_on = true;
         while goes_on {
             self.perform(&mut rest);
@@ -105,7 +105,7 @@ impl<R: Reader + Copy, S: EvaluationStorage<R>> Machine<R, S> {
         requires waits { is_free self.old.store.last ≡ false }
         ensures { Turns self.old self.new }
     {
-        let mut rest = self.rest();
+        let mut rest = self.take_rest();
         let operation = self.decode(&mut rest);
         self.go_to(rest);
         match operation {

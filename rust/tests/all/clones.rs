@@ -1,0 +1,160 @@
+//! How often a reader is cloned, beside gimli: over an `Arc` each clone and its end count up and down.
+
+use super::interop::ENCODING;
+use dwexpr::GimliReader;
+use gimli::ReaderOffsetId;
+use std::borrow::Cow;
+use std::cell::Cell;
+
+thread_local! {
+    /// How often this thread has cloned a reader.
+    static CLONES: Cell<u32> = const { Cell::new(0) };
+}
+
+/// A reader that counts its clones. A part of it isn't one.
+#[derive(Debug)]
+struct Counting<'a>(gimli::EndianSlice<'a, gimli::LittleEndian>);
+
+impl Clone for Counting<'_> {
+    fn clone(&self) -> Self {
+        CLONES.set(CLONES.get() + 1);
+        Counting(self.0)
+    }
+}
+
+/// Calls of a reader that do what those of the slice in it do.
+macro_rules! of_slice {
+    ($($name:ident($($argument:ident: $type:ty)?) -> $result:ty;)+) => {
+        $(fn $name(&self, $($argument: $type)?) -> $result {
+            gimli::Reader::$name(&self.0, $($argument)?)
+        })+
+    };
+}
+
+impl gimli::Reader for Counting<'_> {
+    type Endian = gimli::LittleEndian;
+    type Offset = usize;
+
+    of_slice! {
+        endian() -> gimli::LittleEndian;
+        len() -> usize;
+        offset_id() -> ReaderOffsetId;
+        lookup_offset_id(id: ReaderOffsetId) -> Option<usize>;
+        find(byte: u8) -> gimli::Result<usize>;
+        to_slice() -> gimli::Result<Cow<'_, [u8]>>;
+        to_string() -> gimli::Result<Cow<'_, str>>;
+        to_string_lossy() -> gimli::Result<Cow<'_, str>>;
+    }
+
+    fn empty(&mut self) {
+        self.0.empty();
+    }
+
+    fn truncate(&mut self, len: usize) -> gimli::Result<()> {
+        self.0.truncate(len)
+    }
+
+    fn offset_from(&self, base: &Self) -> usize {
+        self.0.offset_from(base.0)
+    }
+
+    fn skip(&mut self, len: usize) -> gimli::Result<()> {
+        self.0.skip(len)
+    }
+
+    fn split(&mut self, len: usize) -> gimli::Result<Self> {
+        self.0.split(len).map(Counting)
+    }
+
+    fn read_slice(&mut self, buf: &mut [u8]) -> gimli::Result<()> {
+        self.0.read_slice(buf)
+    }
+}
+
+fn counting(bytes: &[u8]) -> Counting<'_> {
+    Counting(gimli::EndianSlice::new(bytes, gimli::LittleEndian))
+}
+
+/// How many clones a call makes.
+fn clones_of(call: impl FnOnce()) -> u32 {
+    CLONES.set(0);
+    call();
+    CLONES.get()
+}
+
+/// Evaluates to the end or to a fault by either crate. Each request is answered by a plain value, and a call by `called`.
+macro_rules! evaluate {
+    ($of:ident, $layer:ident, $reader:expr, $encoding:expr, $bytes:expr, $called:expr) => {{
+        use $layer::EvaluationResult::*;
+        let mut evaluation = $layer::Evaluation::new($reader($bytes), $encoding);
+        let mut reply = evaluation.evaluate();
+        while let Ok(request) = reply {
+            reply = match request {
+                Complete => {
+                    evaluation.result();
+                    break;
+                }
+                RequiresMemory { .. } => evaluation.resume_with_memory($layer::Value::Generic(1)),
+                RequiresRegister { .. } => evaluation.resume_with_register($layer::Value::Generic(1)),
+                RequiresFrameBase => evaluation.resume_with_frame_base(1),
+                RequiresAtLocation(_) => evaluation.resume_with_at_location($reader($called)),
+                RequiresEntryValue(_) => evaluation.resume_with_entry_value($layer::Value::Generic(1)),
+                RequiresBaseType(_) => evaluation.resume_with_base_type($layer::ValueType::Generic),
+                _ => evaluation.resume_with_relocated_address(1),
+            };
+        }
+    }};
+}
+
+/// How often each crate clones a reader to evaluate an expression: this one, and gimli.
+fn clones_of_both(bytes: &[u8], called: &[u8]) -> (u32, u32) {
+    let ours = |bytes| GimliReader(counting(bytes));
+    let encoding = dwexpr::Encoding::from(ENCODING);
+    (
+        clones_of(|| evaluate!(ours, dwexpr, ours, encoding, bytes, called)),
+        clones_of(|| evaluate!(theirs, gimli, counting, ENCODING, bytes, called)),
+    )
+}
+
+#[test]
+fn no_evaluation_clones_a_reader_more_often_than_gimlis() {
+    for (name, bytes, called) in [
+        ("a register", &[0x50][..], &[][..]),
+        ("an offset of two bytes from the frame base", &[0x91, 0xf0, 0x7e], &[]),
+        ("a value of a register", &[0x70, 8, 0x9f], &[]),
+        ("an entry value", &[0xa3, 1, 0x50, 0x9f], &[]),
+        ("two requests", &[0x70, 0, 0x71, 0, 0x22, 0x9f], &[]),
+        ("memory after a register", &[0x70, 8, 0x06, 0x9f], &[]),
+        ("a branch", &[0x31, 0x28, 1, 0, 0x96, 0x32], &[]),
+        ("a call", &[0x98, 5, 0, 0x31, 0x22], &[0x32]),
+        ("an empty call", &[0x98, 5, 0, 0x31], &[]),
+        ("bytes", &[0x9e, 2, 1, 2], &[]),
+        ("pieces of bytes", &[0x9e, 1, 1, 0x93, 1, 0x9e, 1, 2, 0x93, 1], &[]),
+        ("a literal of a type", &[0xa4, 3, 2, 1, 2], &[]),
+    ] {
+        let (ours, theirs) = clones_of_both(bytes, called);
+        println!("{name}: {ours}, gimli {theirs}");
+        assert!(ours <= theirs, "{name}: {ours}, gimli {theirs}");
+    }
+}
+
+/// A number of three bytes or more is read on a copy, so that a slice needn't stand in memory. Nothing else is.
+#[test]
+fn an_operation_is_read_with_a_clone_for_each_long_number() {
+    for opcode in 0..=255 {
+        for (operands, long) in [(&[1; 16], 0), (&[0x80, 1, 1, 1, 1, 1, 1, 1, 1, 1, 1, 1, 1, 1, 1, 1], 0)] {
+            let bytes = [&[opcode][..], operands].concat();
+            let clones = clones_of(|| {
+                let _ = dwexpr::Operation::parse(&mut GimliReader(counting(&bytes)), ENCODING.into());
+            });
+            assert_eq!(clones, long, "{opcode:#x}");
+        }
+    }
+    // DW_OP_consts, DW_OP_constu and DW_OP_bregx.
+    for (bytes, long) in [(&[0x11, 0x80, 0x80, 1][..], 1), (&[0x10, 0x80, 0x80, 1], 1), (&[0x92, 0x80, 0x80, 1, 0x80, 0x80, 1], 2)] {
+        let clones = clones_of(|| {
+            assert!(dwexpr::Operation::parse(&mut GimliReader(counting(bytes)), ENCODING.into()).is_ok());
+        });
+        assert_eq!(clones, long);
+    }
+}

@@ -1,10 +1,11 @@
 //! How often a reader is cloned, beside gimli: over an `Arc` each clone and its end count up and down.
 
 use super::interop::ENCODING;
-use dwexpr::GimliReader;
-use gimli::ReaderOffsetId;
+use dwexpr::{Evaluation, GimliReader};
+use gimli::{EndianArcSlice, LittleEndian, ReaderOffsetId};
 use std::borrow::Cow;
 use std::cell::Cell;
+use std::sync::Arc;
 
 thread_local! {
     /// How often this thread has cloned a reader.
@@ -156,5 +157,40 @@ fn an_operation_is_read_with_a_clone_for_each_long_number() {
             assert!(dwexpr::Operation::parse(&mut GimliReader(counting(bytes)), ENCODING.into()).is_ok());
         });
         assert_eq!(clones, long);
+    }
+}
+
+/// Whatever an evaluation was at, only the new reader is left after a restart.
+#[test]
+fn a_restart_lets_go_of_each_reader() {
+    let reader = |bytes: &Arc<[u8]>| GimliReader(EndianArcSlice::new(bytes.clone(), LittleEndian));
+    for text in [
+        // Bytes, also in two pieces, and in a location that isn't followed by a piece.
+        &[0x9e, 2, 1, 2][..],
+        &[0x9e, 1, 1, 0x93, 1, 0x9e, 1, 2, 0x93, 1],
+        &[0x9e, 1, 1, 0x96],
+        // A literal of a type, which is cut off; an entry value, before and after its answer; and calls.
+        &[0xa4, 3, 1, 2],
+        &[0xa3, 1, 0x50, 0x9f],
+        &[0x98, 5, 0, 0x31],
+        &[0x98, 5, 0, 0x98, 5, 0, 0x31],
+    ] {
+        for answers in 0..4 {
+            let [first, called, second]: [Arc<[u8]>; 3] = [text, text, &[0x31]].map(Arc::from);
+            let mut evaluation = Evaluation::new(reader(&first), ENCODING.into());
+            let mut reply = evaluation.evaluate();
+            for _ in 0..answers {
+                use dwexpr::EvaluationResult::*;
+                reply = match reply {
+                    Ok(RequiresBaseType(_)) => evaluation.resume_with_base_type(dwexpr::ValueType::U64),
+                    Ok(RequiresEntryValue(_)) => evaluation.resume_with_entry_value(dwexpr::Value::Generic(1)),
+                    Ok(RequiresAtLocation(_)) => evaluation.resume_with_at_location(reader(&called)),
+                    other => other,
+                };
+            }
+            drop(reply);
+            evaluation.restart(reader(&second), ENCODING.into());
+            assert_eq!([first, called].map(|it| Arc::strong_count(&it)), [1, 1], "{text:x?} after {answers} answers");
+        }
     }
 }

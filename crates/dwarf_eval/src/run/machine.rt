@@ -496,6 +496,9 @@ impl<R: Reader + Copy, S: EvaluationStorage<R>> Machine<R, S> {
         self.rest = Some(copy_of(&bytecode));
         self.whole = bytecode;
         self.last = LastOperation::Nothing;
+        // In Rust these may hold a reader of the text before.
+        self.location = Location::Empty;
+        self.on_answer = OnAnswer::Push;
         self.decodings = Ticks::new();
     }
 

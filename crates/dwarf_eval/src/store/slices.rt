@@ -8,6 +8,9 @@ use std::marker::Model;
 
 /// A list over a slice that its caller lends. Its capacity is chosen at run time, and nothing is allocated or set to
 /// zero.
+///
+/// What is popped stays in its slot until another item takes its place. So in Rust a reader there keeps what it holds,
+/// such as its count in an `Arc`; whoever lent the slice lets go of it by writing over the slots.
 #[derive(Drop)]
 pub struct SliceVec<'a, T> {
     slots: &'a mut [T],

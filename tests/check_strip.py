@@ -46,7 +46,8 @@ MODULES = re.compile(r"(#!\[allow\([\w:, ]+\)\]\n)+\n(pub mod \w+;\n)+")
 
 class Package(typing.NamedTuple):
     """A package: the path of its build script, its folder, the files of its rows and preconditions, the folder of the
-    functions that have those, the precondition of the methods that get another name, and the folder of its pages."""
+    functions that have those, the precondition of the methods that get another name, the source of which all that have
+    one do, and the folder of its pages."""
 
     script: str
     folder: str
@@ -54,6 +55,7 @@ class Package(typing.NamedTuple):
     preconditions: str
     public: str
     renamed: str
+    unchecked: str
     pages: str
 
 
@@ -65,6 +67,7 @@ PACKAGES = {
         preconditions="rust/build/preconditions",
         public="crates/",
         renamed="IsAddressMask addr_mask",
+        unchecked="crates/dwarf_eval/src/eval/evaluation.rt",
         pages="rust/src/pages",
     ),
     "c": Package(
@@ -74,6 +77,7 @@ PACKAGES = {
         preconditions="c/preconditions",
         public="crates/dwexpr_c/",
         renamed="",
+        unchecked="",
         pages="",
     ),
 }
@@ -117,7 +121,8 @@ def apply_rows(top, package, found):
 
 
 def rename(package, found):
-    """Gives the methods with a mask for a precondition their other name, in each call too."""
+    """Gives the methods with a mask for a precondition their other name, in each call too; and those of an evaluation
+    that have one, which no source calls."""
     names = {name for source in found.values() for name, condition in source.conditions if condition == package.renamed}
     for source in found.values():
         for at in range(len(source.code)):
@@ -127,6 +132,12 @@ def rename(package, found):
                 source.replace(at, at, f"{source.word(at)}_unchecked")
                 if source.word(at - 2) == "pub":
                     source.replace(at - 2, at - 2, "pub(crate)")
+        if source.path == package.unchecked:
+            own = {name for name, condition in source.conditions}
+            for at in range(len(source.code)):
+                if source.words(at, at + 1) == ["pub", "fn"] and source.word(at + 2) in own:
+                    source.replace(at, at, "pub(crate)")
+                    source.replace(at + 2, at + 2, f"{source.word(at + 2)}_unchecked")
         source.settle()
 
 
@@ -219,7 +230,7 @@ def without_pages(top, package, texts):
     """The texts without the pages, each of which ends the docs of its item."""
     for page in (top / package.pages).rglob("*.md") if package.pages else ():
         text = page.read_text(encoding="utf-8").replace("\\", "\\\\").replace('"', '\\"').replace("\n", "\\n")
-        found = re.compile(re.escape(f'#[doc = "{text}"] ') + rf"(?=pub (?:trait|enum|fn) {page.stem}\b)")
+        found = re.compile(re.escape(f'#[doc = "{text}"] ') + rf"(?=pub (?:trait|struct|enum|fn) {page.stem}\b)")
         met = 0
         for place in texts:
             if place.startswith(f"{page.parent.name}/"):

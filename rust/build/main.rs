@@ -3,7 +3,7 @@
 mod contracts;
 mod sources;
 
-use sources::{Sources, files_in, read};
+use sources::{Source, Sources, files_in, read};
 
 const CRATES: &[(&str, &str)] = &[
     ("dwarf_base", "base"),
@@ -12,8 +12,9 @@ const CRATES: &[(&str, &str)] = &[
     ("dwarf_op", "op"),
     ("dwarf_eval", "eval"),
 ];
-// Their lists take an allocator.
-const BY_HAND: &[&str] = &["dwarf_eval/src/store/heap.rt", "dwarf_eval/src/eval/heap.rt"];
+// The lists of the first two take an allocator, and the third has traits of which gimli's say more.
+const BY_HAND: &[&str] =
+    &["dwarf_eval/src/store/heap.rt", "dwarf_eval/src/eval/heap.rt", "dwarf_eval/src/store/storage.rt"];
 // The functions of laws do nothing, and only a list on the heap gives its pieces away. The names of opcodes are the
 // standard's.
 const ALLOWED: &str = "#![allow(dead_code, unused_imports, non_upper_case_globals)]
@@ -31,6 +32,17 @@ fn rename_unchecked(sources: &mut Sources, condition: &str) {
     }
 }
 
+/// The same of the public methods of an evaluation, which the sources don't call.
+fn rename_calls_of_evaluation(sources: &mut Sources) {
+    let is_its = |it: &Source| it.path == "crates/dwarf_eval/src/eval/evaluation.rt";
+    let all = sources.all.iter().filter(|it| is_its(it)).flat_map(|it| &it.preconditions);
+    let mut names: Vec<_> = all.map(|it| it.0.clone()).collect();
+    names.dedup();
+    for name in names {
+        sources.replace(is_its, &format!("pub fn {name}("), &format!("pub(crate) fn {name}_unchecked("));
+    }
+}
+
 /// Ends the docs of public items with the pages of a folder, each of which has an example: `base/Reader.md` is of the
 /// item `Reader` somewhere in the module `base`.
 fn add_pages(sources: &mut Sources, folder: &str) {
@@ -38,7 +50,7 @@ fn add_pages(sources: &mut Sources, folder: &str) {
     for page in files_in(&folder) {
         let module = page.parent().and_then(|it| it.strip_prefix(&folder).ok()?.to_str()).expect("it is in the folder");
         let name = page.file_stem().and_then(|it| it.to_str()).expect("it has a name");
-        let items = ["trait", "enum", "fn"].map(|kind| format!("pub {kind} {name}"));
+        let items = ["trait", "struct", "enum", "fn"].map(|kind| format!("pub {kind} {name}"));
         let doc = format!("#[doc = {:?}]", read(&page));
         let met: usize =
             items.iter().map(|it| sources.replace(|of| of.module == module, it, &format!("{doc} {it}"))).sum();
@@ -64,6 +76,7 @@ fn main() {
     sources.apply("rust/build/rows/both");
     sources.apply("rust/build/rows/rust");
     rename_unchecked(&mut sources, "IsAddressMask addr_mask");
+    rename_calls_of_evaluation(&mut sources);
     add_pages(&mut sources, "rust/src/pages");
     sources.write(ALLOWED, "use crate::casts::{IntoSigned as _, IntoUnsigned as _};");
 }

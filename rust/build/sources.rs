@@ -65,7 +65,7 @@ fn write(path: &Path, text: &str) {
 /// A source on its way.
 pub struct Source {
     /// Its path in the repository.
-    path: String,
+    pub path: String,
     /// The module that its crate becomes, and its place there.
     pub module: &'static str,
     place: PathBuf,

@@ -1,68 +1,18 @@
-//! The evaluation: that of the sources, after a check of each call's precondition.
+//! The calls of an evaluation that have a precondition: each is that of the sources, after a check.
 
-#[cfg(feature = "alloc")]
-use crate::heap::StoreOnHeap;
-use crate::sources::eval::eval::{self, Status, WaitingKind};
-use crate::sources::eval::store::ArrayLike as _;
-use crate::storage::{ArrayLike, EvaluationStorage, Lists};
-use crate::{Encoding, Error, EvaluationResult, Piece, Reader, Result, Value, ValueType};
+use crate::sources::eval::eval::{Evaluation, Status, WaitingKind};
+use crate::sources::eval::store::List as _;
+use crate::storage::{ArrayLike, EvaluationStorage};
+use crate::{Encoding, Error, EvaluationResult, Format, Piece, Reader, Result, Value, ValueType};
 use core::fmt;
 
-/// An evaluation of an expression (DWARF 5, section 2.5).
-///
-/// [`evaluate`](Self::evaluate) starts it. It gives `Complete` or a request, such as for the content of a register. The
-/// caller answers a request by the resume of the same name, which gives the next one, until the evaluation is complete.
-/// After a fault every `evaluate` and every resume gives that fault again.
-///
-/// ```
-/// # #[cfg(feature = "alloc")] {
-/// use dwexpr::{EndianSlice, Encoding, Error, Evaluation, EvaluationResult, Format, LittleEndian, Location, Value};
-///
-/// let encoding = Encoding { address_size: 8, format: Format::Dwarf32, version: 5 };
-/// // DW_OP_breg7 8: the content of register 7, plus 8.
-/// let bytes = EndianSlice::new(&[0x77, 0x08], LittleEndian);
-/// let mut evaluation = Evaluation::new(bytes, encoding);
-/// let mut result = evaluation.evaluate()?;
-/// while result != EvaluationResult::Complete {
-///     result = match result {
-///         EvaluationResult::RequiresRegister { register, .. } => {
-///             assert_eq!(register.0, 7);
-///             evaluation.resume_with_register(Value::Generic(0x7000))?
-///         }
-///         other => unimplemented!("{other:?}"),
-///     };
-/// }
-/// assert_eq!(evaluation.value_result(), Some(Value::Generic(0x7008)));
-/// assert_eq!(evaluation.result()[0].location, Location::Address { address: 0x7008 });
-/// # }
-/// # Ok::<(), dwexpr::Error>(())
-/// ```
-pub struct Evaluation<
-    R: Reader,
-    #[cfg(feature = "alloc")] S: EvaluationStorage<R> = StoreOnHeap,
-    #[cfg(not(feature = "alloc"))] S: EvaluationStorage<R>,
-> {
-    pub(crate) inner: eval::Evaluation<R, Lists<S>>,
-    start: Start,
-}
-
-/// Whether the evaluation was started.
-#[derive(Clone, Copy)]
-enum Start {
-    Due,
-    Made,
-    // It never is: an address of the encoding has this size. `evaluate` may have said so.
-    Refused { size: u8, told: bool },
-}
-
-/// What the calls of the sources take of an encoding: they want addresses of 1 to 8 bytes.
+/// Whether the calls of the sources take an encoding. In place of another one they are given `PLACEHOLDER`.
 #[inline]
-fn checked(encoding: Encoding) -> (Encoding, Start) {
-    match encoding.address_size {
-        1..=8 => (encoding, Start::Due),
-        size => (Encoding { address_size: 8, ..encoding }, Start::Refused { size, told: false }),
-    }
+fn is_taken(encoding: Encoding) -> bool {
+    matches!(encoding.address_size, 1..=8)
 }
+
+const PLACEHOLDER: Encoding = Encoding { address_size: 8, format: Format::Dwarf32, version: 5 };
 
 impl<R: Reader, S: EvaluationStorage<R>> Evaluation<R, S> {
     /// A fresh evaluation of `bytecode`, over empty lists. In [`StoreInSlices`](crate::StoreInSlices) these have no
@@ -111,9 +61,20 @@ impl<R: Reader, S: EvaluationStorage<R>> Evaluation<R, S> {
     ) -> Self {
         let is_empty = stack.len() == 0 && expression_stack.len() == 0 && result.len() == 0;
         assert!(is_empty, "`Evaluation::with_lists` was handed a list that isn't empty");
-        let (encoding, start) = checked(encoding);
-        let inner = eval::Evaluation::new_in(bytecode, encoding, stack, expression_stack, result.into());
-        Evaluation { inner, start }
+        if is_taken(encoding) {
+            return Evaluation::new_in_unchecked(bytecode, encoding, stack, expression_stack, result.into());
+        }
+        let mut evaluation =
+            Evaluation::new_in_unchecked(bytecode, PLACEHOLDER, stack, expression_stack, result.into());
+        evaluation.refuse(encoding);
+        evaluation
+    }
+
+    /// Has it fail, since the calls of the sources don't take the encoding.
+    #[cold]
+    #[inline(never)]
+    fn refuse(&mut self, encoding: Encoding) {
+        self.machine.fail(Error::UnsupportedAddressSize(encoding.address_size));
     }
 
     /// Makes it a fresh evaluation of another `bytecode`, over the same lists, which keep their memory. It may be
@@ -138,49 +99,26 @@ impl<R: Reader, S: EvaluationStorage<R>> Evaluation<R, S> {
     /// ```
     #[inline]
     pub fn restart(&mut self, bytecode: R, encoding: Encoding) {
-        let (encoding, start) = checked(encoding);
-        self.start = start;
-        self.inner.restart(bytecode, encoding);
+        if is_taken(encoding) {
+            return self.restart_unchecked(bytecode, encoding);
+        }
+        self.restart_unchecked(bytecode, PLACEHOLDER);
+        self.refuse(encoding);
     }
 
     /// Puts the address of an object on the stack before the start, as `DW_AT_data_member_location` and
-    /// `DW_AT_vtable_elem_location` want it.
+    /// `DW_AT_vtable_elem_location` want it. An evaluation whose addresses have 0 bytes or more than 8 has no start.
     ///
     /// # Panics
     ///
     /// If it was called before, or after `evaluate`.
     #[track_caller]
     pub fn set_initial_value(&mut self, value: u64) {
-        let is_told = matches!(self.start, Start::Refused { told: true, .. });
-        let is_unset = self.inner.status() == Status::Start { initial: false };
-        assert!(is_unset && !is_told, "`Evaluation::set_initial_value` was called twice, or after `evaluate`");
-        self.inner.set_initial_value(value);
-    }
-
-    /// Sets the address of the object for `DW_OP_push_object_address`, from now on. If none is set, that operation is
-    /// `InvalidPushObjectAddress`.
-    #[inline]
-    pub fn set_object_address(&mut self, value: u64) {
-        self.inner.set_object_address(value);
-    }
-
-    /// Sets how many operations may be evaluated in all, from now on. The default is 4,294,967,295. A location and the
-    /// piece after it count as one. An expression may loop, so set a maximum if you don't trust it.
-    ///
-    /// ```
-    /// # #[cfg(feature = "alloc")] {
-    /// use dwexpr::{EndianSlice, Encoding, Error, Evaluation, Format, LittleEndian};
-    ///
-    /// let encoding = Encoding { address_size: 8, format: Format::Dwarf32, version: 5 };
-    /// // DW_OP_skip to itself.
-    /// let mut evaluation = Evaluation::new(EndianSlice::new(&[0x2f, 0xfd, 0xff], LittleEndian), encoding);
-    /// evaluation.set_max_iterations(100_000);
-    /// assert_eq!(evaluation.evaluate(), Err(Error::TooManyIterations));
-    /// # }
-    /// ```
-    #[inline]
-    pub fn set_max_iterations(&mut self, value: u32) {
-        self.inner.set_max_iterations(value);
+        match self.status() {
+            Status::Start { initial: false } => self.set_initial_value_unchecked(value),
+            Status::Failed(Error::UnsupportedAddressSize(0 | 9..)) => {}
+            _ => panic!("`Evaluation::set_initial_value` was called twice, or after `evaluate`"),
+        }
     }
 
     /// Evaluates from the start to the first request or to the end. After the end it gives `Complete` again.
@@ -207,15 +145,10 @@ impl<R: Reader, S: EvaluationStorage<R>> Evaluation<R, S> {
     #[inline(always)]
     #[track_caller]
     pub fn evaluate(&mut self) -> Result<EvaluationResult<R>> {
-        match self.start {
-            Start::Due => self.start = Start::Made,
-            Start::Made => self.assert_no_request(),
-            Start::Refused { size, .. } => {
-                self.start = Start::Refused { size, told: true };
-                return Err(Error::UnsupportedAddressSize(size));
-            }
+        if let Status::Waiting(kind) = self.status() {
+            request_is_open(kind);
         }
-        self.inner.evaluate()
+        self.evaluate_unchecked()
     }
 
     /// The value on top of the stack of a complete evaluation; `None` if it has pieces or a location instead.
@@ -227,7 +160,7 @@ impl<R: Reader, S: EvaluationStorage<R>> Evaluation<R, S> {
     #[track_caller]
     pub fn value_result(&self) -> Option<Value> {
         self.assert_complete("value_result");
-        self.inner.value_result()
+        self.value_result_unchecked()
     }
 
     /// The pieces of a complete evaluation.
@@ -239,47 +172,32 @@ impl<R: Reader, S: EvaluationStorage<R>> Evaluation<R, S> {
     #[track_caller]
     pub fn as_result(&self) -> &[Piece<R>] {
         self.assert_complete("as_result");
-        self.inner.as_result()
-    }
-
-    /// Where the evaluation stands, and so which calls it allows. gimli has no such call.
-    #[inline]
-    pub fn status(&self) -> Status {
-        match self.start {
-            Start::Refused { size, .. } => Status::Failed(Error::UnsupportedAddressSize(size)),
-            _ => self.inner.status(),
-        }
-    }
-
-    /// What a resume gives that the evaluation of the sources doesn't allow.
-    #[cold]
-    #[inline(never)]
-    #[track_caller]
-    fn out_of_turn(&self, call: &str) -> Result<EvaluationResult<R>> {
-        match self.start {
-            Start::Refused { size, .. } => Err(Error::UnsupportedAddressSize(size)),
-            _ => panic!("`Evaluation::{call}` was called, and no such request is open"),
-        }
-    }
-
-    #[cold]
-    #[inline(never)]
-    #[track_caller]
-    fn assert_no_request(&self) {
-        if let Status::Waiting(kind) = self.status() {
-            panic!("`Evaluation::evaluate` was called, and a request is open: {kind:?}");
-        }
+        self.as_result_unchecked()
     }
 
     #[inline]
     #[track_caller]
     pub(crate) fn assert_complete(&self, call: &str) {
-        assert!(self.inner.status() == Status::Complete, "`Evaluation::{call}` was called before the end");
+        assert!(matches!(self.status(), Status::Complete), "`Evaluation::{call}` was called before the end");
     }
 }
 
+#[cold]
+#[inline(never)]
+#[track_caller]
+fn request_is_open(kind: WaitingKind) -> ! {
+    panic!("`Evaluation::evaluate` was called, and a request is open: {kind:?}");
+}
+
+#[cold]
+#[inline(never)]
+#[track_caller]
+fn no_request_is_open(call: &str) -> ! {
+    panic!("`Evaluation::{call}` was called, and no such request is open");
+}
+
 macro_rules! checked_resumes {
-    ($($(#[$doc:meta])+ $name:ident($argument:ident: $type:ty) for $kind:ident;)+) => {
+    ($($(#[$doc:meta])+ $name:ident $unchecked:ident($argument:ident: $type:ty) for $kind:ident;)+) => {
         impl<R: Reader, S: EvaluationStorage<R>> Evaluation<R, S> {
             $(
                 $(#[$doc])+
@@ -294,10 +212,10 @@ macro_rules! checked_resumes {
                 #[inline(always)]
                 #[track_caller]
                 pub fn $name(&mut self, $argument: $type) -> Result<EvaluationResult<R>> {
-                    if !self.inner.is_open_for(WaitingKind::$kind) {
-                        return self.out_of_turn(stringify!($name));
+                    if !self.is_open_for(WaitingKind::$kind) {
+                        no_request_is_open(stringify!($name));
                     }
-                    self.inner.$name($argument)
+                    self.$unchecked($argument)
                 }
             )+
         }

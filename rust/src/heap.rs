@@ -38,7 +38,7 @@ impl<R: Reader> Evaluation<R> {
     #[track_caller]
     pub fn result(self) -> Vec<Piece<R>> {
         self.assert_complete("result");
-        self.inner.into_pieces().into_list().ok().expect("memory for the piece")
+        self.into_pieces().into_list().ok().expect("memory for the piece")
     }
 
     /// The same as [`result`](Self::result), for a program that can't unwind. gimli has no such call.
@@ -54,7 +54,7 @@ impl<R: Reader> Evaluation<R> {
     #[track_caller]
     pub fn try_result(self) -> crate::Result<Vec<Piece<R>>> {
         self.assert_complete("try_result");
-        self.inner.into_pieces().into_list().map_err(|_| Error::StackFull)
+        self.into_pieces().into_list().map_err(|_| Error::StackFull)
     }
 }
 

@@ -72,19 +72,18 @@ pub mod constants {
 
 /// Decoding and evaluating.
 pub mod read {
-    pub use crate::evaluation::Evaluation;
     #[cfg(feature = "alloc")]
     pub use crate::heap::StoreOnHeap;
     #[cfg(feature = "gimli")]
     pub use crate::interop::{GimliOffset, GimliReader};
     pub use crate::sources::base::{EndianSlice, Error, Reader, ReaderOffset, ReaderOffsetId, Result, UnitOffset};
-    pub use crate::sources::eval::eval::{Status, WaitingKind};
+    pub use crate::sources::eval::eval::{Evaluation, Status, WaitingKind};
     pub use crate::sources::eval::op::{
         DieReference, EvaluationResult, Expression, Location, Operation, OperationIter, Piece,
     };
-    pub use crate::sources::eval::store::{SliceVec, StoreInSlices};
+    pub use crate::sources::eval::store::SliceVec;
     pub use crate::sources::value::{Value, ValueType, is_addr_mask};
-    pub use crate::storage::{ArrayLike, EvaluationStorage};
+    pub use crate::storage::{ArrayLike, EvaluationStorage, StoreInSlices};
 }
 
 pub use crate::constants::*;

@@ -35,30 +35,30 @@ macro_rules! resumes {
     ($macro:ident) => {
         $macro! {
             /// Answers `RequiresMemory` with the content of memory.
-            resume_with_memory(value: Value) for Memory;
+            resume_with_memory resume_with_memory_unchecked(value: Value) for Memory;
             /// Answers `RequiresRegister` with the content of the register.
-            resume_with_register(value: Value) for Register;
+            resume_with_register resume_with_register_unchecked(value: Value) for Register;
             /// Answers `RequiresWasmLocal`, `RequiresWasmGlobal` or `RequiresWasmStack`.
-            resume_with_wasm_value(value: Value) for WasmValue;
+            resume_with_wasm_value resume_with_wasm_value_unchecked(value: Value) for WasmValue;
             /// Answers `RequiresFrameBase` with the frame base.
-            resume_with_frame_base(frame_base: u64) for FrameBase;
+            resume_with_frame_base resume_with_frame_base_unchecked(frame_base: u64) for FrameBase;
             /// Answers `RequiresTls` with the address in thread-local storage.
-            resume_with_tls(value: u64) for Tls;
+            resume_with_tls resume_with_tls_unchecked(value: u64) for Tls;
             /// Answers `RequiresCallFrameCfa` with the canonical frame address.
-            resume_with_call_frame_cfa(cfa: u64) for CallFrameCfa;
+            resume_with_call_frame_cfa resume_with_call_frame_cfa_unchecked(cfa: u64) for CallFrameCfa;
             /// Answers `RequiresAtLocation` with the expression to evaluate in the call's place, which is empty if the
             /// entry has none. It is read in its own byte order.
-            resume_with_at_location(bytes: R) for AtLocation;
+            resume_with_at_location resume_with_at_location_unchecked(bytes: R) for AtLocation;
             /// Answers `RequiresEntryValue` with the value of the expression at the function's entry.
-            resume_with_entry_value(entry_value: Value) for EntryValue;
+            resume_with_entry_value resume_with_entry_value_unchecked(entry_value: Value) for EntryValue;
             /// Answers `RequiresParameterRef` with the value of the parameter.
-            resume_with_parameter_ref(parameter_value: u64) for ParameterRef;
+            resume_with_parameter_ref resume_with_parameter_ref_unchecked(parameter_value: u64) for ParameterRef;
             /// Answers `RequiresRelocatedAddress` with the relocated address.
-            resume_with_relocated_address(address: u64) for RelocatedAddress;
+            resume_with_relocated_address resume_with_relocated_address_unchecked(address: u64) for RelocatedAddress;
             /// Answers `RequiresIndexedAddress` with the address or the constant at the index.
-            resume_with_indexed_address(address: u64) for IndexedAddress;
+            resume_with_indexed_address resume_with_indexed_address_unchecked(address: u64) for IndexedAddress;
             /// Answers `RequiresBaseType` with the base type.
-            resume_with_base_type(base_type: ValueType) for BaseType;
+            resume_with_base_type resume_with_base_type_unchecked(base_type: ValueType) for BaseType;
         }
     };
 }

@@ -1,6 +1,6 @@
-//! Where an evaluation keeps its lists: gimli's traits, over those of the sources.
+//! Where an evaluation keeps its lists: gimli's traits, of which each says what list of the sources it takes.
 
-use crate::sources::eval::store::{self, SliceVec, StoreInSlices};
+use crate::sources::eval::store::{List, SliceVec};
 use crate::{Piece, Reader, Value};
 #[cfg(feature = "arrayvec")]
 use arrayvec::ArrayVec;
@@ -36,11 +36,11 @@ pub trait ArrayLike {
     type Item: Clone;
 
     #[doc(hidden)]
-    type List: store::ArrayLike<Item = Self::Item>;
+    type List: List<Item = Self::Item>;
 
     // What the pieces are kept in.
     #[doc(hidden)]
-    type Pieces: store::ArrayLike<Item = Self::Item> + From<Self::List>;
+    type Pieces: List<Item = Self::Item> + From<Self::List>;
 
     #[doc(hidden)]
     fn new_list() -> Self::List;
@@ -78,20 +78,20 @@ pub trait EvaluationStorage<R: Reader> {
     type Result: ArrayLike<Item = Piece<R>>;
 }
 
+/// Lists over slices that the caller lends.
+pub struct StoreInSlices<'a>(PhantomData<&'a ()>);
+
 impl<'a, R: Reader + 'a> EvaluationStorage<R> for StoreInSlices<'a> {
     type Stack = SliceVec<'a, Value>;
     type ExpressionStack = SliceVec<'a, (R, R)>;
     type Result = SliceVec<'a, Piece<R>>;
 }
 
-/// The storage `S`, as the evaluation of the sources wants it.
-pub(crate) struct Lists<S>(PhantomData<S>);
+/// What an evaluation of the sources keeps its values or its callers in.
+pub(crate) type ListOf<A> = <A as ArrayLike>::List;
 
-impl<R: Reader, S: EvaluationStorage<R>> store::EvaluationStorage<R> for Lists<S> {
-    type Stack = <S::Stack as ArrayLike>::List;
-    type ExpressionStack = <S::ExpressionStack as ArrayLike>::List;
-    type Result = <S::Result as ArrayLike>::Pieces;
-}
+/// What it keeps its pieces in.
+pub(crate) type PiecesOf<A> = <A as ArrayLike>::Pieces;
 
 impl<'a, T: Clone> ArrayLike for SliceVec<'a, T> {
     type Item = T;

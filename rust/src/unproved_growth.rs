@@ -1,9 +1,9 @@
 //! The list on the heap, which isn't proved: std's `Vec` has no push that gives the item back if memory is refused.
 
-use crate::sources::eval::store::ArrayLike;
+use crate::sources::eval::store::List;
 use alloc::vec::Vec;
 
-impl<T: Clone> ArrayLike for Vec<T> {
+impl<T: Clone> List for Vec<T> {
     type Item = T;
 
     #[inline(always)]

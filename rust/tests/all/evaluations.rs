@@ -59,15 +59,15 @@ fn an_address_has_1_to_8_bytes() {
         it.set_object_address(1);
         it.set_initial_value(1);
         assert_eq!(it.status(), Status::Failed(refused));
-        assert!(panics(|| it.set_initial_value(1)));
+        it.set_initial_value(1);
         assert_eq!(it.evaluate(), Err(refused));
         assert_eq!(it.resume_with_tls(1), Err(refused));
         assert!(panics(|| it.value_result()));
         it.restart(little(&[0x31]), ENCODING);
         assert_eq!(it.evaluate(), Ok(Complete));
         it.restart(little(&[0x31]), Encoding { address_size, ..ENCODING });
+        it.set_initial_value(1);
         assert_eq!(it.evaluate(), Err(refused));
-        assert!(panics(|| it.set_initial_value(1)));
     }
 }
 
@@ -105,6 +105,6 @@ fn evaluations_stand_side_by_side_and_cross_threads() {
 #[test]
 #[cfg(target_pointer_width = "64")]
 fn an_evaluation_on_the_heap_takes_some_300_bytes() {
-    assert_eq!(size_of::<Evaluation<EndianSlice<LittleEndian>>>(), 296);
-    assert_eq!(size_of::<Evaluation<EndianSlice<RunTimeEndian>>>(), 312);
+    assert_eq!(size_of::<Evaluation<EndianSlice<LittleEndian>>>(), 288);
+    assert_eq!(size_of::<Evaluation<EndianSlice<RunTimeEndian>>>(), 304);
 }

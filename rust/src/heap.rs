@@ -1,6 +1,7 @@
 //! What needs a heap: evaluations over lists of any length.
 
 use crate::sources::eval::store::{List as _, OneInLine};
+use crate::storage::sealed::Sealed;
 use crate::{ArrayLike, Encoding, Error, Evaluation, EvaluationStorage, Expression, Location, Piece, Reader, Value};
 use alloc::vec::Vec;
 
@@ -79,6 +80,8 @@ fn copy_of_only<R: Reader>(pieces: &[Piece<R>]) -> Option<Piece<R>> {
     };
     Some(Piece { size_in_bits: *size_in_bits, bit_offset: *bit_offset, location })
 }
+
+impl<T: Clone> Sealed for Vec<T> {}
 
 impl<T: Clone> ArrayLike for Vec<T> {
     type Item = T;

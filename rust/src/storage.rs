@@ -7,7 +7,7 @@ use arrayvec::ArrayVec;
 use core::marker::PhantomData;
 
 /// A list of an evaluation: a `Vec<T>` on the heap, or a [`SliceVec`] over a slice of the caller's; with the feature
-/// `arrayvec` also an array `[T; N]` or an `ArrayVec<T, N>`.
+/// `arrayvec` also an array `[T; N]` or an `ArrayVec<T, N>`. It is sealed, as gimli's is.
 ///
 /// ```
 /// # #[cfg(feature = "alloc")] {
@@ -31,7 +31,7 @@ use core::marker::PhantomData;
 /// assert_eq!(evaluation.resume_with_at_location(called), Err(Error::StackFull));
 /// # }
 /// ```
-pub trait ArrayLike {
+pub trait ArrayLike: sealed::Sealed {
     /// The items.
     type Item: Clone;
 
@@ -44,6 +44,25 @@ pub trait ArrayLike {
 
     #[doc(hidden)]
     fn new_list() -> Self::List;
+}
+
+pub(crate) mod sealed {
+    /// No type of a user's is a list.
+    ///
+    /// ```compile_fail,E0277
+    /// struct Mine;
+    ///
+    /// impl dwexpr::ArrayLike for Mine {
+    ///     type Item = u8;
+    ///     type List = dwexpr::SliceVec<'static, u8>;
+    ///     type Pieces = dwexpr::SliceVec<'static, u8>;
+    ///
+    ///     fn new_list() -> dwexpr::SliceVec<'static, u8> {
+    ///         dwexpr::SliceVec::new(&mut [])
+    ///     }
+    /// }
+    /// ```
+    pub trait Sealed {}
 }
 
 /// Where an evaluation keeps its lists. With the feature `alloc`, `StoreOnHeap` is the default.
@@ -93,6 +112,8 @@ pub(crate) type ListOf<A> = <A as ArrayLike>::List;
 /// What it keeps its pieces in.
 pub(crate) type PiecesOf<A> = <A as ArrayLike>::Pieces;
 
+impl<T: Clone> sealed::Sealed for SliceVec<'_, T> {}
+
 impl<'a, T: Clone> ArrayLike for SliceVec<'a, T> {
     type Item = T;
     type List = SliceVec<'a, T>;
@@ -105,6 +126,9 @@ impl<'a, T: Clone> ArrayLike for SliceVec<'a, T> {
 }
 
 #[cfg(feature = "arrayvec")]
+impl<T: Clone, const N: usize> sealed::Sealed for [T; N] {}
+
+#[cfg(feature = "arrayvec")]
 impl<T: Clone, const N: usize> ArrayLike for [T; N] {
     type Item = T;
     type List = ArrayVec<T, N>;
@@ -115,6 +139,9 @@ impl<T: Clone, const N: usize> ArrayLike for [T; N] {
         ArrayVec::new()
     }
 }
+
+#[cfg(feature = "arrayvec")]
+impl<T: Clone, const N: usize> sealed::Sealed for ArrayVec<T, N> {}
 
 #[cfg(feature = "arrayvec")]
 impl<T: Clone, const N: usize> ArrayLike for ArrayVec<T, N> {

@@ -63,6 +63,19 @@ impl Format {
     }
 }
 
+/// What each byte order has besides.
+pub trait LittleOrBig: Sized {
+    /// Whether the first byte of a number is its lowest.
+    fn is_little_endian(self) -> bool;
+}
+
+impl<E: Endianity> LittleOrBig for E {
+    #[inline]
+    fn is_little_endian(self) -> bool {
+        !self.is_big_endian()
+    }
+}
+
 macro_rules! is_little_endian {
     ($($type:ident,)+) => {
         $(

@@ -4,6 +4,7 @@ use crate::sources::eval::store::{List, SliceVec};
 use crate::{Piece, Reader, Value};
 #[cfg(feature = "arrayvec")]
 use arrayvec::ArrayVec;
+use core::fmt;
 use core::marker::PhantomData;
 
 /// A list of an evaluation: a `Vec<T>` on the heap, or a [`SliceVec`] over a slice of the caller's; with the feature
@@ -98,6 +99,7 @@ pub trait EvaluationStorage<R: Reader> {
 }
 
 /// Lists over slices that the caller lends.
+#[derive(Clone, Copy, Debug, PartialEq, Eq)]
 pub struct StoreInSlices<'a>(PhantomData<&'a ()>);
 
 impl<'a, R: Reader + 'a> EvaluationStorage<R> for StoreInSlices<'a> {
@@ -111,6 +113,12 @@ pub(crate) type ListOf<A> = <A as ArrayLike>::List;
 
 /// What it keeps its pieces in.
 pub(crate) type PiecesOf<A> = <A as ArrayLike>::Pieces;
+
+impl<T: Clone + fmt::Debug> fmt::Debug for SliceVec<'_, T> {
+    fn fmt(&self, f: &mut fmt::Formatter<'_>) -> fmt::Result {
+        self.as_slice().fmt(f)
+    }
+}
 
 impl<T: Clone> sealed::Sealed for SliceVec<'_, T> {}
 

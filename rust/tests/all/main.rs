@@ -3,6 +3,7 @@
 #[cfg(feature = "gimli")]
 mod clones;
 mod evaluations;
+mod generic;
 #[cfg(feature = "gimli")]
 mod interop;
 mod plain;

@@ -10,10 +10,16 @@ thread_local! {
     static LEFT: Cell<usize> = const { Cell::new(usize::MAX) };
 }
 
+thread_local! {
+    /// How often this thread has asked for memory.
+    static ASKED: Cell<usize> = const { Cell::new(0) };
+}
+
 struct Refusing;
 
 impl Refusing {
     fn takes(size: usize) -> bool {
+        let _ = ASKED.try_with(|asked| asked.set(asked.get() + 1));
         LEFT.try_with(|left| left.get().checked_sub(size).map(|rest| left.set(rest)).is_some()).unwrap_or(true)
     }
 }
@@ -85,4 +91,19 @@ fn refused_memory_is_an_error() {
     assert!(matches!(with_memory(0, || evaluation.evaluate()), Ok(EvaluationResult::RequiresAtLocation(_))));
     let called = with_memory(0, || evaluation.resume_with_at_location(little(&[0x31])));
     assert_eq!(called, Err(Error::StackFull));
+}
+
+/// A list that is full grows by a part of its length: so many items take memory as often as they have bits.
+#[test]
+fn a_list_seldom_grows() {
+    // DW_OP_lit1, and DW_OP_reg0 with a DW_OP_piece 1.
+    for item in [&[0x31][..], &[0x50, 0x93, 1]] {
+        for power in 1..=16 {
+            let text = item.repeat((1 << power) + 1);
+            let mut evaluation = Evaluation::new(little(&text), ENCODING);
+            ASKED.set(0);
+            assert_eq!(evaluation.evaluate(), Ok(EvaluationResult::Complete));
+            assert!(ASKED.get() <= power + 2, "2^{power} items: {} times", ASKED.get());
+        }
+    }
 }

@@ -145,6 +145,42 @@ fn relocations_are_kept() {
 }
 
 #[test]
+fn an_address_of_each_size_is_relocated() {
+    for address_size in [1, 2, 4, 8] {
+        let encoding = dwexpr::Encoding { address_size, ..ENCODING.into() };
+        let operand = &[0x40, 0, 0, 0, 0, 0, 0, 0][..address_size.into()];
+        // DW_OP_addr, and DW_OP_implicit_pointer 0, which has an address in version 2.
+        let text = [&[0x03], operand].concat();
+        match Operation::parse(&mut GimliReader(Relocating(little(&text))), encoding) {
+            Ok(Operation::Address { address }) => assert_eq!(address, 0x40 + u64::from(address_size)),
+            _ => panic!(),
+        }
+        let text = [&[0xa0], operand, &[0]].concat();
+        let encoding = dwexpr::Encoding { version: 2, ..encoding };
+        match Operation::parse(&mut GimliReader(Relocating(little(&text))), encoding) {
+            Ok(Operation::ImplicitPointer { value, .. }) => assert_eq!(value.0, 0x41 + usize::from(address_size)),
+            _ => panic!(),
+        }
+    }
+}
+
+/// gimli's reader forgets where it was once it is empty.
+#[test]
+fn the_place_of_operations_is_known_after_an_error() {
+    for length in (0..=24).flat_map(|power| [(1_usize << power) - 1, 1 << power, (1 << power) + 1]) {
+        // DW_OP_nop, and an opcode that isn't one, before as many bytes.
+        let text = [vec![0x96, 0x01], vec![0; length]].concat();
+        let expression = Expression(GimliReader(little(&text)));
+        let mut operations = expression.operations(ENCODING.into());
+        assert_eq!(operations.offset_from(&expression), 0);
+        assert_eq!(operations.next(), Ok(Some(Operation::Nop)));
+        assert_eq!(operations.offset_from(&expression), 1);
+        assert!(operations.next().is_err());
+        assert_eq!(operations.offset_from(&expression), text.len());
+    }
+}
+
+#[test]
 fn an_evaluation_keeps_relocations() {
     let evaluate = |bytes| Evaluation::new(GimliReader(Relocating(little(bytes))), ENCODING.into());
     // DW_OP_addr, and the DW_OP_plus_uconst 1 that is called by the DW_OP_call_ref after it. The whole has 14 bytes.

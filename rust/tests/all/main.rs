@@ -7,6 +7,7 @@ mod generic;
 #[cfg(feature = "gimli")]
 mod interop;
 mod plain;
+mod ranges;
 mod reading;
 #[cfg(feature = "gimli")]
 mod requests;

@@ -110,7 +110,7 @@ arguments! {
 }
 
 macro_rules! resume {
-    ($($(#[$doc:meta])+ $name:ident($argument:ident: $type:ty) for $kind:ident;)+) => {
+    ($($(#[$doc:meta])+ $name:ident $unchecked:ident($argument:ident: $type:ty) for $kind:ident;)+) => {
         /// Calls the resume of the step's kind.
         fn resume<'a, S: EvaluationStorage<Text<'a>>>(
             evaluation: &mut Evaluation<Text<'a>, S>,

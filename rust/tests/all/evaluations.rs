@@ -28,6 +28,11 @@ fn a_call_out_of_turn_panics() {
     let mut empty = evaluation(&[]);
     assert_eq!(empty.evaluate(), Err(Error::NotEnoughStackItems));
     assert!(panics(|| empty.as_result().len()));
+    assert!(panics(|| empty.set_initial_value(1)));
+    // DW_OP_addr, which takes no address of 3 bytes.
+    let mut addr = Evaluation::new(little(&[0x03, 1, 2, 3]), Encoding { address_size: 3, ..ENCODING });
+    assert_eq!(addr.evaluate(), Err(Error::UnsupportedAddressSize(3)));
+    assert!(panics(|| addr.set_initial_value(1)));
 }
 
 /// No call that makes an evaluation sets a maximum: each evaluates a million operations and more.

@@ -152,7 +152,9 @@ fn an_operation_is_read_with_a_clone_for_each_long_number() {
         }
     }
     // DW_OP_consts, DW_OP_constu and DW_OP_bregx.
-    for (bytes, long) in [(&[0x11, 0x80, 0x80, 1][..], 1), (&[0x10, 0x80, 0x80, 1], 1), (&[0x92, 0x80, 0x80, 1, 0x80, 0x80, 1], 2)] {
+    for (bytes, long) in
+        [(&[0x11, 0x80, 0x80, 1][..], 1), (&[0x10, 0x80, 0x80, 1], 1), (&[0x92, 0x80, 0x80, 1, 0x80, 0x80, 1], 2)]
+    {
         let clones = clones_of(|| {
             assert!(dwexpr::Operation::parse(&mut GimliReader(counting(bytes)), ENCODING.into()).is_ok());
         });

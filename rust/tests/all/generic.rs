@@ -2,8 +2,8 @@
 
 use super::{ENCODING, evaluation, little};
 use dwexpr::{
-    EndianSlice, Endianity, EvaluationStorage, Expression, LittleEndian, Operation, Reader, ReaderOffset, RunTimeEndian,
-    SliceVec, StoreInSlices, StoreOnHeap, UnitOffset,
+    EndianSlice, Endianity, EvaluationStorage, Expression, LittleEndian, Operation, Reader, ReaderOffset,
+    RunTimeEndian, SliceVec, StoreInSlices, StoreOnHeap, UnitOffset,
 };
 use std::collections::{BTreeSet, HashSet};
 use std::fmt::Debug;

@@ -3,7 +3,7 @@
 use crate::sources::eval::store::{List as _, OneInLine};
 use crate::storage::sealed::Sealed;
 use crate::{ArrayLike, Encoding, Error, Evaluation, EvaluationStorage, Expression, Location, Piece, Reader, Value};
-use alloc::{vec, vec::Vec};
+use alloc::vec::Vec;
 
 /// Lists on the heap, as long as memory allows.
 #[derive(Clone, Copy, Debug, PartialEq, Eq)]
@@ -41,7 +41,13 @@ impl<R: Reader> Evaluation<R> {
     pub fn result(self) -> Vec<Piece<R>> {
         self.assert_complete("result");
         match copy_of_only(self.as_result_unchecked()) {
-            Some(piece) => vec![piece],
+            // By `vec!` it takes 0.05 of gimli's time more.
+            #[allow(clippy::vec_init_then_push)]
+            Some(piece) => {
+                let mut list = Vec::with_capacity(1);
+                list.push(piece);
+                list
+            }
             None => self.into_pieces().into_list().unwrap_or_else(|one| one.as_slice().to_vec()),
         }
     }

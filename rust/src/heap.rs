@@ -41,6 +41,8 @@ impl<R: Reader> Evaluation<R> {
     pub fn result(self) -> Vec<Piece<R>> {
         self.assert_complete("result");
         match copy_of_only(self.as_result_unchecked()) {
+            // By `vec!` it takes 0.05 of gimli's time more.
+            #[allow(clippy::vec_init_then_push)]
             Some(piece) => {
                 let mut list = Vec::with_capacity(1);
                 list.push(piece);

@@ -64,7 +64,7 @@ impl Format {
 }
 
 /// What each byte order has besides.
-pub trait LittleOrBig: Sized {
+pub trait LittleOrBig: Copy {
     /// Whether the first byte of a number is its lowest.
     fn is_little_endian(self) -> bool;
 }

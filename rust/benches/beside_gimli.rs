@@ -326,9 +326,9 @@ fn listed(path: path::PathBuf) -> List {
     (path.file_stem().unwrap_or_default().to_string_lossy().into(), cases.collect())
 }
 
-/// Short expressions of any bytes, the same in every run: one in four of all opcodes, else mostly of those that work on
-/// the stack. Two things in which gimli differs don't occur: a shift by a generic value that is longer than an address,
-/// and a last operation that asks for something after a piece.
+/// Short expressions, the same in every run: one in four of any bytes, else three literals and mostly operations on the
+/// stack. Two things in which gimli differs don't occur: a shift by a generic value with bits above an address, and a
+/// last operation that asks for something after a piece.
 fn made_up(count: usize) -> List {
     // Xorshift (Marsaglia 2003).
     let mut state = 88_172_645_463_325_252u64;
@@ -345,12 +345,21 @@ fn made_up(count: usize) -> List {
             is_big_endian: next(2) == 1,
             version: 1 + next(5) as u8,
         };
-        let (length, is_wild) = (next(24), next(4) == 0);
+        let (length, is_wild) = (next(16), next(4) == 0);
         let mut bytes = Vec::new();
         for _ in 0..length {
             let (any, literal, stack) = (next(256) as u8, 0x30 + next(32) as u8, 0x12 + next(28) as u8);
-            let likely = [literal, stack, 0x08, any, 0x93, 0x9f, 0x50, 0x77, 0x28, 0x02][next(10) as usize];
-            let byte = if is_wild { any } else { likely };
+            // DW_OP_const1u, DW_OP_breg7, DW_OP_stack_value and DW_OP_piece among them.
+            let byte = match next(16) {
+                _ if is_wild => any,
+                _ if bytes.len() < 3 => literal,
+                0..4 => literal,
+                4..12 => stack,
+                12 => 0x08,
+                13 => 0x77,
+                14 => 0x9f,
+                _ => 0x93,
+            };
             let has_piece = bytes.iter().any(|it| matches!(it, 0x93 | 0x9d));
             bytes.push(match byte {
                 0x24..=0x26 if reading.address_size < 8 => 0x22,

@@ -126,6 +126,11 @@ def expressions(folder):
     found = compared(compare, every)
     good = {"status": 1, "expressions": total}.items() <= found.items() and found["differing"] >= found["refused"] > 0
     expect(good and same == total, "examples/expressions.c on every operation", found)
+    # Each stands in the file twice: in a block, and put together from libdw's operations.
+    listed = run([compare, "--list", every[-1]]).stdout.splitlines()
+    half = len(listed) // 2
+    good = len(listed) * len(every) == total and listed[:half] == listed[half:]
+    expect(good, "examples/expressions.c --list on every operation", listed[-1:])
     changed_fields(folder, every[-1])
     files = sorted(pathlib.Path("/usr/lib/debug").rglob("*.debug"))
     if files:

@@ -230,7 +230,7 @@ def examples(folder):
 
 @contextlib.contextmanager
 def stopped_at(folder, source, compiler, words, place):
-    """A process that stopped at a place of a program in c/libdw/tests/stopped or tests/libdw, or None. It ends with the block.
+    """A process that stopped at a place of a program of the tests over libdw, or None. It ends with the block.
     """
     program = folder / f"{source}-{compiler}{words[0]}"
     path = next(filter(pathlib.Path.exists, (TESTS / it / source for it in ("stopped", "."))))

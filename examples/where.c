@@ -32,14 +32,23 @@ static void print_variable(dwexpr_libdw_frame *frame, Dwarf_Die *variable)
     dwexpr_libdw_value *value;
     Dwarf_Attribute attribute;
     Dwarf_Die type;
-    Dwarf_Word size, encoding = 0;
-    uint32_t code;
-    if (!dwarf_diename(variable) || dwexpr_libdw_type(variable, &type) ||
-        dwexpr_libdw_size(frame, &type, NULL, &size) || size == 0 || size > sizeof bytes)
+    Dwarf_Word size = 0, encoding = 0;
+    uint32_t code, no_size = DWEXPR_LIBDW_FAILED;
+    if (!dwarf_diename(variable))
         return;
-    dwarf_formudata(dwarf_attr(&type, DW_AT_encoding, &attribute), &encoding);
-    memset(unknown, 0xff, size);
     code = dwexpr_libdw_variable(frame, variable, &value);
+    if (!dwexpr_libdw_type(variable, &type)) {
+        const int has_place = !code && value->outcome.pieces == 1 && value->pieces[0].kind == DWEXPR_AT_ADDRESS;
+        no_size = dwexpr_libdw_size(frame, &type, has_place ? &value->pieces[0].number : NULL, &size);
+        dwarf_formudata(dwarf_attr(&type, DW_AT_encoding, &attribute), &encoding);
+    }
+    if (!code && no_size)
+        printf("%s has no size: %s\n", dwarf_diename(variable), dwexpr_libdw_code_name(no_size));
+    if (no_size || size == 0 || size > sizeof bytes) {
+        dwexpr_libdw_release(value);
+        return;
+    }
+    memset(unknown, 0xff, size);
     if (!code)
         code = dwexpr_libdw_read(frame, value, 8 * size, bytes, unknown);
     printf("%s = ", dwarf_diename(variable));
@@ -52,7 +61,7 @@ static void print_variable(dwexpr_libdw_frame *frame, Dwarf_Die *variable)
     dwexpr_libdw_release(value);
 }
 
-/* The variables of the functions at a frame's place, those of inlined functions first. */
+/* The variables of the functions at a frame's place, those of inlined functions first, and of those around them. */
 static void print_frame(size_t number, dwexpr_libdw_frame *frame)
 {
     dwexpr_libdw_place place;
@@ -64,10 +73,10 @@ static void print_frame(size_t number, dwexpr_libdw_frame *frame)
     for (i = 0; i < count; i++) {
         const int tag = dwarf_tag(&entries[i].entry);
         const char *name = dwarf_diename(&entries[i].entry);
-        if (tag == DW_TAG_variable || tag == DW_TAG_formal_parameter)
+        if (tag != DW_TAG_subprogram && tag != DW_TAG_inlined_subroutine)
             print_variable(frame, &entries[i].entry);
         else
-            printf("in %s\n", name ? name : "?");
+            printf("%s %s\n", entries[i].is_enclosing ? "within" : "in", name ? name : "?");
     }
     free(entries);
 }

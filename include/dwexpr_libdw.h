@@ -44,6 +44,9 @@ enum dwexpr_libdw_code {
     DWEXPR_LIBDW_TOO_MANY_FRAMES = 139,  /* a thread has more frames than were asked for */
     DWEXPR_LIBDW_BAD_REGISTER = 140,     /* a callback gave a register of too many bytes */
     DWEXPR_LIBDW_NO_NUMBER = 141,        /* an attribute is no number, or an expression gives none */
+    DWEXPR_LIBDW_OTHER_FUNCTION = 142,   /* the variable is of a function whose frame isn't known from this one */
+    DWEXPR_LIBDW_NOT_DEFINED = 143,      /* the variable is only declared, and no module has it */
+    DWEXPR_LIBDW_CUT_OFF = 144,          /* frames after these may be missing */
     DWEXPR_LIBDW_WANTS = 192             /* and above: + DWEXPR_WANTS_MEMORY if memory is asked for and isn't known */
 };
 
@@ -181,12 +184,20 @@ uint32_t dwexpr_libdw_scopes(dwexpr_libdw_frame *frame, Dwarf_Die **scopes, size
 /* An entry of a function, or of one of its variables or parameters that are in scope. */
 typedef struct dwexpr_libdw_entry {
     Dwarf_Die entry;
-    unsigned level; /* 0 for the innermost function, 1 for that into which it is inlined, .. */
+    unsigned level;   /* 0 for the innermost function, 1 for that into which it is inlined, or in which it stands, .. */
+    int is_enclosing; /* 1 if the frame's function stands in this one, as in Ada: it may have a frame of its own */
 } dwexpr_libdw_entry;
 
 /* The functions and variables at a frame's address: of each level the function, and then its variables, those of inner
- * blocks first. Answers as dwexpr_libdw_locate. Free `entries`. */
+ * blocks first. Constants and what common blocks hold are among them, and what isn't there or is only declared. Answers
+ * as dwexpr_libdw_locate. Free `entries`. */
 uint32_t dwexpr_libdw_variables(dwexpr_libdw_frame *frame, dwexpr_libdw_entry **entries, size_t *count);
+
+/* The variables and constants that stand in no function, of this module or, if it is NULL, of all: those of the frame's
+ * unit first, and then of its module. If `name` isn't NULL, those that have it in the source or for the linker. Each has
+ * its value by dwexpr_libdw_variable in any frame. Answers 0 or DWEXPR_LIBDW_NO_MEMORY. Free `globals`. */
+uint32_t dwexpr_libdw_globals(dwexpr_libdw_frame *frame, Dwfl_Module *module, const char *name, Dwarf_Die **globals,
+                              size_t *count);
 
 /* The value that a register of the caller has by the call frame information, or the CFA if the register is
  * DWEXPR_LIBDW_CFA: `size` bytes of at most DWEXPR_LIBDW_REGISTER_SIZE, in the order of the target.
@@ -205,6 +216,7 @@ typedef struct dwexpr_libdw_value {
     size_t texts_length;
     dwexpr_encoding encoding;
     Dwarf_CU *unit; /* of the entries that pieces point into */
+    const dwexpr_libdw_frame *frame; /* whose registers pieces name: of the function in which a variable stands */
     void *memory;   /* private */
 } dwexpr_libdw_value;
 
@@ -257,8 +269,24 @@ uint32_t dwexpr_libdw_type(Dwarf_Die *variable, Dwarf_Die *type);
 /* The bytes of a type, which may be an array of variable length. Answers as dwexpr_libdw_number. */
 uint32_t dwexpr_libdw_size(dwexpr_libdw_frame *frame, Dwarf_Die *type, const uint64_t *object, uint64_t *bytes);
 
+/* The definition of a type that its unit only declares, by its name, in the unit and then as dwexpr_libdw_globals looks
+ * for variables. dwexpr_libdw_size takes it by itself. Answers 0, DWEXPR_LIBDW_NOT_DEFINED, DWEXPR_LIBDW_FAILED or
+ * DWEXPR_LIBDW_NO_MEMORY. */
+uint32_t dwexpr_libdw_definition(dwexpr_libdw_frame *frame, Dwarf_Die *type, Dwarf_Die *definition);
+
+/* Where the data of an object of a type is: at the object, or where DW_AT_data_location says, as for arrays in Fortran.
+ * Answers as dwexpr_libdw_number; DWEXPR_LIBDW_OPTIMIZED_AWAY if it isn't allocated or associated. */
+uint32_t dwexpr_libdw_data(dwexpr_libdw_frame *frame, Dwarf_Die *type, uint64_t object, uint64_t *address);
+
+/* The bits of an array's element in the array's data: where they begin, counted as dwexpr_libdw_read places them, and how
+ * many there are. There is an index for each dimension, as in the source; of an enumeration it is the value's number.
+ * Answers as dwexpr_libdw_number: DWEXPR_LIBDW_NO_NUMBER if there is no such element. */
+uint32_t dwexpr_libdw_element(dwexpr_libdw_frame *frame, Dwarf_Die *array, const uint64_t *object,
+                              const int64_t *indexes, size_t count, uint64_t *begin, uint64_t *bits);
+
 /* The bits of a member: where they begin, counted as dwexpr_libdw_read places them, and how many there are. `object` is
- * the address of the whole, which a virtual base needs, or NULL. Answers as dwexpr_libdw_number. */
+ * the address of the whole, which a virtual base needs, or NULL. `bits` may be NULL, if the place alone is wanted.
+ * Answers as dwexpr_libdw_number; if the number of bits alone isn't known, `begin` is written. */
 uint32_t dwexpr_libdw_member(dwexpr_libdw_frame *frame, Dwarf_Die *member, const uint64_t *object, uint64_t *begin,
                              uint64_t *bits);
 

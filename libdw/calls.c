@@ -78,25 +78,20 @@ static Dwarf_Die root_of(const Dwarf_Die *function)
 static const char *external_name(Dwarf_Die *function)
 {
     Dwarf_Attribute attribute;
-    const char *name = dwarf_formstring(dwarf_attr_integrate(function, DW_AT_linkage_name, &attribute));
-    if (!name)
-        name = dwarf_formstring(dwarf_attr_integrate(function, DW_AT_MIPS_linkage_name, &attribute));
-    if (!name && dwarf_attr_integrate(function, DW_AT_external, &attribute))
-        name = dwarf_diename(function);
-    return name;
+    const char *name = dwexpr_libdw_linkage_name(function), *plain = dwarf_diename(function);
+    return name != plain || dwarf_attr_integrate(function, DW_AT_external, &attribute) ? name : NULL;
 }
 
-/* The address of a symbol of this name, at this address if that isn't 0; 0 if there is none. A function of a library
- * may have several. */
-static Dwarf_Addr symbol_at(Dwfl_Module *module, Dwarf_Addr address, const char *name)
+/* Whether there is a symbol of this name at an address. A function of a library may have several. */
+static int has_symbol(Dwfl_Module *module, Dwarf_Addr address, const char *name)
 {
     int i;
     for (i = module ? dwfl_module_getsymtab(module) : 0; i > 0; i--) {
         GElf_Sym symbol;
         GElf_Addr place;
         const char *found = dwfl_module_getsym_info(module, i - 1, &symbol, &place, NULL, NULL, NULL);
-        if (found && (place == address || !address) && symbol.st_shndx != SHN_UNDEF && !strcmp(found, name))
-            return place;
+        if (found && place == address && symbol.st_shndx != SHN_UNDEF && !strcmp(found, name))
+            return 1;
     }
     return 0;
 }
@@ -110,14 +105,14 @@ int dwexpr_libdw_names(Dwarf_Die *site, const dwexpr_libdw_frame *caller, const 
         return -1;
     if (root_of(&origin).addr == root_of(&function).addr)
         return 1;
-    if (dwarf_entrypc(&function, &entry))
+    if (dwexpr_libdw_entry_address(&function, &entry))
         return 0;
     entry += called->place.bias;
-    if (!dwarf_entrypc(&origin, &begin))
+    if (!dwexpr_libdw_entry_address(&origin, &begin))
         return begin + caller->place.bias == entry;
     name = external_name(&origin);
     wanted = external_name(&function);
-    return name && ((wanted && !strcmp(name, wanted)) || symbol_at(called->place.module, entry, name));
+    return name && ((wanted && !strcmp(name, wanted)) || has_symbol(called->place.module, entry, name));
 }
 
 /* ---- tail calls */
@@ -126,15 +121,13 @@ uint64_t dwexpr_libdw_called_address(Dwarf_Die *site, const dwexpr_libdw_frame *
 {
     Dwarf_Die origin;
     Dwarf_Addr entry;
-    const char *name;
+    struct dwexpr_libdw_symbol symbol;
     if (!origin_of(site, &origin))
         return 0;
-    if (!dwarf_entrypc(&origin, &entry))
+    if (!dwexpr_libdw_entry_address(&origin, &entry))
         return entry + caller->place.bias;
-    name = external_name(&origin);
-    if (!name)
-        name = dwarf_diename(&origin);
-    return name ? symbol_at(caller->place.module, 0, name) : 0;
+    symbol.name = dwexpr_libdw_linkage_name(&origin);
+    return symbol.name && dwexpr_libdw_resolve(caller->source.dwfl, caller->place.module, 0, &symbol) ? symbol.address : 0;
 }
 
 int dwexpr_libdw_enter(const dwexpr_libdw_frame *caller, uint64_t address, dwexpr_libdw_frame *entered)
@@ -148,7 +141,7 @@ int dwexpr_libdw_enter(const dwexpr_libdw_frame *caller, uint64_t address, dwexp
     source.read_register = NULL;
     dwexpr_libdw_begin_frame(entered, &source);
     return address && !dwexpr_libdw_find_place(entered) && entered->place.function.addr &&
-           !dwarf_entrypc(&entered->place.function, &entry) && entry + entered->place.bias == address;
+           !dwexpr_libdw_entry_address(&entered->place.function, &entry) && entry + entered->place.bias == address;
 }
 
 int dwexpr_libdw_find_tail_call(const dwexpr_libdw_frame *between, const dwexpr_libdw_frame *called, Dwarf_Die *site)

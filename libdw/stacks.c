@@ -184,33 +184,12 @@ static int find_thread_pointer(const dwexpr_libdw_stack *stack, uint64_t *pointe
     return 0;
 }
 
-/* On x86 the program's own is below the thread pointer. libdwfl doesn't tell where that of a shared library is. */
 static int find_tls(void *context, Dwfl_Module *module, uint64_t offset, uint64_t *address)
 {
     const dwexpr_libdw_stack *stack = ((const struct stack_frame *)context)->stack;
-    const dwexpr_libdw_target *target = stack->target;
     uint64_t pointer;
-    size_t count, i;
-    Dwarf_Addr bias;
-    Elf *elf = dwfl_module_getelf(module, &bias);
-    if (!elf || !target->program || dwfl_addrmodule(target->dwfl, target->program) != module ||
-        elf_getphdrnum(elf, &count) || find_thread_pointer(stack, &pointer))
-        return 1;
-    for (i = 0; i < count; i++) {
-        GElf_Phdr segment;
-        uint64_t align, first;
-        if (!gelf_getphdr(elf, (int)i, &segment) || segment.p_type != PT_TLS)
-            continue;
-        /* GCC 12 writes an address for an offset in split debug information of version 5 */
-        if (offset >= segment.p_memsz)
-            return 1;
-        /* the block ends at the pointer, and begins at an address with the alignment of the segment */
-        align = segment.p_align ? segment.p_align : 1;
-        first = (0 - segment.p_vaddr) % align;
-        *address = pointer + offset - first - (segment.p_memsz - first + align - 1) / align * align;
-        return 0;
-    }
-    return 1;
+    return find_thread_pointer(stack, &pointer) ||
+           dwexpr_libdw_find_block(stack->target, module, pointer, offset, address);
 }
 
 /* ---- the way through the frames */

@@ -27,6 +27,7 @@ from checks import commands
 from commands import TOP
 
 IN_GDB = TOP / "tests" / "libdw" / "in_gdb.py"
+LIBRARY = TOP / "tests" / "libdw" / "library.c"
 SOURCES = sorted((TOP / "tests" / "stopped").iterdir())
 COMPILERS = {".c": ["gcc", "clang"], ".cpp": ["g++", "clang++"], ".rs": ["rustc"]}
 OPTIMIZATIONS = ["-O0", "-O1", "-O2", "-O3"]
@@ -136,21 +137,23 @@ def dumped(process, folder):
 
 
 def of_where(lines):
-    """The variables by thread, level, inlined function and name, in order: what is printed of each."""
+    """The variables by thread, level, inlined function and name, in order: what is printed of each. The functions around
+    that of a frame are counted from -1 down."""
     found, frames = collections.defaultdict(list), []
     for line in lines:
         if line.startswith("thread "):
             thread = int(line.split()[1])
         elif frame := re.fullmatch(r"#(\d+) 0x[0-9a-f]+", line):
-            frames.append((thread, int(frame[1]), []))
-        elif line.startswith("in "):
-            frames[-1][2].append([])
+            frames.append((thread, int(frame[1]), [], []))
+        elif line.startswith(("in ", "within ")):
+            function = []
+            frames[-1][2 if line.startswith("in ") else 3].append(function)
         else:
-            frames[-1][2][-1].append(line.partition(" = ")[::2])
+            function.append(line.partition(" = ")[::2])
     # of a core dump the thread that crashed comes first; their numbers are in the order in which they began
-    order = sorted({thread for thread, _, _ in frames})
-    for thread, level, functions in frames:
-        for number, function in enumerate(reversed(functions)):
+    order = sorted({thread for thread, *_ in frames})
+    for thread, level, functions, around in frames:
+        for number, function in [*enumerate(reversed(functions)), *((-1 - at, it) for at, it in enumerate(around))]:
             for name, text in function:
                 found[order.index(thread), level, number, name].append(text)
     return found
@@ -235,7 +238,14 @@ def build_words(source, compiler, words):
         words = [word.replace("-O", "-Copt-level=") for word in words if not word.startswith("-gdwarf")]
         return [compiler, "-g", "-Ccodegen-units=1", *words, source, "-o"]
     threads = ["-pthread"] if "pthread" in source.read_text() else []
-    return [compiler, "-g", *words, *threads, source, "-o"]
+    linked = ["-L.", "-llibrary", "-ldl", "-Wl,-rpath,$ORIGIN"] if "library" in source.read_text() else []
+    return [compiler, "-g", *words, *threads, source, *linked, "-o"]
+
+
+def build_libraries(compiler, folder, words):
+    """Builds what tests/stopped/modules.c stands on."""
+    for name in ("library", "second"):
+        run(compiler, "-g", *words, "-fPIC", "-shared", LIBRARY, "-o", folder / f"lib{name}.so", cwd=folder)
 
 
 def compare_program(where, source, compiler, words):
@@ -245,6 +255,8 @@ def compare_program(where, source, compiler, words):
     places = max(int(number) for number in re.findall(r"(?i)stop!?\((\d+)\)", source.read_text()))
     with commands.temporary() as folder:
         program = folder / "stopped"
+        if source.stem == "modules":
+            build_libraries(compiler, folder, words)
         built = run(*build_words(source, compiler, words), program, cwd=folder)
         if built.returncode != 0:
             return sums, [f"left out: {source.name} by {compiler} {' '.join(words)}: it isn't built"]

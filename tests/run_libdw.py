@@ -200,7 +200,9 @@ def stopped_at(folder, source, compiler, words, place):
     """
     program = folder / f"{source}-{compiler}{words[0]}"
     path = next(filter(pathlib.Path.exists, (TOP / "tests" / it / source for it in ("stopped", "libdw"))))
-    call = [compiler, "-g", *words, path, "-o", program]
+    call = [*compare_gdb.build_words(path, compiler, words), program]
+    if path.stem == "modules":
+        compare_gdb.build_libraries(compiler, folder, words)
     # gnatmake writes what it makes on the way where it is called
     if lacks(f"{source} by {compiler}", compiler) or not check(f"{program.name}: build", call, cwd=folder):
         yield None
@@ -220,6 +222,8 @@ FRAMES = [
     ("bounds", "bounds.f90", "gfortran", ["-O0"], 1),
     ("variants", "variants.adb", "gnatmake", ["-O0"], 1),
     ("signals", "signals.c", "clang", ["-O2"], 1),
+    ("modules", "modules.c", "gcc", ["-O2"], 1),
+    ("modules", "modules.c", "clang", ["-O2"], 1),
 ]
 
 

@@ -21,7 +21,8 @@ def number_of(value, kind):
     if kind.code == gdb.TYPE_CODE_FLT and kind.sizeof in FLOATS:
         form, whole = FLOATS[kind.sizeof]
         return struct.unpack("<" + whole, struct.pack("<" + form, float(value)))[0]
-    return int(value.format_string(format="x"), 16) if kind.code == gdb.TYPE_CODE_FLT else int(value)
+    is_wide = kind.code == gdb.TYPE_CODE_FLT or kind.sizeof > 8
+    return int(value.format_string(format="x"), 16) if is_wide else int(value)
 
 
 def parts(value, place, size):
@@ -56,22 +57,27 @@ def content(value):
     return bits, known, lost
 
 
-def variables(frame, *place):
+def variables(frame, thread, level, inlined):
+    """Those of a function, and of the functions around it: these are counted from -1 down."""
     block = frame.block()
+    place = thread, level, inlined
     while block is not None and not block.is_global and not block.is_static:
         for symbol in block:
             # that one of libc has numbers that differ in each process
             if (symbol.is_variable or symbol.is_argument) and symbol.name != "unwind_buf":
                 size = symbol.type.strip_typedefs().sizeof
                 try:
-                    value = symbol.value(frame)
+                    # by its name in its block, gdb goes to the frame of that function
+                    value = frame.read_var(symbol.name, block) if place[2] < 0 else symbol.value(frame)
                     size = value.type.sizeof
                     found = content(value)
                 except gdb.error as error:
                     found = str(error)
                 yield *place, frame.name(), symbol.name, size, found
         if block.function:
-            break
+            if inlined > 0:
+                break
+            place = thread, level, min(place[2], 0) - 1
         block = block.superblock
 
 

@@ -1,0 +1,67 @@
+/* Functions within functions, constants that aren't numbers, and variables that are only declared. Its first word says
+ * where it stops. */
+#include <stdlib.h>
+
+#include "../libdw/stop.h"
+
+int global = 77;
+extern char **environ;
+
+/* The frames of `outer` are several, and `inner` was called by the last of them, or by one before it. */
+__attribute__((noinline)) static int outer(int n, int (*given)(int))
+{
+    int kept = n * 3;
+    volatile int other = 6;
+    __attribute__((noinline)) int inner(int more)
+    {
+        int here = more + kept;
+        __attribute__((noinline)) int innermost(int most)
+        {
+            int deep = most + here + other;
+            STOP(1);
+            USE(deep);
+            return deep;
+        }
+        STOP(2);
+        kept += innermost(here);
+        return here;
+    }
+    int result = n > 2 ? outer(n - 1, n == 4 ? inner : given) + inner(n) : given(n);
+    STOP(3);
+    return result + kept + other;
+}
+
+static inline int stepped(int n)
+{
+    static int steps = 5;
+    int never = n * 77;
+    steps += n;
+    STOP(4);
+    return steps;
+}
+
+__attribute__((noinline)) static int constants(int n)
+{
+    static const char text[] = "abc";
+    const __int128 small = -5;
+    const unsigned __int128 large = (unsigned __int128)3 << 90;
+    extern int global;
+    extern char **environ;
+    extern int nowhere;
+    const char *first = text;
+    USE(text[n]);
+    STOP(5);
+    return n + (int)small + (int)(large >> 90) + *first + global + (environ != NULL) + stepped(n);
+}
+
+int main(int argc, char **argv)
+{
+    int total;
+    at = argc > 1 ? atoi(argv[1]) : 0;
+    /* gcc moves this call into a part of its own */
+    if (argc == 7)
+        abort();
+    total = outer(4, NULL) + constants(argc);
+    STOP(6);
+    return total == 0;
+}

@@ -16,7 +16,8 @@ int main(int argc, char **argv)
     if (argc != 3 || dwexpr_libdw_open_process((pid_t)atol(argv[1]), &target))
         return 2;
     dwexpr_libdw_threads(target, &threads);
-    if (!dwexpr_libdw_unwind(target, threads[0], 1000, &stack))
+    dwexpr_libdw_unwind(target, threads[0], 1000, &stack);
+    if (stack)
         dwexpr_libdw_variables(dwexpr_libdw_frame_at(stack, 0), &entries, &count);
     for (i = 0; i < count; i++) {
         dwexpr_libdw_frame *frame = dwexpr_libdw_frame_at(stack, 0);

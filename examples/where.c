@@ -49,8 +49,14 @@ static void print_variable(dwexpr_libdw_frame *frame, Dwarf_Die *variable)
         return;
     }
     memset(unknown, 0xff, size);
-    if (!code)
+    if (!code && dwarf_hasattr(&type, DW_AT_data_location)) {
+        uint64_t address;
+        code = dwexpr_libdw_data(frame, &type, value->pieces[0].number, &address);
+        if (!code && !(code = dwexpr_libdw_memory(frame, address, bytes, size)))
+            memset(unknown, 0, size);
+    } else if (!code) {
         code = dwexpr_libdw_read(frame, value, 8 * size, bytes, unknown);
+    }
     printf("%s = ", dwarf_diename(variable));
     if (unknown[0] != 0xff || memcmp(unknown, unknown + 1, size - 1))
         print_bytes(bytes, unknown, size, encoding);
@@ -96,14 +102,16 @@ int main(int argc, char **argv)
     else
         fprintf(stderr, "usage: %s --pid PID | --core FILE [PROGRAM]\n", argv[0]);
     for (i = 0; target && i < dwexpr_libdw_threads(target, &threads); i++) {
+        uint32_t found;
         printf("thread %ld\n", (long)threads[i]);
-        code = dwexpr_libdw_unwind(target, threads[i], 100000, &stack);
+        found = dwexpr_libdw_unwind(target, threads[i], 100000, &stack);
         for (j = 0; (frame = dwexpr_libdw_frame_at(stack, j)) != NULL; j++)
             print_frame(j, frame);
         dwexpr_libdw_free_stack(stack);
+        code = found ? found : code;
     }
     if (code)
-        fprintf(stderr, "%s\n", dwexpr_libdw_code_name(code));
+        fprintf(stderr, "%s: %s\n", dwexpr_libdw_code_name(code), dwexpr_libdw_target_error());
     dwexpr_libdw_close(target);
     return code ? 2 : 0;
 }

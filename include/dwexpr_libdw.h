@@ -46,7 +46,7 @@ enum dwexpr_libdw_code {
     DWEXPR_LIBDW_NO_NUMBER = 141,        /* an attribute is no number, or an expression gives none */
     DWEXPR_LIBDW_OTHER_FUNCTION = 142,   /* the variable is of a function whose frame isn't known from this one */
     DWEXPR_LIBDW_NOT_DEFINED = 143,      /* the variable is only declared, and no module has it */
-    DWEXPR_LIBDW_CUT_OFF = 144,          /* frames after these may be missing */
+    DWEXPR_LIBDW_CUT_OFF = 144,          /* a frame has no call frame information: others may be missing after it */
     DWEXPR_LIBDW_WANTS = 192             /* and above: + DWEXPR_WANTS_MEMORY if memory is asked for and isn't known */
 };
 
@@ -116,6 +116,13 @@ uint32_t dwexpr_libdw_open_core(const char *file, const char *program, dwexpr_li
  * `core`; that is NULL for a process. Both outlive the target. Answers as above. */
 uint32_t dwexpr_libdw_attach(Dwfl *dwfl, Elf *core, dwexpr_libdw_target **target);
 
+/* Why the last of these calls, or of dwexpr_libdw_unwind, has no target, or frames that are cut off, in the words of the
+ * system or of libdw. It stays valid until the thread's next such call. */
+const char *dwexpr_libdw_target_error(void);
+
+/* What a target reads debug information from. It belongs to the target. */
+Dwfl *dwexpr_libdw_dwfl(const dwexpr_libdw_target *target);
+
 /* Frees a target, and with it the Dwfl that was opened here. NULL is allowed. */
 void dwexpr_libdw_close(dwexpr_libdw_target *target);
 
@@ -125,8 +132,9 @@ size_t dwexpr_libdw_threads(const dwexpr_libdw_target *target, const pid_t **thr
 
 /* Finds the frames of a thread, at most so many.
  *
- * Answers 0; DWEXPR_LIBDW_TOO_MANY_FRAMES if there are more, and gives those innermost; DWEXPR_LIBDW_NO_TARGET; or
- * DWEXPR_LIBDW_NO_MEMORY. Free the stack by dwexpr_libdw_free_stack. */
+ * Answers 0; DWEXPR_LIBDW_TOO_MANY_FRAMES if there are more, and gives those innermost; DWEXPR_LIBDW_CUT_OFF if one of
+ * them has no call frame information, so that frames after it may be missing, and gives those that are found;
+ * DWEXPR_LIBDW_NO_TARGET; or DWEXPR_LIBDW_NO_MEMORY. Free the stack by dwexpr_libdw_free_stack. */
 uint32_t dwexpr_libdw_unwind(dwexpr_libdw_target *target, pid_t thread, size_t most, dwexpr_libdw_stack **stack);
 void dwexpr_libdw_free_stack(dwexpr_libdw_stack *stack);
 
@@ -198,6 +206,13 @@ uint32_t dwexpr_libdw_variables(dwexpr_libdw_frame *frame, dwexpr_libdw_entry **
  * its value by dwexpr_libdw_variable in any frame. Answers 0 or DWEXPR_LIBDW_NO_MEMORY. Free `globals`. */
 uint32_t dwexpr_libdw_globals(dwexpr_libdw_frame *frame, Dwfl_Module *module, const char *name, Dwarf_Die **globals,
                               size_t *count);
+
+/* A register of a frame, in the order of the target: of at most DWEXPR_LIBDW_REGISTER_SIZE bytes. Answers 0,
+ * DWEXPR_LIBDW_NOT_READABLE or DWEXPR_LIBDW_BAD_REGISTER. */
+uint32_t dwexpr_libdw_register(const dwexpr_libdw_frame *frame, uint32_t number, uint8_t *bytes, size_t *size);
+
+/* Memory that a frame can read. Answers 0 or DWEXPR_LIBDW_NOT_READABLE. */
+uint32_t dwexpr_libdw_memory(const dwexpr_libdw_frame *frame, uint64_t address, uint8_t *bytes, size_t size);
 
 /* The value that a register of the caller has by the call frame information, or the CFA if the register is
  * DWEXPR_LIBDW_CFA: `size` bytes of at most DWEXPR_LIBDW_REGISTER_SIZE, in the order of the target.

@@ -35,8 +35,15 @@ void dwexpr_libdw_set_limit(dwexpr_libdw_frame *frame, uint32_t expressions)
     frame->limit = expressions;
 }
 
-uint32_t dwexpr_libdw_register(const dwexpr_libdw_frame *frame, uint32_t number,
-                               uint8_t bytes[DWEXPR_LIBDW_REGISTER_SIZE], size_t *size)
+uint32_t dwexpr_libdw_memory(const dwexpr_libdw_frame *frame, uint64_t address, uint8_t *bytes, size_t size)
+{
+    const dwexpr_libdw_source *source = &frame->source;
+    return !source->read_memory || source->read_memory(source->context, address, bytes, size)
+               ? DWEXPR_LIBDW_NOT_READABLE
+               : 0;
+}
+
+uint32_t dwexpr_libdw_register(const dwexpr_libdw_frame *frame, uint32_t number, uint8_t *bytes, size_t *size)
 {
     memset(bytes, 0, DWEXPR_LIBDW_REGISTER_SIZE);
     *size = 0;
@@ -126,15 +133,17 @@ static uint32_t find_scopes(Dwarf_Die *unit, Dwarf_Addr address, struct dwexpr_l
 
 /* ---- the place of a frame */
 
-/* Whether a unit has an address: by its own addresses, or if it has none, by those of its functions. */
+/* Whether a unit has an address: by its own addresses, or by those of its functions if it has none, or not all, as in
+ * version 2, which has no ranges. */
 static int unit_has(Dwarf_Die *unit, Dwarf_Addr address)
 {
     struct dwexpr_libdw_walk walk;
-    int found;
-    if (dwarf_hasattr(unit, DW_AT_low_pc) || dwarf_hasattr(unit, DW_AT_ranges))
-        return dwarf_haspc(unit, address) > 0;
-    if (find_scopes(unit, address, &walk))
-        return 0;
+    Dwarf_Half version = 0;
+    int found = dwarf_haspc(unit, address) > 0;
+    dwarf_cu_info(unit->cu, &version, NULL, NULL, NULL, NULL, NULL, NULL);
+    if (found || (version > 2 && (dwarf_hasattr(unit, DW_AT_low_pc) || dwarf_hasattr(unit, DW_AT_ranges))) ||
+        find_scopes(unit, address, &walk))
+        return found;
     found = walk.depth > 1;
     free(walk.path);
     return found;
@@ -232,16 +241,14 @@ int dwexpr_libdw_find_module(dwexpr_libdw_frame *frame, Dwarf_CU *unit, Dwfl_Mod
     return !wanted.module;
 }
 
-int dwexpr_libdw_find_state(dwexpr_libdw_frame *frame, int i, Dwarf_Frame **state, Elf **elf)
+int dwexpr_libdw_find_state(const dwexpr_libdw_frame *frame, int i, Dwarf_Frame **state, Elf **elf)
 {
-    Dwfl_Module *module;
+    const Dwarf_Addr address = frame->source.pc - (frame->source.is_activation ? 0 : 1);
+    Dwfl_Module *module = frame->source.dwfl ? dwfl_addrmodule(frame->source.dwfl, address) : NULL;
     Dwarf_Addr bias, bias_of_elf;
-    Dwarf_CFI *table;
-    dwexpr_libdw_find_place(frame);
-    module = frame->place.module;
-    table = i ? dwfl_module_dwarf_cfi(module, &bias) : dwfl_module_eh_cfi(module, &bias);
+    Dwarf_CFI *table = i ? dwfl_module_dwarf_cfi(module, &bias) : dwfl_module_eh_cfi(module, &bias);
     *elf = dwfl_module_getelf(module, &bias_of_elf);
-    return !table || !*elf || dwarf_cfi_addrframe(table, frame->place.address + frame->place.bias - bias, state);
+    return !table || !*elf || dwarf_cfi_addrframe(table, address - bias, state);
 }
 
 uint32_t dwexpr_libdw_locate(dwexpr_libdw_frame *frame, dwexpr_libdw_place *place)

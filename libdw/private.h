@@ -91,17 +91,13 @@ uint32_t dwexpr_libdw_find_place(dwexpr_libdw_frame *frame);
  * or 1 if they aren't known. */
 int dwexpr_libdw_find_module(dwexpr_libdw_frame *frame, Dwarf_CU *unit, Dwfl_Module **module, Dwarf_Addr *bias);
 void dwexpr_libdw_begin_frame(dwexpr_libdw_frame *frame, const dwexpr_libdw_source *source);
-/* A register of a frame. Answers 0, DWEXPR_LIBDW_NOT_READABLE or DWEXPR_LIBDW_BAD_REGISTER. */
-uint32_t dwexpr_libdw_register(const dwexpr_libdw_frame *frame, uint32_t number,
-                               uint8_t bytes[DWEXPR_LIBDW_REGISTER_SIZE], size_t *size);
-
 /* The address where a function begins: of several ranges the first one, which is that of its entry. Gives back 0, or
  * another number if there is none. */
 int dwexpr_libdw_entry_address(Dwarf_Die *function, Dwarf_Addr *address);
 
 /* The call frame information at a frame's address, of .eh_frame or, if `i` is 1, of .debug_frame. Gives back 0, and
  * then `state` is to be freed. */
-int dwexpr_libdw_find_state(dwexpr_libdw_frame *frame, int i, Dwarf_Frame **state, Elf **elf);
+int dwexpr_libdw_find_state(const dwexpr_libdw_frame *frame, int i, Dwarf_Frame **state, Elf **elf);
 
 /* ---- globals.c */
 

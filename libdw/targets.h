@@ -26,6 +26,9 @@ struct dwexpr_libdw_target {
     Dwarf_Addr program; /* an address in the program itself, 0 if it isn't known */
 };
 
+/* Keeps a text for dwexpr_libdw_target_error. */
+void dwexpr_libdw_keep_error(const char *text);
+
 /* The sets of a thread. */
 struct dwexpr_libdw_sets {
     uint8_t *bytes[SETS];

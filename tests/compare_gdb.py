@@ -3,7 +3,7 @@ tests/run_libdw.py uses it.
 
 Each program of tests/stopped is built at -O0 to -O3 in versions 4 and 5 of DWARF, and stopped at each of its places.
 Some are also built with split debug information, link-time optimization, type units, the 64-bit format and for i386, if
-the compiler can. At each place `where` prints the stopped process. The process then goes on to its end by the same
+the compiler can. At each place `where` prints the stopped process. The process then ends by a
 signal, and `where` prints the core dump that the kernel writes.
 
 Variables of each thread are compared, of the innermost function and of its callers up to three levels, or all, bit for
@@ -29,11 +29,13 @@ from commands import TOP
 IN_GDB = TOP / "tests" / "libdw" / "in_gdb.py"
 LIBRARY = TOP / "tests" / "libdw" / "library.c"
 SOURCES = sorted((TOP / "tests" / "stopped").iterdir())
-COMPILERS = {".c": ["gcc", "clang"], ".cpp": ["g++", "clang++"], ".rs": ["rustc"]}
+COMPILERS = {
+    ".c": ["gcc", "clang"], ".cpp": ["g++", "clang++"], ".rs": ["rustc"], ".adb": ["gnatmake"], ".f90": ["gfortran"]
+}  # fmt: skip
 OPTIMIZATIONS = ["-O0", "-O1", "-O2", "-O3"]
 VERSIONS = ["-gdwarf-4", "-gdwarf-5"]
 # How many frames of a thread are compared.
-LEVELS = {"deep.c": 400}
+LEVELS = {"deep.c": 400, "arrays.f90": 8}
 FEW_LEVELS = 4
 NO_LISTS = ("clang", "-gdwarf-5", "-gsplit-dwarf")
 # What else is built: a source, a compiler, and its words. A compiler that doesn't know them is left out.
@@ -75,6 +77,15 @@ GATE = [
     ("threads.c", "gcc", ["-O2", "-gdwarf-5"]),
     ("registers.c", "gcc", ["-O0", "-gdwarf-5"]),
     ("registers.c", "gcc", ["-O2", "-gdwarf-4"]),
+    ("nested.c", "gcc", ["-O0", "-gdwarf-5"]),
+    ("nested.c", "gcc", ["-O2", "-gdwarf-4"]),
+    ("nested.c", "gcc", ["-O2", "-gdwarf-2", "-gstrict-dwarf"]),
+    ("modules.c", "gcc", ["-O2", "-gdwarf-5"]),
+    ("modules.c", "clang", ["-O0", "-gdwarf-4"]),
+    ("shapes.cpp", "g++", ["-O2", "-gdwarf-5"]),
+    ("shapes.cpp", "clang++", ["-O0", "-gdwarf-5"]),
+    ("arrays.adb", "gnatmake", ["-O0", "-gdwarf-5"]),
+    ("arrays.f90", "gfortran", ["-O0", "-gdwarf-5"]),
     *[job for job in OTHERS if job[:2] == ("pieces.c", "gcc") and job[2][0] == "-O0" and "-flto" not in job[2]],
     *[job for job in OTHERS if job[:2] == ("pieces.c", "gcc") and job[2] == ["-O2", "-gdwarf-5", "-flto"]],
 ]
@@ -130,7 +141,8 @@ def stopped(program, place, folder):
 
 
 def dumped(process, folder):
-    """The core dump of a stopped process, which ends by the signal at which it was stopped; None if there is none."""
+    """The core dump of a stopped process, which ends by a signal that no runtime handles; None if there is none."""
+    os.kill(process.pid, signal.SIGSYS)
     os.kill(process.pid, signal.SIGCONT)
     process.wait()
     return next(folder.glob("core*"), None)
@@ -188,6 +200,8 @@ CHANGED_ON_THE_WAY = "on entry of a function that calls itself by tail calls, re
 # gdb stops after 256 expressions. The variables of tests/stopped/deep.c are known by the level.
 BEYOND = "known here alone, as the source says, after more expressions than gdb evaluates"
 OF_LEVEL = {("deep", "n"): lambda level: level, ("deep", "step"): lambda level: 302 - level}
+# A register has it, and gdb.Value can't tell what.
+NO_BYTES = "known here alone, as gdb's Python has no bytes of it"
 # LLVM leaves out the last pieces of a static struct.
 NO_PIECE = "equal, but for bits without a piece, where gdb has zeros"
 
@@ -199,8 +213,10 @@ def kind_of(theirs, text, size, level):
     if isinstance(theirs, str) and theirs.startswith("invalid dwarf2 offset"):
         return LOST
     if isinstance(theirs, str):
-        return "refused by both" if is_unknown else "different"
+        return "refused by both" if is_unknown else NO_BYTES if theirs in NO_BYTES else "different"
     bits, known, lost = theirs
+    if len(text.split()) > 1 and re.fullmatch(r"(?:[0-9a-f]{2} )+", text) and len(text.split()) != size:
+        return "different"
     if not known and is_unknown:
         return "an implicit pointer on both sides" if text.startswith("points into") else "optimized away on both sides"
     if level > 0 and text in ("memory or a register can't be read", "unknown: a register"):
@@ -238,8 +254,9 @@ def build_words(source, compiler, words):
         words = [word.replace("-O", "-Copt-level=") for word in words if not word.startswith("-gdwarf")]
         return [compiler, "-g", "-Ccodegen-units=1", *words, source, "-o"]
     threads = ["-pthread"] if "pthread" in source.read_text() else []
-    linked = ["-L.", "-llibrary", "-ldl", "-Wl,-rpath,$ORIGIN"] if "library" in source.read_text() else []
-    return [compiler, "-g", *words, *threads, source, *linked, "-o"]
+    linked = ["-L.", "-llibrary", "-ldl", "-Wl,-rpath,$ORIGIN"] if source.stem == "modules" else []
+    second = source.parents[1] / "libdw" / source.name
+    return [compiler, "-g", *words, *threads, source, *([second] if second.exists() and second != source else []), *linked, "-o"]
 
 
 def build_libraries(compiler, folder, words):

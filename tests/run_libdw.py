@@ -223,7 +223,7 @@ FRAMES = [
     ("variants", "variants.adb", "gnatmake", ["-O0"], 1),
     ("signals", "signals.c", "clang", ["-O2"], 1),
     ("modules", "modules.c", "gcc", ["-O2"], 1),
-    ("modules", "modules.c", "clang", ["-O2"], 1),
+    ("no_rules", "no_rules.c", "gcc", ["-O2"], 1),
 ]
 
 

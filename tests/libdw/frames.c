@@ -9,6 +9,7 @@
  *     frames bounds PID     bounds.f90 beside this, where an array's bounds stand in its descriptor
  *     frames variants PID   variants.adb beside this, where an array's bounds are members of the object
  *     frames modules PID    place 1 of modules.c
+ *     frames no_rules PID   no_rules.c beside this
  *     frames signals PID    place 1 of signals.c, by clang -O2, which names a caller's register whatever a call
  *                           changes */
 #include <dwarf.h>
@@ -416,6 +417,28 @@ static void check_modules(void)
     dwexpr_libdw_release(value);
 }
 
+/* ---- frames that are cut off */
+
+static void check_cut_off(void)
+{
+    dwexpr_libdw_frame *frame = dwexpr_libdw_frame_at(stack, 0);
+    dwexpr_libdw_stack *again;
+    const pid_t *threads;
+    uint64_t number = 0;
+    uint32_t code;
+    size_t i;
+    dwexpr_libdw_threads(target, &threads);
+    code = dwexpr_libdw_unwind(target, threads[0], 1000, &again);
+    check(code == DWEXPR_LIBDW_CUT_OFF && again, "no call frame information", dwexpr_libdw_code_name(code));
+    check(!strcmp(dwexpr_libdw_target_error(), "nothing failed") == 0, "no call frame information", "why");
+    check(!variable_of(frame, "given", &number) && number == 2, "given", "it is argc");
+    check(dwexpr_libdw_frame_at(stack, 1) != NULL, "without_rules", "its frame");
+    /* what libdwfl makes of a frame pointer has none of the registers that a call keeps */
+    for (i = 2; (frame = dwexpr_libdw_frame_at(stack, i)) != NULL; i++)
+        check_register(i, RBX, 0, "rbx");
+    dwexpr_libdw_free_stack(again);
+}
+
 int main(int argc, char **argv)
 {
     static const struct {
@@ -424,7 +447,7 @@ int main(int argc, char **argv)
     } kinds[] = {{"deep", check_deep},     {"members", check_members}, {"pointers", check_pointers},
                  {"arrays", check_arrays}, {"bases", check_bases},     {"bounds", check_bounds},
                  {"variants", check_variants}, {"signals", check_signals},
-                 {"modules", check_modules}};
+                 {"modules", check_modules}, {"no_rules", check_cut_off}};
     size_t i;
     const pid_t *threads;
     uint32_t code;
@@ -433,7 +456,7 @@ int main(int argc, char **argv)
     code = dwexpr_libdw_open_process((pid_t)atol(argv[2]), &target);
     if (!code && dwexpr_libdw_threads(target, &threads))
         code = dwexpr_libdw_unwind(target, threads[0], 1000, &stack);
-    check(!code && stack, "the frames", dwexpr_libdw_code_name(code));
+    check((!code || code == DWEXPR_LIBDW_CUT_OFF) && stack, "the frames", dwexpr_libdw_code_name(code));
     for (i = 0; stack && i < COUNT(kinds); i++)
         if (!strcmp(argv[1], kinds[i].name))
             kinds[i].checks();

@@ -11,6 +11,8 @@ WHOLE = {gdb.TYPE_CODE_INT, gdb.TYPE_CODE_CHAR, gdb.TYPE_CODE_BOOL, gdb.TYPE_COD
 REFERENCES = {gdb.TYPE_CODE_REF, gdb.TYPE_CODE_RVALUE_REF}
 FLOATS = {4: ("f", "I"), 8: ("d", "Q")}
 LONG_DOUBLE = 80
+NO_BYTES = "gdb's Python has no bytes of it"
+OF_PROCESS = {"unwind_buf", "tid", "pid", "threadid"}
 
 
 def number_of(value, kind):
@@ -23,6 +25,12 @@ def number_of(value, kind):
         return struct.unpack("<" + whole, struct.pack("<" + form, float(value)))[0]
     is_wide = kind.code == gdb.TYPE_CODE_FLT or kind.sizeof > 8
     return int(value.format_string(format="x"), 16) if is_wide else int(value)
+
+
+def of_memory(value):
+    if value.address is None:
+        raise gdb.error(NO_BYTES)
+    return int.from_bytes(bytes(gdb.selected_inferior().read_memory(int(value.address), value.type.sizeof)), "little")
 
 
 def parts(value, place, size):
@@ -43,11 +51,15 @@ def parts(value, place, size):
         for field in kind.fields():
             if hasattr(field, "bitpos"):
                 yield from parts(value[field], place + field.bitpos, field.bitsize)
+    elif not value.is_optimized_out:
+        yield place, 8 * kind.sizeof, of_memory(value)
 
 
-def content(value):
+def content(value, language):
     bits = known = lost = 0
-    for place, size, number in parts(value, 0, 0):
+    # of other languages gdb's values aren't Python's
+    is_whole = language in ("ada", "fortran") and not value.is_optimized_out and value.address is not None
+    for place, size, number in [(0, 8 * value.type.sizeof, of_memory(value))] if is_whole else parts(value, 0, 0):
         mask = ((1 << size) - 1) << place
         if number is None:
             lost |= mask
@@ -59,18 +71,20 @@ def content(value):
 
 def variables(frame, thread, level, inlined):
     """Those of a function, and of the functions around it: these are counted from -1 down."""
+    frame.select()  # lengths are read of the one that is selected
     block = frame.block()
     place = thread, level, inlined
     while block is not None and not block.is_global and not block.is_static:
         for symbol in block:
-            # that one of libc has numbers that differ in each process
-            if (symbol.is_variable or symbol.is_argument) and symbol.name != "unwind_buf":
+            # those of libc have numbers that differ in each process
+            is_number = symbol.is_constant and symbol.type.code != gdb.TYPE_CODE_ENUM
+            if (symbol.is_variable or symbol.is_argument or is_number) and symbol.name not in OF_PROCESS:
                 size = symbol.type.strip_typedefs().sizeof
                 try:
                     # by its name in its block, gdb goes to the frame of that function
                     value = frame.read_var(symbol.name, block) if place[2] < 0 else symbol.value(frame)
                     size = value.type.sizeof
-                    found = content(value)
+                    found = content(value, frame.language())
                 except gdb.error as error:
                     found = str(error)
                 yield *place, frame.name(), symbol.name, size, found

@@ -328,9 +328,9 @@ int main(void)
     check_unwritten();
     check_operation_count();
     check_operations();
-    for (code = DWEXPR_LIBDW_FAILED; code <= DWEXPR_LIBDW_NO_NUMBER; code++)
+    for (code = DWEXPR_LIBDW_FAILED; code <= DWEXPR_LIBDW_CUT_OFF; code++)
         check(strcmp(dwexpr_libdw_code_name(code), "unknown code") != 0, "the name of a code", "it has one");
-    check(!strcmp(dwexpr_libdw_code_name(DWEXPR_LIBDW_NO_NUMBER + 1), "unknown code"), "a code", "there is no such");
+    check(!strcmp(dwexpr_libdw_code_name(DWEXPR_LIBDW_CUT_OFF + 1), "unknown code"), "a code", "there is no such");
     check(!strcmp(dwexpr_libdw_code_name(DWEXPR_LIBDW_WANTS + DWEXPR_WANTS_CFA), "the canonical frame address"),
           "a request", "its name");
     check(!strcmp(dwexpr_libdw_code_name(DWEXPR_DIVISION_BY_ZERO), "a division by zero"), "a fault", "its name");

@@ -54,14 +54,34 @@ __attribute__((noinline)) static int constants(int n)
     return n + (int)small + (int)(large >> 90) + *first + global + (environ != NULL) + stepped(n);
 }
 
+/* gcc moves the call of `abort` into a part of its own, here and in `main` */
+__attribute__((noinline)) static long parted(long given, long other)
+{
+    if (given == 70)
+        abort();
+    USE(other);
+    __asm__ volatile("" : : : "rdi", "rsi", "rax", "rdx", "rcx", "memory");
+    STOP(7);
+    return at;
+}
+
+__attribute__((noinline)) static long calls(long n)
+{
+    long result;
+    if (n == 7)
+        abort();
+    result = parted(n * 10, n * 20);
+    USE(result);
+    return result + n;
+}
+
 int main(int argc, char **argv)
 {
     int total;
     at = argc > 1 ? atoi(argv[1]) : 0;
-    /* gcc moves this call into a part of its own */
     if (argc == 7)
         abort();
-    total = outer(4, NULL) + constants(argc);
+    total = outer(4, NULL) + constants(argc) + (int)calls(argc);
     STOP(6);
     return total == 0;
 }

@@ -72,13 +72,15 @@ void dwexpr_libdw_free_text(dwexpr_libdw_text *expression);
 uint32_t dwexpr_libdw_encoding(Dwarf_CU *unit, dwexpr_encoding *encoding);
 
 /* Puts an expression together from libdw's operations. Each operation gets as many bytes as its offset and the next
- * one's say. The last one gets as few as it needs: libdw doesn't tell its size.
+ * one's say. libdw doesn't tell the size of the last one: it gets as few as it needs, or if `size` isn't 0, what that
+ * leaves, which is how many bytes the expression has. libdw reads the offset of an implicit pointer without its sign: of
+ * 127, one byte is -1 and two are 127.
  *
  * Answers 0 or DWEXPR_LIBDW_NOT_ENCODABLE: an opcode is unknown, a number doesn't fit its operand, or an operation of
  * two LEB128 numbers isn't in its shortest form. `length` is 0 then. No more than `room` bytes are written. libdw cuts
  * off LEB128 numbers at 64 bits: such bits don't come back. */
-uint32_t dwexpr_libdw_encode(const Dwarf_Op *operations, size_t count, dwexpr_encoding encoding, uint8_t *bytes,
-                             size_t room, size_t *length);
+uint32_t dwexpr_libdw_encode(const Dwarf_Op *operations, size_t count, size_t size, dwexpr_encoding encoding,
+                             uint8_t *bytes, size_t room, size_t *length);
 
 /* The expression of an attribute, at an address in the debug information if it is a list of locations. The bytes are
  * those of the file.

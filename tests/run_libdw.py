@@ -5,9 +5,10 @@
 - tests/libdw/values.c, rules.c and entries.c: values of expressions, bytes that are put together from libdw's
   operations, call frame information, entries that expressions name; with the sanitizers of addresses and of undefined
   behaviour too.
-- Bytes that are put together are the file's: for every operation in every encoding of a unit, and for libc6-dbg.
-- examples/expressions.c: libdw's operations and this library's are the same, for programs and for libc6-dbg. It says so
-  if they aren't, whichever field of an operation but the kind is changed.
+- Bytes that are put together are the file's: for every operation in every encoding of a unit, and for the files of
+  libc6-dbg, libstdc++6-12-dbg and python3.11-dbg.
+- examples/expressions.c: libdw's operations and this library's are the same, for programs and for these packages. It
+  says so if they aren't, whichever field of an operation but the kind is changed.
 - examples/variable.c and tests/libdw/stack.cpp on a stopped process, and examples/where.c on a process and its core
   dump, under valgrind.
 - tests/libdw/frames.c on stopped processes: registers and values of callers, limits, and reads by two threads.
@@ -95,7 +96,9 @@ def compared(program, files, **more):
     """The status of examples/expressions.c, and what it counts, by name."""
     done = run([program, *files], **more)
     said = COMPARED.search(done.stdout)
-    return {"status": done.returncode} | {name: int(said[name]) for name in said.groupdict()} if said else {}
+    apart = len(re.findall("^.*: an expression can't be put together$", done.stdout, re.MULTILINE))
+    numbers = {name: int(said[name]) for name in said.groupdict()} if said else {}
+    return {"status": done.returncode, "apart": apart} | numbers
 
 
 def put_together(round_trip, files, what):
@@ -105,6 +108,16 @@ def put_together(round_trip, files, what):
     same = int(said[1]) if said else 0
     count(same, not said, f"{what}, put together", done.stdout[-2000:])
     return same
+
+
+# Debian's packages of debug information whose expressions are compared.
+PACKAGES = ["libc6-dbg", "libstdc++6-12-dbg", "python3.11-dbg"]
+
+
+def debug_files(package):
+    """The files of debug information that a package has; none if it isn't there."""
+    done = run(["dpkg-query", "--listfiles", package])
+    return re.findall(r"^/usr/lib/debug/.*\.debug$", done.stdout, re.MULTILINE)
 
 
 def expressions(folder):
@@ -120,14 +133,16 @@ def expressions(folder):
     good = {"status": 1, "expressions": total}.items() <= found.items() and found["differing"] >= found["refused"] > 0
     expect(good and same == total, "examples/expressions.c on every operation", found)
     changed_fields(folder, every[-1])
-    files = sorted(pathlib.Path("/usr/lib/debug").rglob("*.debug"))
-    if files:
-        same = put_together(round_trip, files, "expressions of libc6-dbg")
+    for package in PACKAGES:
+        files = debug_files(package)
+        if not files:
+            left_out(f"expressions of {package}", package)
+            continue
+        same = put_together(round_trip, files, f"expressions of {package}")
         found = compared(compare, files)
-        good = NONE_DIFFERS.items() <= found.items() and found["expressions"] == same > 0
-        expect(good, "examples/expressions.c on libc6-dbg", found)
-    else:
-        left_out("expressions of libc6-dbg", "libc6-dbg")
+        # of a list libdw doesn't tell an expression's size, which the sign of an offset may need
+        good = NONE_DIFFERS.items() <= found.items() and found["expressions"] + found["apart"] == same > 0
+        expect(good, f"examples/expressions.c on {package}", found)
     for file in programs(folder, "examples/expressions.c on programs", ["pieces"], ["-O0", "-O2"]):
         found = compared(compare, [file])
         good = NONE_DIFFERS.items() <= found.items() and found["operations"] >= found["expressions"] > 0

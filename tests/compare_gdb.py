@@ -21,12 +21,15 @@ import re
 import resource
 import signal
 import subprocess
+import sys
 import time
 
 from checks import commands
 from commands import TOP
 
 IN_GDB = TOP / "tests" / "libdw" / "in_gdb.py"
+# the bits of a large struct are one number
+sys.set_int_max_str_digits(0)
 LIBRARY = TOP / "tests" / "libdw" / "library.c"
 SOURCES = sorted((TOP / "tests" / "stopped").iterdir())
 COMPILERS = {
@@ -94,9 +97,9 @@ def run(*words, **more):
     return commands.done(*words, seconds=300, **more)
 
 
-def of_gdb(program, places, levels):
+def of_gdb(program, places, levels, *core):
     words = ["-ex", "set exec-wrapper env -i", "-ex", f"python PLACES, LEVELS = {places}, {levels}", "-x", IN_GDB]
-    lines = run("gdb", "-nx", "-batch", *words, program).stdout.splitlines()
+    lines = run("gdb", "-nx", "-batch", *words, program, *core).stdout.splitlines()
     return dict(json.loads(line[2:]) for line in lines if line.startswith("@@"))
 
 
@@ -116,11 +119,11 @@ def be_traced():
 
 
 @contextlib.contextmanager
-def stopped(program, place, folder):
+def stopped(program, words, folder):
     """A process that has stopped at SIGILL, and isn't traced any more; None if it ended before. It ends with the
     block."""
     settings = {"cwd": folder, "stdout": subprocess.DEVNULL, "stderr": subprocess.DEVNULL}
-    with subprocess.Popen([program, str(place)], preexec_fn=be_traced, env={}, **settings) as process:
+    with subprocess.Popen([program, *map(str, words)], preexec_fn=be_traced, env={}, **settings) as process:
         try:
             os.waitpid(process.pid, 0)
             passed = 0
@@ -157,15 +160,15 @@ def of_where(lines):
             thread = int(line.split()[1])
         elif frame := re.fullmatch(r"#(\d+) 0x[0-9a-f]+", line):
             frames.append((thread, int(frame[1]), [], []))
-        elif line.startswith(("in ", "within ")):
+        elif around := re.match(r"(?:in|(within)) (?!= )", line):
             function = []
-            frames[-1][2 if line.startswith("in ") else 3].append(function)
+            frames[-1][3 if around[1] else 2].append(function)
         else:
             function.append(line.partition(" = ")[::2])
     # of a core dump the thread that crashed comes first; their numbers are in the order in which they began
     order = sorted({thread for thread, *_ in frames})
-    for thread, level, functions, around in frames:
-        for number, function in [*enumerate(reversed(functions)), *((-1 - at, it) for at, it in enumerate(around))]:
+    for thread, level, inlined, enclosing in frames:
+        for number, function in [*enumerate(reversed(inlined)), *((-1 - at, it) for at, it in enumerate(enclosing))]:
             for name, text in function:
                 found[order.index(thread), level, number, name].append(text)
     return found
@@ -280,7 +283,7 @@ def compare_program(where, source, compiler, words):
         levels = LEVELS.get(source.name, FEW_LEVELS)
         for place, variables in of_gdb(program, places, levels).items():
             name = f"{source.name} {compiler} {' '.join(words)}, place {place}"
-            with stopped(program, place, folder) as process:
+            with stopped(program, [place], folder) as process:
                 if not process:
                     continue
                 printed = run(where, "--pid", process.pid).stdout.splitlines()
@@ -292,12 +295,34 @@ def compare_program(where, source, compiler, words):
     return sums, lines
 
 
-def compare_all(where, jobs):
+# Programs of Debian's, and words at which they stop by SIGILL.
+OF_OTHERS = [("/usr/bin/python3.11d", ["-c", "import os; os.kill(os.getpid(), 4)"])]
+OTHERS_LEVELS = 25
+
+
+def compare_other(where, program, words):
+    """Compares a program of others': gdb reads the same core dump."""
+    sums = {"process": collections.Counter(), "core dump": collections.Counter()}
+    lines = []
+    with commands.temporary() as folder, stopped(program, words, folder) as process:
+        if process:
+            printed = {"process": run(where, "--pid", process.pid).stdout.splitlines()}
+            if core := dumped(process, folder):
+                printed["core dump"] = run(where, "--core", core).stdout.splitlines()
+                for variables in of_gdb(program, 0, OTHERS_LEVELS, core).values():
+                    for what, ours in printed.items():
+                        lines += compare(f"{program}, {what}", variables, of_where(ours), sums[what])
+    return sums, lines
+
+
+def compare_all(where, jobs, others):
     """Compares programs: the sums, for the process and the core dump."""
     sums = {"process": collections.Counter(), "core dump": collections.Counter()}
     with concurrent.futures.ProcessPoolExecutor() as pool:
-        jobs = [(where, TOP / "tests" / "stopped" / source, *words) for source, *words in jobs]
-        for found, lines in pool.map(compare_program, *zip(*jobs)):
+        runs = [pool.submit(compare_program, where, TOP / "tests" / "stopped" / source, *words) for source, *words in jobs]
+        runs += [pool.submit(compare_other, where, *words) for words in others]
+        for done in runs:
+            found, lines = done.result()
             for what, counted in found.items():
                 sums[what] += counted
             print(*lines, sep="\n", end="\n" if lines else "", flush=True)

@@ -41,9 +41,13 @@ from commands import TOP
 
 NO_LEAKS = {"ASAN_OPTIONS": "detect_leaks=0"}
 BUT_FOR_LIBDW = {"LSAN_OPTIONS": f"suppressions={TOP / 'tests/libdw/leaks'}:print_suppressions=0"}
-ALL = "--all" in sys.argv
-if ALL:
+ALL, COVERAGE = "--all" in sys.argv, "--coverage" in sys.argv
+if ALL or COVERAGE:
     checks.SECONDS = 3000
+if COVERAGE:
+    COVERED = ["-O0", "-g", "--coverage"]
+    KINDS = {"": COVERED, " with sanitizers": COVERED}
+    SANITIZERS = COVERED
 
 # The last line of examples/expressions.c.
 COMPARED = re.compile(
@@ -61,6 +65,8 @@ LIBRARIES = {}
 def built(source, program, *words, **more):
     """Builds a source of the repository over the library and the archive, without a warning: the program, or None."""
     kind = "checked" if SANITIZERS[-1] in words else "plain"
+    if COVERAGE:
+        words = [*words, *COVERED]
     return checks.built(TOP / source, program, *words, LIBRARIES[kind], archive.path_of(), "-ldw", "-lelf", **more)
 
 
@@ -117,7 +123,7 @@ PACKAGES = ["libc6-dbg", "libstdc++6-12-dbg", "python3.11-dbg"]
 def debug_files(package):
     """The files of debug information that a package has; none if it isn't there."""
     done = run(["dpkg-query", "--listfiles", package])
-    return re.findall(r"^/usr/lib/debug/.*\.debug$", done.stdout, re.MULTILINE)
+    return re.findall(r"^/usr/lib/(?:debug/.*\.debug|.*/debug/.*\.so\.[\d.]+\d{2})$", done.stdout, re.MULTILINE)
 
 
 def expressions(folder):
@@ -222,7 +228,7 @@ def stopped_at(folder, source, compiler, words, place):
     if lacks(f"{source} by {compiler}", compiler) or not check(f"{program.name}: build", call, cwd=folder):
         yield None
         return
-    with compare_gdb.stopped(program, place, folder) as process:
+    with compare_gdb.stopped(program, [place], folder) as process:
         yield process
 
 
@@ -294,7 +300,8 @@ def with_gdb(folder):
         return
     jobs = compare_gdb.EVERY if ALL else compare_gdb.GATE
     there = {it: not lacks(f"programs of {it} and gdb", it) for it in sorted({compiler for _, compiler, _ in jobs})}
-    sums = compare_gdb.compare_all(where, [job for job in jobs if there[job[1]]])
+    others = [it for it in compare_gdb.OF_OTHERS if not lacks("a program of Debian's and gdb", it[0])]
+    sums = compare_gdb.compare_all(where, [job for job in jobs if there[job[1]]], others)
     for what, found in sums.items():
         print(f"{what}: " + ", ".join(f"{number} {kind}" for kind, number in found.most_common()))
         if found["equal"] or found["different"]:
@@ -331,6 +338,8 @@ def main():
     parser = commands.parser(__doc__)
     said = "compare all programs with gdb, and change 30 times as many bytes"
     parser.add_argument("--all", action="store_true", help=said)
+    said = "print the lines and branches of libdw/ and run/ that no test takes"
+    parser.add_argument("--coverage", action="store_true", help=said)
     parser.parse_args()
     commands.need("cc")
     with commands.temporary() as folder:
@@ -339,7 +348,7 @@ def main():
         with commands.alone():
             archive.build()
         for kind, words in [("plain", ["-O2"]), ("checked", ["-O1", *SANITIZERS])]:
-            LIBRARIES[kind] = libraries.build("libdw", folder / kind, *words)
+            LIBRARIES[kind] = libraries.build("libdw", folder / kind, *(COVERED if COVERAGE else words))
         check_headers("dwexpr_libdw.h", "dwexpr_names.h")
         for stage in [callers, expressions, examples, frames, texts, with_gdb, hostile]:
             stage(folder)

@@ -4,6 +4,7 @@ bits as numbers: of the variable's value, which of them are known, and which wer
 
 import json
 import struct
+import sys
 
 import gdb
 
@@ -11,6 +12,9 @@ WHOLE = {gdb.TYPE_CODE_INT, gdb.TYPE_CODE_CHAR, gdb.TYPE_CODE_BOOL, gdb.TYPE_COD
 REFERENCES = {gdb.TYPE_CODE_REF, gdb.TYPE_CODE_RVALUE_REF}
 FLOATS = {4: ("f", "I"), 8: ("d", "Q")}
 LONG_DOUBLE = 80
+# examples/where.c prints no more
+MOST_BYTES = 4096
+sys.set_int_max_str_digits(0)
 NO_BYTES = "gdb's Python has no bytes of it"
 OF_PROCESS = {"unwind_buf", "tid", "pid", "threadid"}
 
@@ -84,6 +88,8 @@ def variables(frame, thread, level, inlined):
                     # by its name in its block, gdb goes to the frame of that function
                     value = frame.read_var(symbol.name, block) if place[2] < 0 else symbol.value(frame)
                     size = value.type.sizeof
+                    if size > MOST_BYTES:
+                        continue
                     found = content(value, frame.language())
                 except gdb.error as error:
                     found = str(error)
@@ -116,8 +122,10 @@ def of_thread(thread):
 
 gdb.execute("set backtrace past-main on")
 gdb.execute("handle SIGSEGV SIGALRM nostop noprint pass", to_string=True)
-for place in range(1, PLACES + 1):
-    gdb.execute("run %d" % place, to_string=True)
+# without a place, where the core dump stopped
+for place in range(1, PLACES + 1) if PLACES else [0]:
+    if place:
+        gdb.execute("run %d" % place, to_string=True)
     found = []
     for number, thread in enumerate(sorted(gdb.selected_inferior().threads(), key=lambda it: it.num)):
         thread.switch()

@@ -2,9 +2,9 @@
 """Builds and runs what stands on libdw: libdwexpr_libdw.a and the examples.
 
 - The headers, without a warning as C11, C17 and C++17.
-- tests/libdw/values.c, rules.c and entries.c: values of expressions, bytes that are put together from libdw's
-  operations, call frame information, entries that expressions name; with the sanitizers of addresses and of undefined
-  behaviour too.
+- tests/libdw/values.c, rules.c, entries.c, types.c and functions.c: values of expressions, bytes that are put together
+  from libdw's operations, call frame information, entries that expressions name, types, and functions with their calls,
+  of files that the scripts beside these write; with the sanitizers of addresses and of undefined behaviour too.
 - Bytes that are put together are the file's: for every operation in every encoding of a unit, and for the files of
   libc6-dbg, libstdc++6-12-dbg and python3.11-dbg.
 - examples/expressions.c: libdw's operations and this library's are the same, for programs and for these packages. It
@@ -13,6 +13,7 @@
   dump, under valgrind.
 - tests/libdw/frames.c on stopped processes: registers and values of callers, limits, and reads by two threads.
 - examples/where.c and gdb, for processes and core dumps (compare_gdb.py).
+- tests/libdw/refused.c: a core dump, where each call of malloc in turn is refused.
 - tests/libdw/hostile.c: programs whose debug information has wrong bytes.
 
 It takes two minutes on four processors. It wants cc and libdw; what else is missing is left out, and said so. The last
@@ -77,16 +78,18 @@ def built_where(folder):
 
 
 def callers(folder):
-    check("entries.py", [sys.executable, TOP / "tests/libdw/entries.py", folder])
-    for name in ["values", "rules", "entries"]:
+    made = ["entries", "types", "functions"]
+    for name in made:
+        check(f"{name}.py", [sys.executable, TOP / f"tests/libdw/{name}.py", folder])
+    for name in ["values", "rules", *made]:
         if name == "rules" and platform.machine() != "x86_64":
             left_out("tests/libdw/rules.c", "x86-64")
             continue
-        given = sorted(folder.glob("*.entries")) if name == "entries" else []
+        given = sorted(folder.glob(f"*.{name}")) if name in made else []
         for kind, words in KINDS.items():
             if program := built(f"tests/libdw/{name}.c", folder / name, *words):
                 # libdwfl keeps some memory
-                count_of(f"{name}.c{kind}", [program, *given], env=NO_LEAKS if name == "rules" else {})
+                count_of(f"{name}.c{kind}", [program, *given], env=BUT_FOR_LIBDW)
 
 
 def programs(folder, what, stems, levels):
@@ -329,6 +332,15 @@ def hostile(folder):
             count(int(said[1]) if good else 0, not good, f"{words[1].name}", done.stdout[-300:] + done.stderr[-3000:])
 
 
+def refused(folder):
+    """A core dump, and calls of malloc that are refused."""
+    wraps = "-Wl,--wrap=malloc,--wrap=calloc,--wrap=realloc"
+    program = built("tests/libdw/refused.c", folder / "refused", "-O1", wraps)
+    for core in folder.glob("dump"):
+        if program:
+            count_of("refused.c", [program, core, 100])
+
+
 def has_libdw(folder):
     text = "#include <elfutils/libdwfl.h>\nint main(void) { return dwfl_errno(); }\n"
     return run(["cc", "-xc", "-", "-ldw", "-lelf", "-o", folder / "has_libdw"], input=text).returncode == 0
@@ -350,7 +362,7 @@ def main():
         for kind, words in [("plain", ["-O2"]), ("checked", ["-O1", *SANITIZERS])]:
             LIBRARIES[kind] = libraries.build("libdw", folder / kind, *(COVERED if COVERAGE else words))
         check_headers("dwexpr_libdw.h", "dwexpr_names.h")
-        for stage in [callers, expressions, examples, frames, texts, with_gdb, hostile]:
+        for stage in [callers, expressions, examples, frames, texts, with_gdb, refused, hostile]:
             stage(folder)
     return None
 

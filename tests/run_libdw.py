@@ -2,9 +2,10 @@
 """Builds and runs what stands on libdw: libdwexpr_libdw.a and the examples.
 
 - The headers, without a warning as C11, C17 and C++17.
-- tests/libdw/values.c, rules.c, entries.c, types.c and functions.c: values of expressions, bytes that are put together
-  from libdw's operations, call frame information, entries that expressions name, types, and functions with their calls,
-  of files that the scripts beside these write; with the sanitizers of addresses and of undefined behaviour too.
+- tests/libdw/values.c, rules.c, entries.c, types.c, functions.c and cores.c: values of expressions, bytes
+  that are put together from libdw's operations, call frame information, entries that expressions name, types, functions
+  with their calls, and core dumps, of files that the scripts beside these write; with the sanitizers of addresses and
+  of undefined behaviour too.
 - Bytes that are put together are the file's: for every operation in every encoding of a unit, and for the files of
   libc6-dbg, libstdc++6-12-dbg and python3.11-dbg.
 - examples/expressions.c: libdw's operations and this library's are the same, for programs and for these packages. It
@@ -78,14 +79,14 @@ def built_where(folder):
 
 
 def callers(folder):
-    made = ["entries", "types", "functions"]
+    made = ["entries", "types", "functions", "cores"]
     for name in made:
         check(f"{name}.py", [sys.executable, TOP / f"tests/libdw/{name}.py", folder])
     for name in ["values", "rules", *made]:
         if name == "rules" and platform.machine() != "x86_64":
             left_out("tests/libdw/rules.c", "x86-64")
             continue
-        given = sorted(folder.glob(f"*.{name}")) if name in made else []
+        given = [folder] if name == "cores" else sorted(folder.glob(f"*.{name}")) if name in made else []
         for kind, words in KINDS.items():
             if program := built(f"tests/libdw/{name}.c", folder / name, *words):
                 # libdwfl keeps some memory

@@ -2,7 +2,7 @@
 """Builds and runs what stands on libdw: libdwexpr_libdw.a and the examples.
 
 - The headers, without a warning as C11, C17 and C++17.
-- tests/libdw/values.c, rules.c, entries.c, types.c, functions.c and cores.c: values of expressions, bytes
+- tests/libdw/values.c, rules.c, entries.c, types.c, functions.c and dumps.c: values of expressions, bytes
   that are put together from libdw's operations, call frame information, entries that expressions name, types, functions
   with their calls, and core dumps, of files that the scripts beside these write; with the sanitizers of addresses and
   of undefined behaviour too.
@@ -79,14 +79,14 @@ def built_where(folder):
 
 
 def callers(folder):
-    made = ["entries", "types", "functions", "cores"]
+    made = ["entries", "types", "functions", "dumps"]
     for name in made:
         check(f"{name}.py", [sys.executable, TOP / f"tests/libdw/{name}.py", folder])
     for name in ["values", "rules", *made]:
         if name == "rules" and platform.machine() != "x86_64":
             left_out("tests/libdw/rules.c", "x86-64")
             continue
-        given = [folder] if name == "cores" else sorted(folder.glob(f"*.{name}")) if name in made else []
+        given = [folder] if name == "dumps" else sorted(folder.glob(f"*.{name}")) if name in made else []
         for kind, words in KINDS.items():
             if program := built(f"tests/libdw/{name}.c", folder / name, *words):
                 # libdwfl keeps some memory

@@ -1,4 +1,4 @@
-/* The core dumps that cores.py wrote: their threads, registers, memory and thread-local storage. */
+/* The core dumps that dumps.py wrote: their threads, registers, memory and thread-local storage. */
 #include "../c/check.h"
 #include "dwexpr_libdw.h"
 #include <dwarf.h>

@@ -139,9 +139,11 @@ static uint32_t expression_in(dwexpr_libdw_frame *frame, Dwarf_Attribute *attrib
 {
     Dwfl_Module *module;
     Dwarf_Addr bias;
-    /* an address that no list has */
-    if (dwexpr_libdw_find_module(frame, attribute->cu, &module, &bias))
-        return dwexpr_libdw_expression(attribute, UINT64_MAX, expression);
+    Dwarf_Block block;
+    memset(expression, 0, sizeof *expression);
+    /* a list has addresses of its module */
+    if (dwexpr_libdw_find_module(frame, attribute->cu, &module, &bias) && dwarf_formblock(attribute, &block))
+        return DWEXPR_LIBDW_WANTS + DWEXPR_WANTS_RELOCATED;
     return dwexpr_libdw_expression(attribute, frame->place.address + frame->place.bias - bias, expression);
 }
 

@@ -248,6 +248,7 @@ FRAMES = [
     ("variants", "variants.adb", "gnatmake", ["-O0"], 1),
     ("signals", "signals.c", "clang", ["-O2"], 1),
     ("modules", "modules.c", "gcc", ["-O2"], 1),
+    ("modules", "modules.c", "gcc", ["-O2", "-gdwarf-5", "-gsplit-dwarf"], 1),
     ("no_rules", "no_rules.c", "gcc", ["-O2"], 1),
 ]
 
@@ -335,11 +336,12 @@ def hostile(folder):
 
 def refused(folder):
     """A core dump, and calls of malloc that are refused."""
-    wraps = "-Wl,--wrap=malloc,--wrap=calloc,--wrap=realloc"
-    program = built("tests/libdw/refused.c", folder / "refused", "-O1", wraps)
+    calls = [f"-D{name}=refusing_{name}" for name in ("malloc", "calloc", "realloc")]
+    LIBRARIES["plain"] = libraries.build("libdw", folder / "refusing", *calls, *(COVERED if COVERAGE else SANITIZERS))
+    program = built("tests/libdw/refused.c", folder / "refused", *SANITIZERS[:-1])
     for core in folder.glob("dump"):
         if program:
-            count_of("refused.c", [program, core, 100])
+            count_of("refused.c", [program, core, 100], env=BUT_FOR_LIBDW)
 
 
 def has_libdw(folder):
@@ -363,7 +365,7 @@ def main():
         for kind, words in [("plain", ["-O2"]), ("checked", ["-O1", *SANITIZERS])]:
             LIBRARIES[kind] = libraries.build("libdw", folder / kind, *(COVERED if COVERAGE else words))
         check_headers("dwexpr_libdw.h", "dwexpr_names.h")
-        for stage in [callers, expressions, examples, frames, texts, with_gdb, refused, hostile]:
+        for stage in [callers, expressions, examples, frames, texts, with_gdb, hostile, refused]:
             stage(folder)
     return None
 

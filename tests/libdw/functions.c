@@ -144,6 +144,79 @@ static void check_row(Dwfl *dwfl, Dwarf_Die unit, const char *row)
         dwexpr_libdw_free_frame(frames[i]);
 }
 
+/* A frame base, the CFA, entries and variables where there is no function. */
+static void check_nowhere(Dwfl *dwfl)
+{
+    static const uint8_t base[] = {DW_OP_fbreg, 0}, cfa[] = {DW_OP_call_frame_cfa};
+    const dwexpr_libdw_text texts[] = {{.text = {base, 2}, .encoding = LE8}, {.text = {cfa, 1}, .encoding = LE8}};
+    const uint64_t given = 0x1100;
+    const dwexpr_libdw_source source = {.dwfl = dwfl, .pc = 0x10, .is_activation = 1};
+    const dwexpr_libdw_source known = {.frame_base = &given, .cfa = &given};
+    dwexpr_libdw_frame *frame;
+    dwexpr_libdw_value *value;
+    dwexpr_libdw_entry *entries;
+    dwexpr_libdw_place place;
+    Dwarf_Die *scopes;
+    uint8_t bytes[8];
+    size_t count, i;
+    dwexpr_libdw_make_frame(&source, &frame);
+    check(dwexpr_libdw_locate(frame, &place) == DWEXPR_LIBDW_NO_UNIT, "nowhere", "no unit");
+    check(dwexpr_libdw_scopes(frame, &scopes, &count) == DWEXPR_LIBDW_NO_UNIT && !scopes, "nowhere", "no scopes");
+    check(dwexpr_libdw_variables(frame, &entries, &count) == DWEXPR_LIBDW_NO_UNIT && !count, "nowhere", "no variables");
+    check(dwexpr_libdw_memory(frame, 0, bytes, 1) == DWEXPR_LIBDW_NOT_READABLE, "nowhere", "no memory");
+    for (i = 0; i < 2; i++) {
+        check(dwexpr_libdw_evaluate(frame, &texts[i], NULL, NULL, &value) ==
+                  DWEXPR_LIBDW_WANTS + (i ? DWEXPR_WANTS_CFA : DWEXPR_WANTS_FRAME_BASE),
+              "nowhere", "it isn't known");
+        dwexpr_libdw_release(value);
+    }
+    dwexpr_libdw_free_frame(frame);
+    dwexpr_libdw_make_frame(&known, &frame);
+    check(dwexpr_libdw_scopes(frame, &scopes, &count) == DWEXPR_LIBDW_NO_UNIT, "no Dwfl", "no scopes");
+    for (i = 0; i < 2; i++) {
+        check(!dwexpr_libdw_evaluate(frame, &texts[i], NULL, NULL, &value) && value->pieces[0].number == given, "given",
+              "it is known");
+        dwexpr_libdw_release(value);
+    }
+    dwexpr_libdw_free_frame(frame);
+}
+
+/* Variables of a file that isn't in the frame's modules: of an address or a list the place isn't known. */
+static void check_foreign(Dwfl *dwfl, Dwarf_Die *unit, const char *path)
+{
+    static const struct {
+        const char *function, *name;
+        uint32_t code;
+    } rows[] = {{"listing", "listed", DWEXPR_LIBDW_OTHER_FUNCTION},
+                {NULL, "listed_global", DWEXPR_LIBDW_WANTS + DWEXPR_WANTS_RELOCATED},
+                {"declaring", "defined", DWEXPR_LIBDW_WANTS + DWEXPR_WANTS_RELOCATED},
+                {"declaring", "in_local", DWEXPR_LIBDW_WANTS + DWEXPR_WANTS_TLS},
+                {"declaring", "in_memory", DWEXPR_LIBDW_NOT_DEFINED}};
+    const int file = open(path, O_RDONLY);
+    Dwarf *dwarf = dwarf_begin(file, DWARF_C_READ);
+    Dwarf_CU *foreign = NULL;
+    Dwarf_Die entry, variable;
+    size_t i, kind;
+    dwarf_get_units(dwarf, foreign, &foreign, NULL, NULL, &entry, NULL);
+    for (kind = 0; kind < 2; kind++) {
+        const dwexpr_libdw_source source = {.dwfl = kind ? NULL : dwfl, .pc = 0x401000, .is_activation = 1,
+                                            .unit = unit, .read_memory = read_memory};
+        dwexpr_libdw_frame *frame;
+        dwexpr_libdw_make_frame(&source, &frame);
+        for (i = 0; i < COUNT(rows); i++) {
+            dwexpr_libdw_value *value = NULL;
+            uint32_t code = DWEXPR_LIBDW_FAILED;
+            if (find_in(entry, rows[i].function, rows[i].name, &variable))
+                code = dwexpr_libdw_variable(frame, &variable, &value);
+            check(code == rows[i].code, rows[i].name, dwexpr_libdw_code_name(code));
+            dwexpr_libdw_release(value);
+        }
+        dwexpr_libdw_free_frame(frame);
+    }
+    dwarf_end(dwarf);
+    close(file);
+}
+
 int main(int argc, char **argv)
 {
     static const Dwfl_Callbacks finders = {dwfl_build_id_find_elf, dwfl_standard_find_debuginfo, NULL, NULL};
@@ -160,6 +233,9 @@ int main(int argc, char **argv)
         for (more = unit ? dwarf_child(unit, &entry) : 1; more == 0; more = dwarf_siblingof(&entry, &entry))
             if (dwarf_tag(&entry) == DW_TAG_variable && strstr(dwarf_diename(&entry), " is "))
                 check_row(dwfl, *unit, dwarf_diename(&entry));
+        if (unit)
+            check_foreign(dwfl, unit, argv[i]);
+        check_nowhere(dwfl);
         dwfl_end(dwfl);
     }
     return finish();

@@ -195,6 +195,20 @@ class Functions(Tree):
             declared = self.root.add("function", external=True, declaration=True, **attributes)
             one(said, callee=other, call_origin=declared)
         self.symbols = [("alias", other.begin, 0x12), ("other_alias", other.begin, 0x12)]
+        # an instance of itself, a place that is no register with a type, and lengths that an operation hasn't
+        circle = self.root.add("function", external=True)
+        circle.attributes["origin"] = circle
+        one(unknown, call_origin=circle)
+        for bad in (b"\x50\x96", b"\x92\0\0", b"\x01", b"\x70\0"):
+            one(unknown, place=bad, call_origin=called)
+        for name, expression, said in [
+            ("long", IN_0 + 40 * b"\x96", "an operation can't be encoded"), ("without", None, "optimized away"),
+            ("typed", b"\xa5\0" + unsigned_leb(self.int.place or 0x2B), "0a000000"), ("empty", b"", "optimized away"),
+            ("unreadable", b"\x01", "an entry value"), ("two", IN_0 + IN_0, "an entry value"),
+        ]:  # fmt: skip
+            self.variable(called, name, expression, "parameter")
+            if name != "typed":
+                self.row([called.begin + 3, caller.begin + 0x14], f"entry of {name} is {said}")
         no_place = self.root.add("function", name="f")
         one(unknown, callee=other, call_origin=no_place)
         # the entry of the function in the place of its parameter, as GCC wrote before version 5
@@ -272,7 +286,7 @@ class Functions(Tree):
 
     def lists(self):
         """Lists of locations, which are of addresses in the module."""
-        function = self.function()
+        function = self.function(linkage_name="listing")
         begin = function.begin
         if self.version >= 5:
             content = b"".join(b"\7" + self.address(begin + at) + self.address(begin + at + 8) + bytes([2, 0x31 + at // 8, 0x9F])
@@ -282,6 +296,7 @@ class Functions(Tree):
                                bytes([0x31 + at // 8, 0x9F]) for at in (0, 8)) + 2 * self.address(0)
         sections, offset = super().lists(content)
         function.add("variable", name="listed", type=self.int, location=(0x17, self.offset(offset)))
+        self.root.add("variable", name="listed_global", type=self.int, location=(0x17, self.offset(offset)))
         for at, said in [(0, "01000000"), (9, "02000000"), (0x20, "optimized away")]:
             self.row([begin + at], f"listed in 0 is {said}")
         return sections
@@ -295,6 +310,21 @@ class Functions(Tree):
         frame += bytes(-len(frame) % 8)
         return self.pack("I", len(common)) + common + self.pack("I", len(frame)) + frame
 
+    def declared(self):
+        """Variables that are only declared: each is at a symbol, unless it is in thread-local storage or there is none."""
+        function = self.function(linkage_name="declaring")
+        for name in ("in_memory", "local", "nowhere"):
+            function.add("variable", name=name, type=self.int, declaration=True, external=True)
+        function.add("variable", type=self.int, declaration=True)
+        self.variable(function, "defined", b"\x03" + self.address(0x1018), external=True)
+        self.variable(function, "indirect", b"\x03" + self.address(0x1018) + b"\x23\4", external=True)
+        self.variable(function, "in_local", b"\x0e" + self.address(4) + b"\xe0", external=True)
+        self.symbols += [("in_memory", 0x1008, 0x11), ("local", 4, 0x16), ("defined", 0x1000, 0x11)]
+        # a module that exports none has each variable where its entry says
+        self.row([function.begin], "in_memory in 0 is 08090a0b", "local in 0 is thread-local storage",
+                 "nowhere in 0 is it is only declared", "defined in 0 is 18191a1b", "indirect in 0 is 1c1d1e1f",
+                 "in_local in 0 is thread-local storage")
+
     def sections(self):
         self.bases()
         self.blocks()
@@ -303,6 +333,7 @@ class Functions(Tree):
         self.calls()
         self.tail_calls()
         self.parts()
+        self.declared()
         lists = self.lists()
         names = {".text": CODE, ".debug_frame": self.rules(), ".debug_ranges": self.ranges}
         return {**self.tree(), **lists, **names}

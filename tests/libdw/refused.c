@@ -1,17 +1,15 @@
 /* Reads the variables of a core dump again and again, where each time another call of malloc is refused. What is known
- * then is what is known if none is. It is linked with -Wl,--wrap=malloc,--wrap=calloc,--wrap=realloc.
+ * then is what is known if none is. The library is built to call these in place of malloc, calloc
+ * and realloc.
  *
  *     refused CORE STEP    refuses the first 400 calls, and then one in STEP */
 #include "../c/check.h"
 #include "dwexpr_libdw.h"
 #include <dwarf.h>
 
-void *__real_malloc(size_t size);
-void *__real_calloc(size_t count, size_t size);
-void *__real_realloc(void *old, size_t size);
-void *__wrap_malloc(size_t size);
-void *__wrap_calloc(size_t count, size_t size);
-void *__wrap_realloc(void *old, size_t size);
+void *refusing_malloc(size_t size);
+void *refusing_calloc(size_t count, size_t size);
+void *refusing_realloc(void *old, size_t size);
 
 static unsigned long calls, refused_call;
 
@@ -20,19 +18,19 @@ static int refuses(void)
     return ++calls == refused_call;
 }
 
-void *__wrap_malloc(size_t size)
+void *refusing_malloc(size_t size)
 {
-    return refuses() ? NULL : __real_malloc(size);
+    return refuses() ? NULL : malloc(size);
 }
 
-void *__wrap_calloc(size_t count, size_t size)
+void *refusing_calloc(size_t count, size_t size)
 {
-    return refuses() ? NULL : __real_calloc(count, size);
+    return refuses() ? NULL : calloc(count, size);
 }
 
-void *__wrap_realloc(void *old, size_t size)
+void *refusing_realloc(void *old, size_t size)
 {
-    return refuses() ? NULL : __real_realloc(old, size);
+    return refuses() ? NULL : realloc(old, size);
 }
 
 /* What is known of a variable in a frame, if no call is refused. */

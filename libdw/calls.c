@@ -82,37 +82,22 @@ static const char *external_name(Dwarf_Die *function)
     return name != plain || dwarf_attr_integrate(function, DW_AT_external, &attribute) ? name : NULL;
 }
 
-/* Whether there is a symbol of this name at an address. A function of a library may have several. */
-static int has_symbol(Dwfl_Module *module, Dwarf_Addr address, const char *name)
-{
-    int i;
-    for (i = module ? dwfl_module_getsymtab(module) : 0; i > 0; i--) {
-        GElf_Sym symbol;
-        GElf_Addr place;
-        const char *found = dwfl_module_getsym_info(module, i - 1, &symbol, &place, NULL, NULL, NULL);
-        if (found && place == address && symbol.st_shndx != SHN_UNDEF && !strcmp(found, name))
-            return 1;
-    }
-    return 0;
-}
-
 int dwexpr_libdw_names(Dwarf_Die *site, const dwexpr_libdw_frame *caller, const dwexpr_libdw_frame *called)
 {
     Dwarf_Die origin, function = called->place.function;
-    Dwarf_Addr entry, begin;
+    const uint64_t entry = dwexpr_libdw_entry_of(called);
+    Dwarf_Addr begin;
+    struct dwexpr_libdw_symbol symbol;
     const char *name, *wanted;
     if (!origin_of(site, &origin))
         return -1;
     if (root_of(&origin).addr == root_of(&function).addr)
         return 1;
-    if (dwexpr_libdw_entry_address(&function, &entry))
-        return 0;
-    entry += called->place.bias;
-    if (!dwexpr_libdw_entry_address(&origin, &begin))
+    if (dwexpr_libdw_has_entry(&origin, &begin))
         return begin + caller->place.bias == entry;
-    name = external_name(&origin);
+    name = symbol.name = external_name(&origin);
     wanted = external_name(&function);
-    return name && ((wanted && !strcmp(name, wanted)) || has_symbol(called->place.module, entry, name));
+    return name && ((wanted && !strcmp(name, wanted)) || dwexpr_libdw_find_symbol(called->place.module, entry, &symbol));
 }
 
 /* ---- tail calls */
@@ -122,9 +107,7 @@ uint64_t dwexpr_libdw_called_address(Dwarf_Die *site, const dwexpr_libdw_frame *
     Dwarf_Die origin;
     Dwarf_Addr entry;
     struct dwexpr_libdw_symbol symbol;
-    if (!origin_of(site, &origin))
-        return 0;
-    if (!dwexpr_libdw_entry_address(&origin, &entry))
+    if (origin_of(site, &origin) && dwexpr_libdw_has_entry(&origin, &entry))
         return entry + caller->place.bias;
     symbol.name = dwexpr_libdw_linkage_name(&origin);
     return symbol.name && dwexpr_libdw_resolve(caller->source.dwfl, caller->place.module, 0, &symbol) ? symbol.address : 0;
@@ -133,15 +116,13 @@ uint64_t dwexpr_libdw_called_address(Dwarf_Die *site, const dwexpr_libdw_frame *
 int dwexpr_libdw_enter(const dwexpr_libdw_frame *caller, uint64_t address, dwexpr_libdw_frame *entered)
 {
     dwexpr_libdw_source source = caller->source;
-    Dwarf_Addr entry;
     source.pc = address;
     source.is_activation = 1;
     source.unit = NULL;
     source.frame_base = source.cfa = NULL;
     source.read_register = NULL;
     dwexpr_libdw_begin_frame(entered, &source);
-    return address && !dwexpr_libdw_find_place(entered) && entered->place.function.addr &&
-           !dwexpr_libdw_entry_address(&entered->place.function, &entry) && entry + entered->place.bias == address;
+    return address && !dwexpr_libdw_find_place(entered) && dwexpr_libdw_entry_of(entered) == address;
 }
 
 int dwexpr_libdw_find_tail_call(const dwexpr_libdw_frame *between, const dwexpr_libdw_frame *called, Dwarf_Die *site)

@@ -52,22 +52,28 @@ int dwexpr_libdw_next_entry(struct dwexpr_libdw_walk *walk, int enters)
     return 0;
 }
 
-int dwexpr_libdw_go_to(struct dwexpr_libdw_walk *walk, const Dwarf_Die *entry)
+uint32_t dwexpr_libdw_find_path(struct dwexpr_libdw_walk *walk, const Dwarf_Die *first, const Dwarf_Die *entry)
 {
-    while (walk->path[walk->depth - 1].addr != entry->addr) {
+    uint32_t code = dwexpr_libdw_begin_walk(walk, first);
+    while (!code && walk->path[walk->depth - 1].addr != entry->addr) {
         Dwarf_Die next, *path = (Dwarf_Die *)dwexpr_libdw_with_room(walk->path, walk->depth, &walk->room, sizeof *path);
-        if (!path)
-            return -1;
+        if (!path) {
+            free(walk->path);
+            walk->path = NULL;
+            return DWEXPR_LIBDW_NO_MEMORY;
+        }
         walk->path = path;
         /* it stands below the last one that doesn't stand after it */
-        if (dwarf_child(&path[walk->depth - 1], &next) || (const char *)next.addr > (const char *)entry->addr)
-            return 0;
+        if (dwarf_child(&path[walk->depth - 1], &next) || (const char *)next.addr > (const char *)entry->addr) {
+            walk->depth = 0;
+            break;
+        }
         do
             path[walk->depth] = next;
         while (!dwexpr_libdw_next_sibling(&next) && (const char *)next.addr <= (const char *)entry->addr);
         walk->depth++;
     }
-    return 1;
+    return code;
 }
 
 /* ---- types */

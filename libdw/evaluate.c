@@ -64,9 +64,7 @@ static uint32_t find_base(dwexpr_libdw_frame *frame, uint32_t *left)
     uint32_t code;
     if (frame->has_base)
         return 0;
-    code = dwexpr_libdw_find_place(frame);
-    if (code)
-        return code;
+    dwexpr_libdw_find_place(frame);
     if (!frame->place.function.addr ||
         !dwarf_attr_integrate(&frame->place.function, DW_AT_frame_base, &attribute))
         return DWEXPR_LIBDW_OPTIMIZED_AWAY;
@@ -400,16 +398,13 @@ static uint32_t ask_call_site(struct job *job, uint32_t *left, struct job **next
 /* Takes the number for which a job has waited. */
 static uint32_t take(struct job *job, uint64_t number, uint32_t *left, struct job **next)
 {
-    Dwarf_Addr entry;
     if (!job->waits_for_target) {
         job->answer.number = number;
         return resume(job);
     }
     job->waits_for_target = 0;
-    if (dwexpr_libdw_entry_address(&job->frame->place.function, &entry))
-        return refused(job, 0);
-    return entry + job->frame->place.bias == number ? ask_passed(job, left, next)
-                                                    : ask_between(job, number, left, next);
+    return dwexpr_libdw_entry_of(job->frame) == number ? ask_passed(job, left, next)
+                                                       : ask_between(job, number, left, next);
 }
 
 /* ---- requests */
@@ -602,31 +597,28 @@ static dwexpr_libdw_frame *enclosing_frame(dwexpr_libdw_frame *inner, const Dwar
 static uint32_t go_out(dwexpr_libdw_frame *frame, const Dwarf_Die *function, dwexpr_libdw_frame **owner)
 {
     struct dwexpr_libdw_walk walk;
-    uint32_t code = dwexpr_libdw_begin_walk(&walk, &frame->place.unit);
-    if (!code && dwexpr_libdw_go_to(&walk, &frame->place.function) < 0)
-        code = DWEXPR_LIBDW_NO_MEMORY;
-    while (!code && frame && frame->place.function.addr != function->addr && --walk.depth > 0)
+    const uint32_t code = dwexpr_libdw_find_path(&walk, &frame->place.unit, &frame->place.function);
+    if (code)
+        return code;
+    while (frame && frame->place.function.addr != function->addr && --walk.depth > 0)
         if (dwarf_tag(&walk.path[walk.depth - 1]) == DW_TAG_subprogram)
             frame = enclosing_frame(frame, &walk.path[walk.depth - 1]);
-    if (!code)
-        code = frame && walk.depth > 0 ? 0 : DWEXPR_LIBDW_OTHER_FUNCTION;
     *owner = frame;
     free(walk.path);
-    return code;
+    return frame && walk.depth > 0 ? 0 : DWEXPR_LIBDW_OTHER_FUNCTION;
 }
 
 /* The innermost function in which an entry stands; its `addr` is NULL if there is none. */
 static uint32_t function_of(const Dwarf_Die *first, const Dwarf_Die *entry, Dwarf_Die *function)
 {
     struct dwexpr_libdw_walk walk;
-    uint32_t code = dwexpr_libdw_begin_walk(&walk, first);
-    const int found = code ? -1 : dwexpr_libdw_go_to(&walk, entry);
+    const uint32_t code = dwexpr_libdw_find_path(&walk, first, entry);
     function->addr = NULL;
-    for (; found > 0 && walk.depth > 0 && !function->addr; walk.depth--)
+    for (; !code && walk.depth > 0 && !function->addr; walk.depth--)
         if (dwarf_tag(&walk.path[walk.depth - 1]) == DW_TAG_subprogram)
             *function = walk.path[walk.depth - 1];
     free(walk.path);
-    return found < 0 ? DWEXPR_LIBDW_NO_MEMORY : 0;
+    return code;
 }
 
 /* The frame in which a variable's location is evaluated: that of the function in which it stands. */
@@ -657,7 +649,9 @@ static int is_fixed(Dwarf_Attribute *attribute)
 
 /* ---- variables */
 
-static uint32_t make_value(const dwexpr_libdw_frame *frame, Dwarf_CU *unit, dwexpr_libdw_value **value)
+/* Makes a value of one piece, at an address. */
+static uint32_t make_value(const dwexpr_libdw_frame *frame, Dwarf_CU *unit, uint64_t address,
+                           dwexpr_libdw_value **value)
 {
     *value = (dwexpr_libdw_value *)calloc(1, sizeof **value);
     if (!*value)
@@ -666,6 +660,8 @@ static uint32_t make_value(const dwexpr_libdw_frame *frame, Dwarf_CU *unit, dwex
     (*value)->frame = frame;
     (*value)->outcome.request = DWEXPR_COMPLETE;
     (*value)->outcome.pieces = 1;
+    (*value)->pieces[0].kind = DWEXPR_AT_ADDRESS;
+    (*value)->pieces[0].number = address;
     return dwexpr_libdw_encoding(unit, &(*value)->encoding);
 }
 
@@ -741,7 +737,6 @@ static uint32_t named(dwexpr_libdw_frame *frame, Dwarf_Die *variable, int is_dec
     struct dwexpr_libdw_symbol symbol = {.name = dwexpr_libdw_linkage_name(variable)};
     Dwfl_Module *module;
     Dwarf_Addr bias;
-    uint32_t code;
     if (!source->dwfl || !symbol.name || dwexpr_libdw_find_module(frame, variable->cu, &module, &bias) ||
         !dwexpr_libdw_resolve(source->dwfl, module, !is_declared, &symbol))
         return is_declared ? DWEXPR_LIBDW_NOT_DEFINED : 0;
@@ -751,12 +746,7 @@ static uint32_t named(dwexpr_libdw_frame *frame, Dwarf_Die *variable, int is_dec
         (!source->find_tls ||
          source->find_tls(source->context, symbol.module, symbol.symbol.st_value, &symbol.address)))
         return DWEXPR_LIBDW_WANTS + DWEXPR_WANTS_TLS;
-    code = make_value(frame, variable->cu, value);
-    if (!code) {
-        (*value)->pieces[0].kind = DWEXPR_AT_ADDRESS;
-        (*value)->pieces[0].number = symbol.address;
-    }
-    return code;
+    return make_value(frame, variable->cu, symbol.address, value);
 }
 
 uint32_t dwexpr_libdw_variable(dwexpr_libdw_frame *frame, Dwarf_Die *variable, dwexpr_libdw_value **value)
@@ -769,7 +759,7 @@ uint32_t dwexpr_libdw_variable(dwexpr_libdw_frame *frame, Dwarf_Die *variable, d
     if (code == DWEXPR_LIBDW_NO_MEMORY)
         return code;
     if (dwarf_attr_integrate(variable, DW_AT_const_value, &attribute)) {
-        code = make_value(frame, attribute.cu, value);
+        code = make_value(frame, attribute.cu, 0, value);
         return code ? code : constant(frame, variable, &attribute, *value);
     }
     if (!dwarf_attr_integrate(variable, DW_AT_location, &attribute))
@@ -794,17 +784,15 @@ uint32_t dwexpr_libdw_variable(dwexpr_libdw_frame *frame, Dwarf_Die *variable, d
 uint32_t dwexpr_libdw_on_entry(dwexpr_libdw_frame *frame, Dwarf_Die *parameter, dwexpr_libdw_value **value)
 {
     Dwarf_Attribute attribute;
-    Dwarf_Addr entry;
     dwexpr_libdw_text place, expression;
     uint8_t bytes[32];
     uint32_t code = dwexpr_libdw_find_place(frame);
     *value = NULL;
     if (code)
         return code;
-    if (!frame->place.function.addr || dwexpr_libdw_entry_address(&frame->place.function, &entry) ||
-        !dwarf_attr_integrate(parameter, DW_AT_location, &attribute))
+    if (!frame->place.function.addr || !dwarf_attr_integrate(parameter, DW_AT_location, &attribute))
         return DWEXPR_LIBDW_OPTIMIZED_AWAY;
-    code = dwexpr_libdw_expression(&attribute, entry, &place);
+    code = dwexpr_libdw_expression(&attribute, dwexpr_libdw_entry_of(frame) - frame->place.bias, &place);
     if (!code && place.text.length > sizeof bytes - 3)
         code = DWEXPR_LIBDW_NOT_ENCODABLE;
     if (!code) {
@@ -839,17 +827,11 @@ static uint32_t member_value(dwexpr_libdw_frame *frame, Dwarf_Die *member, const
 {
     Dwarf_Attribute attribute;
     Dwarf_Word place;
-    uint32_t code;
     *value = NULL;
     if (!object || dwarf_hasattr(member, DW_AT_bit_size) || dwarf_hasattr(member, DW_AT_data_bit_offset) ||
         dwarf_formudata(dwarf_attr(member, DW_AT_data_member_location, &attribute), &place))
         return DWEXPR_LIBDW_NO_NUMBER;
-    code = make_value(frame, attribute.cu, value);
-    if (!code) {
-        (*value)->pieces[0].kind = DWEXPR_AT_ADDRESS;
-        (*value)->pieces[0].number = *object + place;
-    }
-    return code;
+    return make_value(frame, attribute.cu, *object + place, value);
 }
 
 /* The number that a variable has, or a member of an object, as a bound of an array. */

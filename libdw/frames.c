@@ -53,10 +53,17 @@ uint32_t dwexpr_libdw_register(const dwexpr_libdw_frame *frame, uint32_t number,
     return *size <= DWEXPR_LIBDW_REGISTER_SIZE ? 0 : DWEXPR_LIBDW_BAD_REGISTER;
 }
 
-int dwexpr_libdw_entry_address(Dwarf_Die *function, Dwarf_Addr *address)
+int dwexpr_libdw_has_entry(Dwarf_Die *function, Dwarf_Addr *address)
 {
     Dwarf_Addr base, end;
-    return dwarf_entrypc(function, address) && dwarf_ranges(function, 0, &base, address, &end) <= 0;
+    return !dwarf_entrypc(function, address) || dwarf_ranges(function, 0, &base, address, &end) > 0;
+}
+
+uint64_t dwexpr_libdw_entry_of(const dwexpr_libdw_frame *frame)
+{
+    Dwarf_Die function = frame->place.function;
+    Dwarf_Addr entry;
+    return function.addr && dwexpr_libdw_has_entry(&function, &entry) ? entry + frame->place.bias : 0;
 }
 
 /* ---- scopes */

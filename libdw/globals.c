@@ -156,9 +156,7 @@ uint32_t dwexpr_libdw_definition(dwexpr_libdw_frame *frame, Dwarf_Die *type, Dwa
     Dwarf_Die unit;
     if (!dwarf_diecu(type, &unit, NULL, NULL))
         return DWEXPR_LIBDW_FAILED;
-    search.code = dwexpr_libdw_begin_walk(&search.declared, &unit);
-    if (!search.code && dwexpr_libdw_go_to(&search.declared, type) < 0)
-        search.code = DWEXPR_LIBDW_NO_MEMORY;
+    search.code = dwexpr_libdw_find_path(&search.declared, &unit, type);
     if (!search.code && !find_definition(&unit, &search))
         visit_units(frame, NULL, (struct visit){.on_unit = find_definition, .given = &search});
     free(search.declared.path);
@@ -232,21 +230,28 @@ static int add_exporter(Dwfl_Module *module, void **data, const char *name, Dwar
     return DWARF_CB_OK;
 }
 
+int dwexpr_libdw_find_symbol(Dwfl_Module *module, Dwarf_Addr address, struct dwexpr_libdw_symbol *symbol)
+{
+    int i;
+    symbol->module = module;
+    for (i = module ? dwfl_module_getsymtab(module) : 0; i > 0; i--) {
+        const char *found = dwfl_module_getsym_info(module, i - 1, &symbol->symbol, &symbol->address, NULL, NULL, NULL);
+        if ((symbol->address == address || !address) && symbol->symbol.st_shndx != SHN_UNDEF && found &&
+            !strcmp(found, symbol->name))
+            return 1;
+    }
+    return 0;
+}
+
 int dwexpr_libdw_resolve(Dwfl *dwfl, Dwfl_Module *module, int is_its_own, struct dwexpr_libdw_symbol *symbol)
 {
     struct exporters exporters = {.last = *symbol};
     const int own = module && is_exported(module, symbol);
-    int i;
     if (!own && is_its_own)
         return 0;
-    for (i = module && !own ? dwfl_module_getsymtab(module) : 0; i > 0; i--) {
-        const char *found = dwfl_module_getsym_info(module, i - 1, &symbol->symbol, &symbol->address, NULL, NULL, NULL);
-        symbol->module = module;
-        if (found && symbol->symbol.st_shndx != SHN_UNDEF && !strcmp(found, symbol->name))
-            return 1;
-    }
-    if (dwfl)
-        dwfl_getmodules(dwfl, add_exporter, &exporters, 0);
+    if (!own && dwexpr_libdw_find_symbol(module, 0, symbol))
+        return 1;
+    dwfl_getmodules(dwfl, add_exporter, &exporters, 0);
     if (exporters.program.module)
         *symbol = exporters.program;
     else if (!own && exporters.count == 1)

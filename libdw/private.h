@@ -62,9 +62,9 @@ struct dwexpr_libdw_walk {
 uint32_t dwexpr_libdw_begin_walk(struct dwexpr_libdw_walk *walk, const Dwarf_Die *first);
 /* Goes to the next entry, into the children if `enters`. Gives back 1; 0 at the end; or -1 if there is no memory. */
 int dwexpr_libdw_next_entry(struct dwexpr_libdw_walk *walk, int enters);
-/* Goes from where a walk began down to an entry, so that the path has the entry's parents. Gives back 1; 0 if the entry
- * isn't there; or -1 if there is no memory. */
-int dwexpr_libdw_go_to(struct dwexpr_libdw_walk *walk, const Dwarf_Die *entry);
+/* Begins a walk that has gone down to an entry, so that the path has the entry's parents; it is empty if the entry isn't
+ * there. */
+uint32_t dwexpr_libdw_find_path(struct dwexpr_libdw_walk *walk, const Dwarf_Die *first, const Dwarf_Die *entry);
 
 /* The bytes of a number and its encoding, as a type says them, or that of which it is a range. Gives back 0 if both are
  * known. */
@@ -91,9 +91,11 @@ uint32_t dwexpr_libdw_find_place(dwexpr_libdw_frame *frame);
  * or 1 if they aren't known. */
 int dwexpr_libdw_find_module(dwexpr_libdw_frame *frame, Dwarf_CU *unit, Dwfl_Module **module, Dwarf_Addr *bias);
 void dwexpr_libdw_begin_frame(dwexpr_libdw_frame *frame, const dwexpr_libdw_source *source);
-/* The address where a function begins: of several ranges the first one, which is that of its entry. Gives back 0, or
- * another number if there is none. */
-int dwexpr_libdw_entry_address(Dwarf_Die *function, Dwarf_Addr *address);
+/* The address where a function begins: of several ranges the first one, which is that of its entry. Gives back whether
+ * there is one. */
+int dwexpr_libdw_has_entry(Dwarf_Die *function, Dwarf_Addr *address);
+/* The same of a frame's function in the process; 0 if there is none. */
+uint64_t dwexpr_libdw_entry_of(const dwexpr_libdw_frame *frame);
 
 /* The call frame information at a frame's address, of .eh_frame or, if `i` is 1, of .debug_frame. Gives back 0, and
  * then `state` is to be freed. */
@@ -109,6 +111,9 @@ struct dwexpr_libdw_symbol {
     Dwarf_Addr address; /* unless it is in thread-local storage */
 };
 
+/* Finds a symbol of a module by its name, at an address if that isn't 0: a function may have several. Gives back whether
+ * there is one. */
+int dwexpr_libdw_find_symbol(Dwfl_Module *module, Dwarf_Addr address, struct dwexpr_libdw_symbol *symbol);
 /* Finds the symbol that a name in a module's code stands for: the module's own if it doesn't export that, else that of
  * the program, the module's own, or that of the only module which exports it. If `is_its_own`, only if the module
  * exports it. Gives back whether there is one. */

@@ -3,28 +3,17 @@
 
 #if _ELFUTILS_PREREQ(0, 188) /* stacks.c */
 
-/* The program's own ends at the thread pointer, and begins at an address with the alignment of its segment. */
-static int find_program_block(Dwfl_Module *module, uint64_t pointer, uint64_t offset, uint64_t *address)
+/* The segment of a module's thread-local storage. Gives back whether there is one. */
+static int find_segment(Dwfl_Module *module, unsigned type, GElf_Phdr *segment, Dwarf_Addr *bias)
 {
-    size_t count, i;
-    Dwarf_Addr bias;
-    Elf *elf = dwfl_module_getelf(module, &bias);
-    if (!elf || elf_getphdrnum(elf, &count))
-        return 1;
-    for (i = 0; i < count; i++) {
-        GElf_Phdr segment;
-        uint64_t align, first;
-        if (!gelf_getphdr(elf, (int)i, &segment) || segment.p_type != PT_TLS)
-            continue;
-        /* GCC 12 writes an address for an offset in split debug information of version 5 */
-        if (offset >= segment.p_memsz)
+    Elf *elf = dwfl_module_getelf(module, bias);
+    size_t count = 0, i;
+    if (elf)
+        elf_getphdrnum(elf, &count);
+    for (i = 0; i < count && gelf_getphdr(elf, (int)i, segment); i++)
+        if (segment->p_type == type)
             return 1;
-        align = segment.p_align ? segment.p_align : 1;
-        first = (0 - segment.p_vaddr) % align;
-        *address = pointer + offset - first - (segment.p_memsz - first + align - 1) / align * align;
-        return 0;
-    }
-    return 1;
+    return 0;
 }
 
 /* ---- what glibc keeps of other modules */
@@ -64,19 +53,14 @@ static uint64_t offset_of(struct reader *reader, const char *field)
 /* What the dynamic linker keeps of a module: an entry of its list, which names the module's dynamic section. */
 static uint64_t find_map(struct reader *reader, Dwfl_Module *module)
 {
-    Dwarf_Addr bias, dynamic = 0;
-    Elf *elf = dwfl_module_getelf(module, &bias);
-    uint64_t map = word_at(reader, symbol_at(reader, "_r_debug") + reader->word);
-    size_t count = 0, i;
     GElf_Phdr segment;
-    if (elf)
-        elf_getphdrnum(elf, &count);
-    for (i = 0; i < count && gelf_getphdr(elf, (int)i, &segment); i++)
-        if (segment.p_type == PT_DYNAMIC)
-            dynamic = segment.p_vaddr + bias;
+    Dwarf_Addr bias;
+    const uint64_t dynamic = find_segment(module, PT_DYNAMIC, &segment, &bias) ? segment.p_vaddr + bias : 0;
+    uint64_t map = dynamic ? word_at(reader, symbol_at(reader, "_r_debug") + reader->word) : 0;
+    int i;
     for (i = 0; i < 10000 && map && word_at(reader, map + 2 * reader->word) != dynamic; i++)
         map = word_at(reader, map + 3 * reader->word);
-    return dynamic && i < 10000 ? map : 0;
+    return i < 10000 ? map : 0;
 }
 
 /* Whether a thread's vector of blocks is newer than a module's number in it. */
@@ -124,12 +108,25 @@ static int find_library_block(const dwexpr_libdw_target *target, Dwfl_Module *mo
     return !number || !block || block % 2 || !is_current(&reader, vector, number) || reader.failed;
 }
 
+/* The program's own ends at the thread pointer, and begins at an address with the alignment of its segment. */
+static uint64_t program_block(const GElf_Phdr *segment, uint64_t pointer)
+{
+    const uint64_t align = segment->p_align ? segment->p_align : 1, first = (0 - segment->p_vaddr) % align;
+    return pointer - first - (segment->p_memsz - first + align - 1) / align * align;
+}
+
 int dwexpr_libdw_find_block(const dwexpr_libdw_target *target, Dwfl_Module *module, uint64_t pointer, uint64_t offset,
                             uint64_t *address)
 {
-    if (target->program && dwfl_addrmodule(target->dwfl, target->program) == module)
-        return find_program_block(module, pointer, offset, address);
-    return find_library_block(target, module, pointer, offset, address);
+    GElf_Phdr segment;
+    Dwarf_Addr bias;
+    /* GCC 12 writes an address for an offset in split debug information of version 5 */
+    if (!find_segment(module, PT_TLS, &segment, &bias) || offset >= segment.p_memsz)
+        return 1;
+    if (!target->program || dwfl_addrmodule(target->dwfl, target->program) != module)
+        return find_library_block(target, module, pointer, offset, address);
+    *address = program_block(&segment, pointer) + offset;
+    return 0;
 }
 
 #endif

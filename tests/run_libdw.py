@@ -248,7 +248,7 @@ FRAMES = [
     ("variants", "variants.adb", "gnatmake", ["-O0"], 1),
     ("signals", "signals.c", "clang", ["-O2"], 1),
     ("modules", "modules.c", "gcc", ["-O2"], 1),
-    ("modules", "modules.c", "gcc", ["-O2", "-gdwarf-5", "-gsplit-dwarf"], 1),
+    ("split_modules", "modules.c", "gcc", ["-O2", "-gdwarf-5", "-gsplit-dwarf"], 1),
     ("no_rules", "no_rules.c", "gcc", ["-O2"], 1),
 ]
 

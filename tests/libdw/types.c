@@ -30,11 +30,12 @@ static void check_element(dwexpr_libdw_frame *frame, const char *name, Dwarf_Die
     uint64_t begin, bits;
     size_t count = 0;
     uint32_t code;
-    int read = 0;
-    for (; sscanf(words, "%ld%n", &indexes[count], &read) == 1; words += words[read] == ',' ? read + 1 : read)
+    int read = 0, more = 1;
+    for (; more && sscanf(words, "%ld%n", &indexes[count], &read) == 1; words += read + more) {
+        more = words[read] == ',';
         count++;
+    }
     sscanf(words, " %31s %31s", begins, has);
-    /* an array of more dimensions has one index for each that is asked for */
     code = dwexpr_libdw_element(frame, type, &object, indexes, count, &begin, &bits);
     check(is_said(begins, code, begin) && (code || is_said(has, code, bits)), name, "an element");
 }
@@ -65,8 +66,14 @@ static void check_words(dwexpr_libdw_frame *frame, const char *name, Dwarf_Die *
     uint64_t number = 0;
     uint32_t code;
     if (!strncmp(words, "size ", 5)) {
+        Dwarf_Attribute attribute;
         code = dwexpr_libdw_size(frame, type, &object, &number);
         check(is_said(words + 5, code, number), name, "its size");
+        if (dwarf_formref_die(dwarf_attr(variable, DW_AT_type, &attribute), type)) {
+            code = dwexpr_libdw_size(frame, type, &object, &number);
+            check(is_said(words + 5, code, number), name, "its size, through what is left out");
+        }
+        dwexpr_libdw_type(variable, type);
     } else if (!strncmp(words, "at ", 3)) {
         check_element(frame, name, type, words + 3);
     } else if (!strncmp(words, "member ", 7)) {

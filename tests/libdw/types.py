@@ -80,7 +80,7 @@ class Types(Tree):
         self.variable("size none; at none none", self.root.add("array", Entry("subrange", count=2)))
         self.variable("size none; at 0 none", self.array(self.root.add("unspecified"), Entry("subrange", count=2)))
         # one of any rank: the object's byte 0 is 16, 1 is 17, ..
-        rank = self.array(self.short, Entry("generic_subrange", lower=b"\x23\1", upper=b"\x23\2"), rank=b"\x32")
+        rank = self.array(self.short, Entry("generic_subrange", lower=b"\x23\1", upper=b"\x23\2"), rank=b"\x32", ordering=1)
         self.variable("size 8; at 2,2 16 16", rank)
         self.variable("size 2", self.array(self.short, Entry("generic_subrange", lower=0, upper=3), rank=0))
         self.variable("size none", self.array(self.short, Entry("generic_subrange", lower=0, upper=3), rank=b"\x22"))

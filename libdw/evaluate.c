@@ -49,10 +49,8 @@ static uint32_t register_number(const dwexpr_libdw_frame *frame, uint32_t number
 static int memory_number(const struct job *job, uint64_t *content)
 {
     const dwexpr_outcome *asked = &job->value->outcome;
-    const dwexpr_libdw_source *source = &job->frame->source;
-    uint8_t bytes[8] = {0};
-    if (asked->flag || asked->size > sizeof bytes || !source->read_memory ||
-        source->read_memory(source->context, asked->number, bytes, asked->size))
+    uint8_t bytes[UINT8_MAX] = {0};
+    if (asked->flag || dwexpr_libdw_memory(job->frame, asked->number, bytes, asked->size))
         return 1;
     *content = dwexpr_libdw_number_of(bytes, asked->size, job->value->encoding.big_endian);
     return 0;

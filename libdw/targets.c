@@ -334,8 +334,10 @@ uint32_t dwexpr_libdw_open_core(const char *file, const char *program, dwexpr_li
         return code;
     elf_version(EV_CURRENT);
     (*target)->file = open_file(file);
-    if ((*target)->file < 0)
-        return has_failed(errno) ? ended(DWEXPR_LIBDW_NO_TARGET, target) : 0;
+    if ((*target)->file < 0) {
+        has_failed(errno);
+        return ended(DWEXPR_LIBDW_NO_TARGET, target);
+    }
     core = (*target)->opened = elf_begin((*target)->file, ELF_C_READ_MMAP, NULL);
     dwfl = (*target)->owned = dwfl_begin(&finders);
     code = DWEXPR_LIBDW_NO_TARGET;

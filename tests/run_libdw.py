@@ -25,6 +25,7 @@ import concurrent.futures
 import contextlib
 import functools
 import itertools
+import json
 import pathlib
 import platform
 import re
@@ -344,6 +345,37 @@ def refused(folder):
             count_of("refused.c", [program, core, 100], env=BUT_FOR_LIBDW)
 
 
+# At most so many lines of 100 that no test takes.
+MOST_UNTAKEN = 3
+
+
+def counted_by_gcov(folder):
+    """What gcov says of the objects in a folder: how often each line was run, and each of its branches, by the file and
+    the line's number."""
+    for file in folder.glob("*.gcda"):
+        done = run(["gcov", "-b", "-c", "--json-format", "--stdout", "-o", folder, file], cwd=TOP)
+        for source in json.loads(done.stdout)["files"]:
+            for line in source["lines"] if source["file"].startswith("libdw/") else []:
+                branches = [branch["count"] for branch in line["branches"]]
+                yield (source["file"], line["line_number"]), [line["count"], *branches]
+
+
+def untaken(folder):
+    """The lines and branches that no test has taken."""
+    counts = {}
+    for place, found in itertools.chain.from_iterable(map(counted_by_gcov, [folder / "plain", folder / "refusing"])):
+        before = counts.setdefault(place, [0] * len(found))
+        counts[place] = [one + other for one, other in itertools.zip_longest(before, found, fillvalue=0)]
+    lines = sum(not found[0] for found in counts.values())
+    branches = [number for found in counts.values() for number in found[1:]]
+    for (file, number), found in sorted(counts.items()):
+        if 0 in found:
+            text = (TOP / file).read_text(encoding="utf-8").splitlines()[number - 1].strip()
+            print(f"{file}:{number}: {'not run' if not found[0] else f'{found.count(0)} branches'}: {text}")
+    print(f"{lines} of {len(counts)} lines aren't run, {branches.count(0)} of {len(branches)} branches aren't taken")
+    expect(lines * 100 <= MOST_UNTAKEN * len(counts), "lines that are run")
+
+
 def has_libdw(folder):
     text = "#include <elfutils/libdwfl.h>\nint main(void) { return dwfl_errno(); }\n"
     return run(["cc", "-xc", "-", "-ldw", "-lelf", "-o", folder / "has_libdw"], input=text).returncode == 0
@@ -367,6 +399,8 @@ def main():
         check_headers("dwexpr_libdw.h", "dwexpr_names.h")
         for stage in [callers, expressions, examples, frames, texts, with_gdb, hostile, refused]:
             stage(folder)
+        if COVERAGE:
+            untaken(folder)
     return None
 
 

@@ -27,6 +27,8 @@ static const struct {
     {"x86_64", 103, 17, "03030303030303030303030303030303"},
     {"x86_64", 104, 17, "04040404040404040404040404040404 84848484848484848484848484848484"},
     {"x86_64", 104, 32, "13131313131313131313131313131313"}, {"x86_64", 105, 17, "05050505050505050505050505050505"},
+    {"x86_64", 106, 17, "06060606060606060606060606060606"}, {"x86_64", 107, 18, "08080808080808080808080808080808"},
+    {"x86_64", 107, 19, NULL},
     {"x86_64", 101, 33, NULL}, {"x86_64", 101, 60, NULL}, {"x86_64", 101, 100000, NULL},
     {"i386", 201, 21, "01010101010101010101010101010101"}, {"i386", 202, 28, "09090909090909090909090909090909"},
     {"i386", 201, 17, NULL}, {"i386", 201, 29, NULL}, {"i386", 201, 4, "08005000"},
@@ -124,11 +126,14 @@ static void check_core(const char *machine, pid_t first, size_t count)
             else
                 check(code == UNKNOWN, machine, path);
         }
+        /* the CFA is a word above the stack's pointer */
+        code = dwexpr_libdw_caller_register(dwexpr_libdw_frame_at(stack, 0), DWEXPR_LIBDW_CFA, got, &size);
+        check(!code && got[0] == 8 + size && got[2] == 0x50 && size == (count == 7 ? 8 : 4), machine, "the CFA");
         dwexpr_libdw_free_stack(stack);
         check_local(first, 0x600000u + (unsigned)first);
         /* of i386 the segment that gs selects may not be there */
-        check_local(first + 1, count == 5 ? 0x600000u + (unsigned)first + 1 : 0);
-        check_local(first + 2, count == 5 ? 0x600000u + (unsigned)first + 2 : 0);
+        check_local(first + 1, count == 7 ? 0x600000u + (unsigned)first + 1 : 0);
+        check_local(first + 2, count == 7 ? 0x600000u + (unsigned)first + 2 : 0);
     }
     dwexpr_libdw_close(target);
     dwfl_end(dwfl);
@@ -137,8 +142,10 @@ static void check_core(const char *machine, pid_t first, size_t count)
 }
 
 /* Files that are no core dumps, a process that there isn't, and no thread. */
-static void check_errors(const char *program)
+static void check_errors(void)
 {
+    static const Dwfl_Callbacks finders = {dwfl_build_id_find_elf, dwfl_standard_find_debuginfo, NULL, NULL};
+    Dwfl *dwfl = dwfl_begin(&finders);
     char path[4096];
     dwexpr_libdw_stack *stack;
     snprintf(path, sizeof path, "%s/x86_64.program", folder);
@@ -152,6 +159,8 @@ static void check_errors(const char *program)
     check(!strcmp(dwexpr_libdw_target_error(), "No such file or directory") ||
               !strcmp(dwexpr_libdw_target_error(), "No such process"),
           "no process", dwexpr_libdw_target_error());
+    check(dwexpr_libdw_open_core("/", NULL, &target) == DWEXPR_LIBDW_NO_TARGET && !target, "a folder", "");
+    check(dwexpr_libdw_attach(dwfl, NULL, &target) == DWEXPR_LIBDW_NO_TARGET && !target, "no process", "");
     check(!dwexpr_libdw_open_process(getpid(), &target) ||
               !strcmp(dwexpr_libdw_target_error(), "it has no threads") || strlen(dwexpr_libdw_target_error()) > 0,
           "this process", "why");
@@ -161,7 +170,7 @@ static void check_errors(const char *program)
     dwexpr_libdw_close(NULL);
     dwexpr_libdw_free_stack(NULL);
     check(!dwexpr_libdw_frame_at(NULL, 0), "no stack", "no frame");
-    (void)program;
+    dwfl_end(dwfl);
 }
 
 int main(int argc, char **argv)
@@ -171,9 +180,9 @@ int main(int argc, char **argv)
     elf_version(EV_CURRENT);
     folder = argv[1];
     check(!strcmp(dwexpr_libdw_target_error(), "nothing failed"), "no error", "at first");
-    check_core("x86_64", 101, 5);
+    check_core("x86_64", 101, 7);
     check_core("i386", 201, 3);
     check_core("big", 301, 1);
-    check_errors(argv[0]);
+    check_errors();
     return finish();
 }

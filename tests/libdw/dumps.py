@@ -113,6 +113,14 @@ def main():
         wide.note("CORE", FLOATS, wide.floats(thread - 100))
         wide.note("LINUX", XSAVE, wide.xsave(thread - 100, mask, state)[: 832 - cut])
         wide.note("LINUX", 0x777, b"12345678")
+    # a thread without XSAVE, and one whose registers of floating point are cut off
+    wide.status(106, STACK + 8, 0x600000 + 106)
+    wide.note("CORE", FLOATS, wide.floats(6))
+    wide.status(107, STACK + 8, 0x600000 + 107)
+    wide.note("CORE", FLOATS, wide.floats(7)[:200])
+    # notes of another name
+    for name, kind in [("LINUX", STATUS), ("CORE", XSAVE), ("LINUX", FLOATS), ("LINUX", AUXILIARY)]:
+        wide.note(name, kind, bytes(336))
     wide.note("CORE", STATUS, bytes(112))
     wide.auxiliary()
     narrow = Core(4, "le")

@@ -55,6 +55,7 @@ class Functions(Tree):
             (b"\x51", "y in 0 is 00ffeedd"),  # DW_OP_reg1: its content is
             (b"\x51", "x in 0 is memory or a register can't be read"),
             (b"\x93\4", "x in 0 is unknown: the frame base"),
+            (b"\x9e\1\0", "x in 0 is unknown: the frame base"),
             (b"\x9c", "y in 0 is 18000000"),  # register 7 has 0x10
             (b"\x0c" + self.pack("I", 0x1010), "x in 0 is 10111213"),
             (None, "x in 0 is unknown: the frame base"),

@@ -191,6 +191,17 @@ static void check_callbacks(void)
     }
 }
 
+/* Memory that no callback reads, and that isn't of the default address space. */
+static void check_no_memory(void)
+{
+    static const uint8_t place[] = {0x0c, 0, 0x10, 0, 0};
+    static const char name[] = "no callback for memory";
+    int big_endian = 0;
+    uint32_t code;
+    read_value(name, frame_of(read_register, NULL, &big_endian), place, sizeof place, LE8, 16, &code);
+    check(code == UNREADABLE && unknown[0] == 0xff && unknown[1] == 0xff, name, dwexpr_libdw_code_name(code));
+}
+
 /* ---- callbacks that write nothing */
 
 /* The first of these calls writes, and each returns 0. */
@@ -295,6 +306,9 @@ static const struct {
     {"two LEB128 numbers, one of which is longer", 8, 4, 5, 0, {{0x92, 17, 5, 0}, {0x9f, 0, 0, 4}}, 2, BAD, 0},
     {"a block", 8, 4, 5, 0, {{0x9e, 2, (uintptr_t)block, 0}, {0x9f, 0, 0, 5}}, 2, "9e 8200aabb 9f", 0},
     {"no block", 8, 4, 5, 0, {{0x9e, 2, 0, 0}}, 1, BAD, 0},
+    {"a size that doesn't fit", 8, 4, 5, 0, {{0xa6, 256, 40, 0}}, 1, BAD, 0},
+    {"no block of a type", 8, 4, 5, 0, {{0xa4, 40, 0, 0}}, 1, BAD, 0},
+    {"an entry of another unit that doesn't fit", 8, 4, 5, 0, {{0xa0, 0x100000000, 1, 0}}, 1, BAD, 0},
     {"a block of a type", 8, 4, 5, 0, {{0xa4, 40, (uintptr_t)type_block, 0}, {0x9f, 0, 0, 5}}, 2, "a4 a800 01cc 9f", 0},
     {"an operation that begins elsewhere", 8, 4, 5, 0, {{0x30, 0, 0, 0}, {0x9f, 0, 0, 2}}, 2, BAD, 0},
     {"offsets that count from another", 8, 4, 5, 0, {{0x30, 0, 0, 7}, {0x9f, 0, 0, 8}}, 2, "30 9f", 0},
@@ -332,6 +346,7 @@ int main(void)
     check_narrow_value();
     check_given();
     check_callbacks();
+    check_no_memory();
     check_unwritten();
     check_operation_count();
     check_operations();

@@ -73,8 +73,8 @@ uint32_t dwexpr_libdw_encoding(Dwarf_CU *unit, dwexpr_encoding *encoding);
 
 /* Puts an expression together from libdw's operations. Each operation gets as many bytes as its offset and the next
  * one's say. libdw doesn't tell the size of the last one: it gets as few as it needs, or if `size` isn't 0, what that
- * leaves, which is how many bytes the expression has. libdw reads the offset of an implicit pointer without its sign: of
- * 127, one byte is -1 and two are 127.
+ * leaves, which is how many bytes the expression has. libdw reads the offset of an implicit pointer without its sign:
+ * of 127, one byte is -1 and two are 127.
  *
  * Answers 0 or DWEXPR_LIBDW_NOT_ENCODABLE: an opcode is unknown, a number doesn't fit its operand, or an operation of
  * two LEB128 numbers isn't in its shortest form. `length` is 0 then. No more than `room` bytes are written. libdw cuts
@@ -118,8 +118,8 @@ uint32_t dwexpr_libdw_open_core(const char *file, const char *program, dwexpr_li
  * `core`; that is NULL for a process. Both outlive the target. Answers as above. */
 uint32_t dwexpr_libdw_attach(Dwfl *dwfl, Elf *core, dwexpr_libdw_target **target);
 
-/* Why the last of these calls, or of dwexpr_libdw_unwind, has no target, or frames that are cut off, in the words of the
- * system or of libdw. It stays valid until the thread's next such call. */
+/* Why the last of these calls, or of dwexpr_libdw_unwind, has no target, or frames that are cut off, in the words of
+ * the system or of libdw. It stays valid until the thread's next such call. */
 const char *dwexpr_libdw_target_error(void);
 
 /* What a target reads debug information from. It belongs to the target. */
@@ -204,8 +204,8 @@ typedef struct dwexpr_libdw_entry {
 uint32_t dwexpr_libdw_variables(dwexpr_libdw_frame *frame, dwexpr_libdw_entry **entries, size_t *count);
 
 /* The variables and constants that stand in no function, of this module or, if it is NULL, of all: those of the frame's
- * unit first, and then of its module. If `name` isn't NULL, those that have it in the source or for the linker. Each has
- * its value by dwexpr_libdw_variable in any frame. Answers 0 or DWEXPR_LIBDW_NO_MEMORY. Free `globals`. */
+ * unit first, and then of its module. If `name` isn't NULL, those that have it in the source or for the linker. Each
+ * has its value by dwexpr_libdw_variable in any frame. Answers 0 or DWEXPR_LIBDW_NO_MEMORY. Free `globals`. */
 uint32_t dwexpr_libdw_globals(dwexpr_libdw_frame *frame, Dwfl_Module *module, const char *name, Dwarf_Die **globals,
                               size_t *count);
 
@@ -250,8 +250,12 @@ void dwexpr_libdw_release(dwexpr_libdw_value *value);
 uint32_t dwexpr_libdw_evaluate(dwexpr_libdw_frame *frame, const dwexpr_libdw_text *expression, const uint64_t *object,
                                const uint64_t *initial, dwexpr_libdw_value **value);
 
-/* The value of a variable or a parameter in a frame: by its DW_AT_const_value, or its DW_AT_location at the frame's
- * address. Answers what dwexpr_libdw_locate, dwexpr_libdw_expression or dwexpr_libdw_evaluate does. */
+/* The value of a variable, a parameter or a constant in a frame: by its DW_AT_const_value, or its DW_AT_location at the
+ * address of its function's frame: that is this one, or a caller if its function encloses the frame's. Addresses are
+ * those of its module. One that is only declared, or that the program has a copy of, is at the symbol of its name.
+ *
+ * Answers what dwexpr_libdw_expression or dwexpr_libdw_evaluate does; DWEXPR_LIBDW_OTHER_FUNCTION; or
+ * DWEXPR_LIBDW_NOT_DEFINED. */
 uint32_t dwexpr_libdw_variable(dwexpr_libdw_frame *frame, Dwarf_Die *variable, dwexpr_libdw_value **value);
 
 /* The value that a parameter had on entry of the function, if the caller's call site says it. Answers likewise. */
@@ -268,7 +272,8 @@ uint32_t dwexpr_libdw_number(dwexpr_libdw_frame *frame, Dwarf_Attribute *attribu
  * The piece's byte_offset is the place within it. Answers 0 or DWEXPR_LIBDW_FAILED. */
 uint32_t dwexpr_libdw_points_into(const dwexpr_libdw_value *value, const dwexpr_piece *piece, Dwarf_Die *variable);
 
-/* The bytes of a value that has this many bits, as they would be in memory. Its pieces follow each other from the
+/* The bytes of a value that has this many bits, as they would be in memory, of the frame that the value names. Its
+ * pieces follow each other from the
  * lowest bit of each byte in little endian, and from the highest in big endian. The last byte is filled up with zeros.
  *
  * Answers 0 if every bit is known. Else it answers why the first unknown bit isn't: DWEXPR_LIBDW_OPTIMIZED_AWAY,
@@ -295,9 +300,9 @@ uint32_t dwexpr_libdw_definition(dwexpr_libdw_frame *frame, Dwarf_Die *type, Dwa
  * Answers as dwexpr_libdw_number; DWEXPR_LIBDW_OPTIMIZED_AWAY if it isn't allocated or associated. */
 uint32_t dwexpr_libdw_data(dwexpr_libdw_frame *frame, Dwarf_Die *type, uint64_t object, uint64_t *address);
 
-/* The bits of an array's element in the array's data: where they begin, counted as dwexpr_libdw_read places them, and how
- * many there are. There is an index for each dimension, as in the source; of an enumeration it is the value's number.
- * Answers as dwexpr_libdw_number: DWEXPR_LIBDW_NO_NUMBER if there is no such element. */
+/* The bits of an array's element in the array's data: where they begin, counted as dwexpr_libdw_read places them, and
+ * how many there are. There is an index for each dimension, as in the source; of an enumeration it is the value's
+ * number. Answers as dwexpr_libdw_number: DWEXPR_LIBDW_NO_NUMBER if there is no such element. */
 uint32_t dwexpr_libdw_element(dwexpr_libdw_frame *frame, Dwarf_Die *array, const uint64_t *object,
                               const int64_t *indexes, size_t count, uint64_t *begin, uint64_t *bits);
 

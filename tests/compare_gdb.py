@@ -152,8 +152,8 @@ def dumped(process, folder):
 
 
 def of_where(lines):
-    """The variables by thread, level, inlined function and name, in order: what is printed of each. The functions around
-    that of a frame are counted from -1 down."""
+    """The variables by thread, level, inlined function and name, in order: what is printed of each. The functions
+    around that of a frame are counted from -1 down."""
     found, frames = collections.defaultdict(list), []
     for line in lines:
         if line.startswith("thread "):
@@ -258,8 +258,9 @@ def build_words(source, compiler, words):
         return [compiler, "-g", "-Ccodegen-units=1", *words, source, "-o"]
     threads = ["-pthread"] if "pthread" in source.read_text() else []
     linked = ["-L.", "-llibrary", "-ldl", "-Wl,-rpath,$ORIGIN"] if source.stem == "modules" else []
-    second = source.parents[1] / "libdw" / source.name
-    return [compiler, "-g", *words, *threads, source, *([second] if second.exists() and second != source else []), *linked, "-o"]
+    # the second unit of a program
+    more = [path for path in [source.parents[1] / "libdw" / source.name] if path.exists() and path != source]
+    return [compiler, "-g", *words, *threads, source, *more, *linked, "-o"]
 
 
 def build_libraries(compiler, folder, words):
@@ -319,7 +320,8 @@ def compare_all(where, jobs, others):
     """Compares programs: the sums, for the process and the core dump."""
     sums = {"process": collections.Counter(), "core dump": collections.Counter()}
     with concurrent.futures.ProcessPoolExecutor() as pool:
-        runs = [pool.submit(compare_program, where, TOP / "tests" / "stopped" / source, *words) for source, *words in jobs]
+        folder = TOP / "tests" / "stopped"
+        runs = [pool.submit(compare_program, where, folder / source, *words) for source, *words in jobs]
         runs += [pool.submit(compare_other, where, *words) for words in others]
         for done in runs:
             found, lines = done.result()

@@ -83,7 +83,8 @@ class Core(Tree):
         stack = bytes(range(0x20))
         loads = [(NOTE, 0, self.notes, 0), (LOAD, STACK, stack, 0x40), (LOAD, NEXT, b"\xee" * 0x20, 0x20)]
         loads += [(LOAD, STACK + 0x20, b"\xdd" * 0x10, 0x10)]
-        made = bytearray(self.elf({}, [*loads, (LOAD, CUT, b"", 0x10), (LOAD, CUT + 0x10, b"", 0x10), (NOTE, 0, b"", 0)], 4))
+        loads += [(LOAD, CUT, b"", 0x10), (LOAD, CUT + 0x10, b"", 0x10), (NOTE, 0, b"", 0)]
+        made = bytearray(self.elf({}, loads, 4))
         size = 56 if self.address_size == 8 else 32
         front = 64 if self.address_size == 8 else 52
         fields = "IIQQQQQQ" if self.address_size == 8 else "IIIIIIII"

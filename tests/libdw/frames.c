@@ -413,11 +413,13 @@ static void check_modules(void)
         }
     frame = dwexpr_libdw_frame_at(stack, 0);
     dwexpr_libdw_locate(frame, &place);
-    check(!dwexpr_libdw_globals(frame, place.module, NULL, &globals, &count) && count == 3, "the program", "at, own_local, exchanged");
+    check(!dwexpr_libdw_globals(frame, place.module, NULL, &globals, &count) && count == 3, "the program",
+          "at, own_local, exchanged");
     free(globals);
     /* a parameter of a function that isn't on the stack */
     globals_of(frame, "library_hidden", numbers, &last);
-    check(dwarf_diecu(&last, &unit, NULL, NULL) && first_child(&unit, DW_TAG_subprogram, &function), "library", "its unit");
+    check(dwarf_diecu(&last, &unit, NULL, NULL) && first_child(&unit, DW_TAG_subprogram, &function), "library",
+          "its unit");
     for (more = 0; more == 0 && strcmp(dwarf_diename(&function), "library_last");)
         more = dwarf_siblingof(&function, &function);
     check(more == 0 && first_child(&function, DW_TAG_formal_parameter, &parameter), "library_last", "its parameter");

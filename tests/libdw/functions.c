@@ -97,7 +97,7 @@ static void check_words(dwexpr_libdw_frame **frames, Dwarf_Die unit, const char 
         return;
     }
     if (!strcmp(kind, "of")) {
-        found = find_in(unit, strcmp(where, "nothing") ? where : "outer", name, &variable);
+        found = find_in(unit, where, name, &variable);
     } else {
         frame = frames[atoi(where)];
         found = find_variable(frame, name, &variable, &total);

@@ -7,7 +7,6 @@ Each function has 256 bytes of code, from 0x401000 on. A variable of the unit sa
 """
 
 import pathlib
-import struct
 import sys
 
 from tree import Entry, Tree, signed_leb, unsigned_leb
@@ -96,7 +95,8 @@ class Functions(Tree):
         inlined.add("variable", origin=first, location=b"\x35\x9f")
         self.variable(inlined, "registers", IN_0, "parameter")
         self.row([function.begin + 0x11], "first in 0 is 05000000", "alone in 0 is 07000000",
-                 "static in 0 is 14151617", "lost in 0 is optimized away", "registers in 0 is 88776655", "count in 0 is 7")
+                 "static in 0 is 14151617", "lost in 0 is optimized away", "registers in 0 is 88776655",
+                 "count in 0 is 7")
 
     def nested(self):
         """Functions within functions: their links are the numbers of frame bases."""
@@ -125,7 +125,7 @@ class Functions(Tree):
         # a variable of a function that doesn't enclose the frame's, or stands within it
         self.row([place], "own of linked is a variable of another function")
         self.row([outside], "kept of outer is a variable of another function")
-        self.row([0x41FF00], "kept of outer is a variable of another function", "kept of nothing is a variable of another function")
+        self.row([0x41FF00], "kept of outer is a variable of another function")
         outer.attributes["linkage_name"], linked.attributes["linkage_name"] = "outer", "linked"
         return outer
 
@@ -191,7 +191,8 @@ class Functions(Tree):
         one("0a000000", callee=instance, call_origin=abstract)
         for said, attributes in [
             ("0a000000", {"name": "alias"}), (unknown, {"name": "no_alias"}), (unknown, {}),
-            ("0a000000", {"name": "x", "linkage_name": "alias"}), ("0a000000", {"name": "x", "MIPS_linkage_name": "alias"}),
+            ("0a000000", {"name": "x", "linkage_name": "alias"}),
+            ("0a000000", {"name": "x", "MIPS_linkage_name": "alias"}),
         ]:  # fmt: skip
             declared = self.root.add("function", external=True, declaration=True, **attributes)
             one(said, callee=other, call_origin=declared)
@@ -290,11 +291,13 @@ class Functions(Tree):
         function = self.function(linkage_name="listing")
         begin = function.begin
         if self.version >= 5:
-            content = b"".join(b"\7" + self.address(begin + at) + self.address(begin + at + 8) + bytes([2, 0x31 + at // 8, 0x9F])
-                               for at in (0, 8)) + b"\0"
+            front, length, end = b"\7", b"\2", b"\0"
         else:
-            content = b"".join(self.address(begin + at) + self.address(begin + at + 8) + self.pack("H", 2) +
-                               bytes([0x31 + at // 8, 0x9F]) for at in (0, 8)) + 2 * self.address(0)
+            front, length, end = b"", self.pack("H", 2), 2 * self.address(0)
+        content = b""
+        for number, at in enumerate((begin, begin + 8), 0x31):
+            content += front + self.address(at) + self.address(at + 8) + length + bytes([number, 0x9F])
+        content += end
         sections, offset = super().lists(content)
         function.add("variable", name="listed", type=self.int, location=(0x17, self.offset(offset)))
         self.root.add("variable", name="listed_global", type=self.int, location=(0x17, self.offset(offset)))
@@ -304,7 +307,7 @@ class Functions(Tree):
 
     def rules(self):
         """.debug_frame: the CFA is 8 above register 7, and register 16 is where it returns to."""
-        common = self.pack("IB", 0xFFFFFFFF, 4) + b"\0" + b"\x08\0" + unsigned_leb(1) + signed_leb(-8) + unsigned_leb(16)
+        common = self.pack("IB", 0xFFFFFFFF, 4) + b"\0\x08\0" + unsigned_leb(1) + signed_leb(-8) + unsigned_leb(16)
         common += b"\x0c\7\x08" + b"\x90\1"
         common += bytes(-len(common) % 8)
         frame = self.pack("I", 0) + self.address(FIRST) + self.address(len(CODE))
@@ -312,7 +315,8 @@ class Functions(Tree):
         return self.pack("I", len(common)) + common + self.pack("I", len(frame)) + frame
 
     def declared(self):
-        """Variables that are only declared: each is at a symbol, unless it is in thread-local storage or there is none."""
+        """Variables that are only declared: each is at a symbol, unless that is in thread-local storage or isn't there.
+        """
         function = self.function(linkage_name="declaring")
         for name in ("in_memory", "local", "nowhere"):
             function.add("variable", name=name, type=self.int, declaration=True, external=True)

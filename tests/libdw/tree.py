@@ -3,8 +3,9 @@
 from unit import Unit, signed_leb, unsigned_leb
 
 TAGS = {
-    "array": 0x01, "class": 0x02, "enumeration": 0x04, "parameter": 0x05, "block": 0x0B, "member": 0x0D, "pointer": 0x0F,
-    "unit": 0x11, "string": 0x12, "structure": 0x13, "subroutine_type": 0x15, "typedef": 0x16, "common": 0x1A,
+    "array": 0x01, "class": 0x02, "enumeration": 0x04, "parameter": 0x05, "block": 0x0B, "member": 0x0D,
+    "pointer": 0x0F, "unit": 0x11, "string": 0x12, "structure": 0x13, "subroutine_type": 0x15, "typedef": 0x16,
+    "common": 0x1A,
     "inheritance": 0x1C, "inlined": 0x1D, "to_member": 0x1F, "subrange": 0x21, "base": 0x24, "const": 0x26,
     "constant": 0x27, "enumerator": 0x28, "function": 0x2E, "variable": 0x34, "volatile": 0x35, "restrict": 0x37,
     "namespace": 0x39, "unspecified": 0x3B, "atomic": 0x47, "generic_subrange": 0x45, "call_site": 0x48,

@@ -69,8 +69,9 @@ class Types(Tree):
         self.variable("size 16; at 1 72 32; at 3 216 32",
                       self.array(self.int, Entry("subrange", lower=0, count=4, byte_stride=9)))
         self.variable("size 16; at 1 12 32", self.array(self.int, Entry("subrange", lower=0, count=4, bit_stride=12)))
-        self.variable("size none; at 0 none", self.array(self.int, Entry("subrange", lower=0, count=4, byte_stride="no")))
-        self.variable("size none; at 0 none", self.array(self.int, Entry("subrange", lower=0, count=4), byte_stride="no"))
+        said = "size none; at 0 none"
+        self.variable(said, self.array(self.int, Entry("subrange", lower=0, count=4, byte_stride="no")))
+        self.variable(said, self.array(self.int, Entry("subrange", lower=0, count=4), byte_stride="no"))
         # too many dimensions
         self.variable("size none; at 0 none", self.array(self.byte, *(Entry("subrange", count=1) for _ in range(65))))
         # bounds that aren't numbers, a child that is no range, no type
@@ -80,7 +81,8 @@ class Types(Tree):
         self.variable("size none; at none none", self.root.add("array", Entry("subrange", count=2)))
         self.variable("size none; at 0 none", self.array(self.root.add("unspecified"), Entry("subrange", count=2)))
         # one of any rank: the object's byte 0 is 16, 1 is 17, ..
-        rank = self.array(self.short, Entry("generic_subrange", lower=b"\x23\1", upper=b"\x23\2"), rank=b"\x32", ordering=1)
+        any_rank = Entry("generic_subrange", lower=b"\x23\1", upper=b"\x23\2")
+        rank = self.array(self.short, any_rank, rank=b"\x32", ordering=1)
         self.variable("size 8; at 2,2 16 16", rank)
         self.variable("size 2", self.array(self.short, Entry("generic_subrange", lower=0, upper=3), rank=0))
         self.variable("size none", self.array(self.short, Entry("generic_subrange", lower=0, upper=3), rank=b"\x22"))
@@ -97,7 +99,8 @@ class Types(Tree):
 
     def enumerations(self):
         values = [Entry("enumerator", const_value=it) for it in (1, 5, 9)]
-        color = self.root.add("enumeration", *values, Entry("typedef"), Entry("enumerator"), byte_size=1, encoding=UNSIGNED)
+        others = Entry("typedef"), Entry("enumerator")
+        color = self.root.add("enumeration", *values, *others, byte_size=1, encoding=UNSIGNED)
         self.variable("size 1; value 10", color)
         self.variable("size 12; at 1 0 32; at 5 32 32; at 9 64 32; at 10 none; at 0 none",
                       self.array(self.int, Entry("subrange", type=color, lower=1, upper=9)))
@@ -147,7 +150,8 @@ class Types(Tree):
         at = b"\x0c" + self.pack("I", 0x1005)
         self.variable("size 5", self.root.add("string", string_length=at, length_bytes=1))
         self.variable("size none", self.root.add("string", string_length=at, length_bytes=9))
-        self.variable("size none", self.root.add("string", string_length=b"\x0c" + self.pack("I", 0x9005), length_bytes=1))
+        nowhere = b"\x0c" + self.pack("I", 0x9005)
+        self.variable("size none", self.root.add("string", string_length=nowhere, length_bytes=1))
         self.variable("size none", self.root.add("string", string_length=b"\x22", length_bytes=1))
         self.variable("size none", self.root.add("string", string_length=b"", length_bytes=1))
         word = bytes(range(8, 8 + self.address_size))

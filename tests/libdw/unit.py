@@ -61,7 +61,8 @@ class Unit:
             table = bytes(24 if wide else 16)
             for name, address, info in symbols:
                 at = strings.index(b"\0" + name.encode() + b"\0") + 1
-                table += self.pack("IBBHQQ", at, info, 0, 1, address, 8) if wide else self.pack("IIIBBH", at, address, 8, info, 0, 1)
+                fields = ("IBBHQQ", at, info, 0, 1, address, 8) if wide else ("IIIBBH", at, address, 8, info, 0, 1)
+                table += self.pack(*fields)
             sections = sections | {".symtab": table, ".strtab": strings}
         names = b"\0" + b"".join(name.encode() + b"\0" for name in [*sections, ".shstrtab"])
         sections = sections | {".shstrtab": names}
@@ -70,10 +71,11 @@ class Unit:
         place, body, headers = front + len(loads) * (56 if wide else 32), b"", bytes(64 if wide else 40)
         segments = b""
         for segment, address, content, size in loads:
+            at = place + len(body)
             if wide:
-                segments += self.pack("IIQQQQQQ", segment, 7, place + len(body), address, address, len(content), size, 1)
+                segments += self.pack("IIQQQQQQ", segment, 7, at, address, address, len(content), size, 1)
             else:
-                segments += self.pack("IIIIIIII", segment, place + len(body), address, address, len(content), size, 7, 1)
+                segments += self.pack("IIIIIIII", segment, at, address, address, len(content), size, 7, 1)
             body += content
         kinds = {".shstrtab": 3, ".strtab": 3, ".symtab": 2}
         for index, (name, content) in enumerate(sections.items()):
@@ -87,5 +89,6 @@ class Unit:
         ident = b"\x7fELF" + bytes([2 if wide else 1, 1 if self.order == "<" else 2, 1]) + bytes(9)
         machine = (62 if self.order == "<" else 21) if wide else (3 if self.order == "<" else 20)
         sizes = [front, 56 if wide else 32, len(loads), 64 if wide else 40, len(sections) + 1, len(sections)]
-        last = self.pack(f"HHI{word * 3}IHHHHHH", kind, machine, 1, 0, front if loads else 0, place + len(body), 0, *sizes)
+        first = front if loads else 0
+        last = self.pack(f"HHI{word * 3}IHHHHHH", kind, machine, 1, 0, first, place + len(body), 0, *sizes)
         return ident + last + segments + body + headers

@@ -295,7 +295,8 @@ static const struct {
     {"an offset of one byte whose size is known", 8, 4, 5, 0, {{0xa0, 1, 127, 0}}, 1, "a0 01000000 7f", 6},
     {"an offset of two bytes whose size is known", 8, 4, 5, 0, {{0xa0, 1, 127, 0}}, 1, "a0 01000000 ff00", 7},
     {"an offset of a size that it can't have", 8, 4, 5, 0, {{0xa0, 1, 300, 0}}, 1, BAD, 6},
-    {"a number of a longer form whose size is known", 8, 4, 5, 0, {{0x30, 0, 0, 0}, {0x10, 5, 0, 1}}, 2, "30 10 858000", 5},
+    {"a number of a longer form whose size is known", 8, 4, 5, 0, {{0x30, 0, 0, 0}, {0x10, 5, 0, 1}}, 2, "30 10 858000",
+     5},
     {"a number of a size that it can't have", 8, 4, 5, 0, {{0x10, 300, 0, 0}}, 1, BAD, 2},
     {"more bytes than it has", 8, 4, 5, 0, {{0x30, 0, 0, 0}}, 1, BAD, 2},
     {"an offset with a sign", 8, 4, 5, 0, {{0xa0, 1, (Dwarf_Word)-1, 0}}, 1, "a0 01000000 7f", 0},
@@ -322,8 +323,9 @@ static void check_operations(void)
     for (i = 0; i < COUNT(operations); i++) {
         const dwexpr_encoding encoding = encoding_of(operations[i].address_size, operations[i].offset_size,
                                                      operations[i].version, operations[i].big_endian);
-        const uint32_t code = dwexpr_libdw_encode(operations[i].operations, operations[i].count, operations[i].size, encoding, got,
-                                                  sizeof got, &length);
+        const Dwarf_Op *all = operations[i].operations;
+        const size_t count = operations[i].count, size = operations[i].size;
+        const uint32_t code = dwexpr_libdw_encode(all, count, size, encoding, got, sizeof got, &length);
         if (!operations[i].bytes) {
             check(code == DWEXPR_LIBDW_NOT_ENCODABLE, operations[i].name, "it has no bytes");
             continue;
@@ -332,7 +334,7 @@ static void check_operations(void)
               operations[i].name, "its bytes");
         for (room = 0; room < length; room++) {
             memset(got, 0x55, sizeof got);
-            check(!dwexpr_libdw_encode(operations[i].operations, operations[i].count, operations[i].size, encoding, got, room, &length) &&
+            check(!dwexpr_libdw_encode(all, count, size, encoding, got, room, &length) &&
                       got[room] == 0x55,
                   operations[i].name, "it writes no more than there is room for");
         }

@@ -90,7 +90,9 @@ def built(source, program, *words, cc=("cc", "-std=c11"), kind=""):
 
 def build_libraries(folder, core, *flags):
     """Builds the libraries for C by CMake in a folder, with these flags, and installs them there. Their folder."""
-    options = [f"-DDWEXPR_CORE={core}", f"-DCMAKE_C_FLAGS={' '.join(flags)}", "-DBUILD_TESTING=OFF"]
+    options = [f"-DDWEXPR_CORE={core}", "-DBUILD_TESTING=OFF"]
+    if flags:
+        options += ["-DCMAKE_BUILD_TYPE=None", f"-DCMAKE_C_FLAGS={' '.join(flags)}"]
     commands.run("cmake", "-S", TOP / "c", "-B", folder / "build", *options, f"-DCMAKE_INSTALL_PREFIX={folder}")
     commands.run("cmake", "--build", folder / "build", "--parallel", "4")
     commands.run("cmake", "--install", folder / "build")

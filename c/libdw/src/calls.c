@@ -78,46 +78,26 @@ static Dwarf_Die root_of(const Dwarf_Die *function)
 static const char *external_name(Dwarf_Die *function)
 {
     Dwarf_Attribute attribute;
-    const char *name = dwarf_formstring(dwarf_attr_integrate(function, DW_AT_linkage_name, &attribute));
-    if (!name)
-        name = dwarf_formstring(dwarf_attr_integrate(function, DW_AT_MIPS_linkage_name, &attribute));
-    if (!name && dwarf_attr_integrate(function, DW_AT_external, &attribute))
-        name = dwarf_diename(function);
-    return name;
-}
-
-/* The address of a symbol of this name, at this address if that isn't 0; 0 if there is none. A function of a library
- * may have several. */
-static Dwarf_Addr symbol_at(Dwfl_Module *module, Dwarf_Addr address, const char *name)
-{
-    int i;
-    for (i = module ? dwfl_module_getsymtab(module) : 0; i > 0; i--) {
-        GElf_Sym symbol;
-        GElf_Addr place;
-        const char *found = dwfl_module_getsym_info(module, i - 1, &symbol, &place, NULL, NULL, NULL);
-        if (found && (place == address || !address) && symbol.st_shndx != SHN_UNDEF && !strcmp(found, name))
-            return place;
-    }
-    return 0;
+    const char *name = dwexpr_libdw_linkage_name(function), *plain = dwarf_diename(function);
+    return name != plain || dwarf_attr_integrate(function, DW_AT_external, &attribute) ? name : NULL;
 }
 
 int dwexpr_libdw_names(Dwarf_Die *site, const dwexpr_libdw_frame *caller, const dwexpr_libdw_frame *called)
 {
     Dwarf_Die origin, function = called->place.function;
-    Dwarf_Addr entry, begin;
+    const uint64_t entry = dwexpr_libdw_entry_of(called);
+    Dwarf_Addr begin;
+    struct dwexpr_libdw_symbol symbol;
     const char *name, *wanted;
     if (!origin_of(site, &origin))
         return -1;
     if (root_of(&origin).addr == root_of(&function).addr)
         return 1;
-    if (dwarf_entrypc(&function, &entry))
-        return 0;
-    entry += called->place.bias;
-    if (!dwarf_entrypc(&origin, &begin))
+    if (dwexpr_libdw_has_entry(&origin, &begin))
         return begin + caller->place.bias == entry;
-    name = external_name(&origin);
+    name = symbol.name = external_name(&origin);
     wanted = external_name(&function);
-    return name && ((wanted && !strcmp(name, wanted)) || symbol_at(called->place.module, entry, name));
+    return name && ((wanted && !strcmp(name, wanted)) || dwexpr_libdw_find_symbol(called->place.module, entry, &symbol));
 }
 
 /* ---- tail calls */
@@ -126,29 +106,23 @@ uint64_t dwexpr_libdw_called_address(Dwarf_Die *site, const dwexpr_libdw_frame *
 {
     Dwarf_Die origin;
     Dwarf_Addr entry;
-    const char *name;
-    if (!origin_of(site, &origin))
-        return 0;
-    if (!dwarf_entrypc(&origin, &entry))
+    struct dwexpr_libdw_symbol symbol;
+    if (origin_of(site, &origin) && dwexpr_libdw_has_entry(&origin, &entry))
         return entry + caller->place.bias;
-    name = external_name(&origin);
-    if (!name)
-        name = dwarf_diename(&origin);
-    return name ? symbol_at(caller->place.module, 0, name) : 0;
+    symbol.name = dwexpr_libdw_linkage_name(&origin);
+    return symbol.name && dwexpr_libdw_resolve(caller->source.dwfl, caller->place.module, 0, &symbol) ? symbol.address : 0;
 }
 
 int dwexpr_libdw_enter(const dwexpr_libdw_frame *caller, uint64_t address, dwexpr_libdw_frame *entered)
 {
     dwexpr_libdw_source source = caller->source;
-    Dwarf_Addr entry;
     source.pc = address;
     source.is_activation = 1;
     source.unit = NULL;
     source.frame_base = source.cfa = NULL;
     source.read_register = NULL;
     dwexpr_libdw_begin_frame(entered, &source);
-    return address && !dwexpr_libdw_find_place(entered) && entered->place.function.addr &&
-           !dwarf_entrypc(&entered->place.function, &entry) && entry + entered->place.bias == address;
+    return address && !dwexpr_libdw_find_place(entered) && dwexpr_libdw_entry_of(entered) == address;
 }
 
 int dwexpr_libdw_find_tail_call(const dwexpr_libdw_frame *between, const dwexpr_libdw_frame *called, Dwarf_Die *site)

@@ -136,7 +136,7 @@ def features():
 
 
 def patches():
-    """What tells Cargo where those crates are, since there is no network. Without a folder an empty package stands in."""
+    """What tells Cargo where those crates are, without a network. Without a folder an empty package stands in."""
     stand_ins = TOP / "tests/crate/stand_ins"
     places = {name: os.environ.get(variable) or str(stand_ins / name) for name, variable in NEEDED.items()}
     return ["--offline", *(f"--config=patch.crates-io.{name}.path={json.dumps(it)}" for name, it in places.items())]

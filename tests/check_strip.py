@@ -1,6 +1,6 @@
 #!/usr/bin/env python3
-"""Judges what the build scripts of the Rust crate and of the library for C make of the proved sources, by a second reader
-of them, which goes by tokens and refuses what it doesn't know.
+"""Judges what the build scripts of the Rust crate and of the library for C make of the proved sources, by a second
+reader of them, which goes by tokens and refuses what it doesn't know.
 
 - Each token that is written is the one that this reader has after the rows, docs too, and each line has its number.
 - No row adds code: what a function does, and what a constant is, stays as it is proved but for the places in CODE.
@@ -20,7 +20,7 @@ from checks import commands, expect, sources
 from commands import TOP, Failure
 from tokens import split
 
-# Words that rows put into code, and the words there; another one ends with `_unchecked`, and is what has a precondition.
+# Words that rows put into code, and the words there. Any other ends with `_unchecked`: the call has a precondition.
 WORDS = {"into_signed": "cast_signed", "into_unsigned": "cast_unsigned"}
 # The code that rows change: the source, the function, what stands in it once, and what is put there.
 CODE = {
@@ -32,7 +32,10 @@ CODE = {
         ("dwarf_eval/src/run/operations", "operate_in_place", "ImplicitValue { bytes", "ImplicitValue { data: bytes"),
     ],
     "c": [
-        ("dwexpr_c/src/steps", "bytes_of", "if text.bytes.is_empty() { &[] } else { text.bytes }", "text.bytes.slice()"),
+        (
+            *("dwexpr_c/src/steps", "bytes_of"),
+            *("if text.bytes.is_empty() { &[] } else { text.bytes }", "text.bytes.slice()"),
+        ),
     ],
 }
 # What each file ends with.
@@ -95,10 +98,12 @@ def check_preconditions(top, package, found):
     """Refuses preconditions that a package doesn't name, and such as it names and aren't there."""
     text = (top / package.preconditions).read_text(encoding="utf-8")
     lines = [line.rpartition(": ") for line in text.splitlines() if ": " in line and line[0] != "#"]
-    listed = sorted(f"{name}: {' '.join(split(condition))}" for condition, _, names in lines for name in names.split())
+    listed = {(name, " ".join(split(condition))) for condition, _, names in lines for name in names.split()}
     public = [source for source in found.values() if source.path.startswith(package.public)]
-    there = sorted(f"{name}: {condition}" for source in public for name, condition in source.conditions)
-    if differs := sources.difference(listed, there, 1):
+    # A `*` stands for all that have the precondition.
+    conditions = [it for source in public for it in source.conditions]
+    there = {("*", condition) if ("*", condition) in listed else (name, condition) for name, condition in conditions}
+    if differs := sources.difference(sorted(map(str, listed)), sorted(map(str, there)), 1):
         raise Failure(f"{package.preconditions} has other preconditions: {differs}")
 
 
@@ -156,8 +161,8 @@ def wanted_of(top, package, places):
 
 
 def code_in(found):
-    """The name and the tokens of each body and of each constant's value, in order."""
-    at, said = 0, []
+    """The name and the tokens of each body and of each constant's value, in order; and the numbers in all else."""
+    at, said, numbers = 0, [], []
     while at < len(found):
         first, ends = at, ()
         if found[at] == "fn":
@@ -172,8 +177,9 @@ def code_in(found):
                 last += 1
             said.append((found[at + 1], found[first : last + 1]))
             at = last
+        numbers += [found[at]] * found[at][0].isdigit()
         at += 1
-    return said
+    return [*said, ("types", numbers)]
 
 
 def plain_word(word):
@@ -193,7 +199,7 @@ def judge_code(name, top, package, written):
                 if sum(body.count(old) for it, body in bodies if it == function) != 1:
                     raise Failure(f"{source.path} has no `{old}` in {function}")
                 bodies = [(it, body.replace(old, new) if it == function else body) for it, body in bodies]
-                theirs = [(it, body.split()) for it, body in bodies if body]
+                theirs = [(it, body.split()) for it, body in bodies if body or it == "types"]
         if ours != theirs:
             at = next((one for one, other in zip(ours, theirs) if one != other), ("", ""))[0]
             raise Failure(f"{place} has other code than is proved, in `{at}`")
@@ -255,7 +261,7 @@ def built(top, package, folder):
 
 
 def said_of(edit, name, top, package, program, folder):
-    """Why what an edit makes is refused, or nothing. It is of the sources, the rows or a script; or of what is written."""
+    """Why what an edit makes is refused, or nothing. It is of sources, rows or a script; or of what is written."""
     texts = written_by(program, top, package, folder / "out")
     place = edit.file.removesuffix(".rs")
     before = edit.applied(lambda file: texts[place] if place in texts else (top / file).read_text(encoding="utf-8"))

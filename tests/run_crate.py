@@ -1,16 +1,16 @@
 #!/usr/bin/env python3
 """Uses the Rust crate as others do, in clones of what is committed. `cargo test` tests the crate itself.
 
-- A new package gets it by `cargo add --git` and runs, on a PATH without Python, with an empty CARGO_HOME and no network;
-  and once more with what `cargo vendor` fetched, from a folder in which nothing can be written.
+- A new package gets it by `cargo add --git` and runs, on a PATH without Python, with an empty CARGO_HOME and no
+  network; and once more with what `cargo vendor` fetched, from a folder in which nothing can be written.
 - A workspace has it under vendor/, as a member and as none.
 - A program that has no allocator links, with the features `arrayvec` and `gimli`.
 - Plain sources, as rust/README.md makes them, are built by rustc alone.
 - The example prints where the variables of a program are that `cc -g` makes.
 - `cargo package` packs it, with its licences.
 
-The variables DWEXPR_GIMLI and DWEXPR_ARRAYVEC name folders with gimli 0.34 and arrayvec 0.7. Without them empty packages
-stand in, and what needs their features is left out. The last line is `N passed, M failed`.
+The variables DWEXPR_GIMLI and DWEXPR_ARRAYVEC name folders with gimli 0.34 and arrayvec 0.7. Without them empty
+packages stand in, and what needs their features is left out. The last line is `N passed, M failed`.
 """
 
 import os
@@ -19,7 +19,7 @@ import shutil
 import textwrap
 
 import checks
-from checks import check, commands, expect, lacks
+from checks import check, commands, expect, lacks, left_out
 from commands import TOP
 
 checks.SECONDS = 600
@@ -58,7 +58,8 @@ def try_git(folder):
         for path in (app / "vendor").rglob("*"):
             path.chmod(0o555 if path.is_dir() else 0o444)
         env |= {"CARGO_TARGET_DIR": str(folder / "frozen")}
-        checks.prints("a package with the crate vendored", ["cargo", "run", "-q", "--frozen"], PRINTED, cwd=app, env=env)
+        words = ["cargo", "run", "--quiet", "--frozen"]
+        checks.prints("a package with the crate vendored", words, PRINTED, cwd=app, env=env)
 
 
 def try_workspace(folder):
@@ -75,8 +76,6 @@ def try_workspace(folder):
 def try_without_allocator(folder):
     """A program that has no allocator links, and finds a variable: it ends with the low byte of its address."""
     shutil.copytree(PARTS / "alone", folder / "alone")
-    (folder / "alone/src").mkdir()
-    shutil.copy(TOP / "bench/small/arrays.rs", folder / "alone/src/main.rs")
     env = {**os.environ, "RUSTFLAGS": "-Clink-arg=-lc"}
     done = checks.run(["cargo", "run", "--quiet"], cwd=folder / "alone", env=env)
     expect(done.returncode == 0xF0, "a program without an allocator", done.stderr)
@@ -106,6 +105,9 @@ def try_example(crate, folder):
 
 def main():
     if lacks("the Rust crate", "cargo", "rustc", "git", "cc"):
+        return
+    if not (TOP / ".git").exists():
+        left_out("users of the Rust crate", "commit of these sources, which is cloned")
         return
     found = commands.features()
     for name in commands.NEEDED.keys() - set(found):

@@ -20,7 +20,9 @@ CLAUSES = ("requires", "ensures")
 # Imports of what Rust doesn't have.
 IMPORTS = ["use std : : marker : : Model ;", "use std : : alloc : : AllocError ;"]
 # A clone that may fail; Rust derives one.
-CLONE = re.compile(r"\{ (ghost [^;]* ; )*fn clone \( & self \) - > Result < Self , AllocError > \{ Ok \( \* self \) \} \}")
+CLONE = re.compile(
+    r"\{ (ghost [^;]* ; )*fn clone \( & self \) - > Result < Self , AllocError > \{ Ok \( \* self \) \} \}"
+)
 KNOWN_MACROS = {"matches", "unreachable"}
 CLOSING = {"(": ")", "[": "]", "{": "}"}
 
@@ -169,7 +171,8 @@ class Source:
         end = self.close(block)
         self.want(self.word(end + 1) in (*CLAUSES, "{", ";"), end + 1, "no body follows the clauses")
         function = next(place for place in range(at, -2, -1) if self.word(place) in ("fn", ""))
-        if self.word(at) == "requires" and self.word(function - 1) in ("pub", '"C"'):
+        is_public = self.word(function - 1) in ("pub", '"C"') or self.is_in_trait(at)
+        if self.word(at) == "requires" and is_public:
             self.conditions.append((self.word(function + 1), " ".join(self.words(block + 1, end - 1))))
         return self.delete(at, end)
 
@@ -180,6 +183,13 @@ class Source:
     def use(self, at):
         end = self.find(";", at)
         return self.delete(at, end) if " ".join(self.words(at, end)) in IMPORTS else at + 1
+
+    def is_in_trait(self, at):
+        """Whether a place is in a public trait."""
+        around = [first for first, last in self.partners.items() if first < self.code[at] < last]
+        head = bisect.bisect_left(self.code, min(around, default=0))
+        first = next(place for place in range(head - 1, -2, -1) if self.word(place) in ("}", ";", "]", ""))
+        return self.words(first + 1, first + 2) == ["pub", "trait"]
 
     def model(self, at):
         block = self.find("{", at)

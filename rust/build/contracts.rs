@@ -1,7 +1,7 @@
-//! What isn't Rust in a Rattle source: it is put in comments, so that a Rust compiler accepts the source, each line keeps
-//! its number, and the contract stays beside the code.
+//! Puts what isn't Rust in a Rattle source in comments. So a Rust compiler accepts the source, each line keeps its
+//! number, and the contract stays beside the code.
 //!
-//! This reader goes by how lines begin. The repository's tests read the same sources by their tokens, and compare.
+//! This goes by how lines begin. The repository's tests read the same sources by their tokens, and compare.
 
 /// What begins in a line and isn't Rust; and whether it ends with the braces after it, or right there.
 const CONTRACTS: &[(&str, bool)] = &[
@@ -40,8 +40,8 @@ fn braces(text: &str) -> usize {
     text.len()
 }
 
-/// How long the contract is that begins here, if one does: a clause, a ghost item, a tactic, a word of Rattle's own, the
-/// model of a type, or a clone that may fail, which in Rust is derived.
+/// How long the contract is that begins here, if one does: a clause, a ghost item, a tactic, a word of Rattle's own,
+/// the model of a type, or a clone that may fail, which in Rust is derived.
 fn contract(text: &str) -> Option<usize> {
     if let Some(&(begin, has_braces)) = CONTRACTS.iter().find(|it| text.starts_with(it.0)) {
         return Some(if has_braces { braces(text) } else { begin.trim_end().len() });
@@ -63,13 +63,15 @@ fn contract(text: &str) -> Option<usize> {
     Some(if is_clause { end } else { end + text[end..].find([';', ','])? + 1 })
 }
 
-/// The precondition that a clause says, if the function whose signature ends a text is public.
+/// The precondition that a clause says, if the function whose signature ends a text is public, or a public trait's.
 fn precondition(before: &str, clause: &str) -> Option<Precondition> {
     let inside = clause.strip_prefix("requires ")?.split_once('{')?.1.strip_suffix('}')?;
     let (head, after) = before.rsplit_once("fn ")?;
     let line = head.rsplit('\n').next()?.trim_start();
     let name = after.split(|sign: char| !is_in_word(sign)).next()?;
-    line.starts_with("pub ").then(|| (name.to_owned(), inside.split_whitespace().collect::<Vec<_>>().join(" ")))
+    let is_in_trait = before.rsplit("\n}").next()?.contains("\npub trait ");
+    let is_public = line.starts_with("pub ") || is_in_trait;
+    is_public.then(|| (name.to_owned(), inside.split_whitespace().collect::<Vec<_>>().join(" ")))
 }
 
 /// A source with its contracts in comments, and the preconditions of its public functions.

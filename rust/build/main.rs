@@ -25,7 +25,8 @@ const ALLOWED: &str = "#![allow(dead_code, unused_imports, non_upper_case_global
 fn rename_unchecked(sources: &mut Sources, condition: &str) {
     let all = sources.all.iter().flat_map(|it| &it.preconditions).filter(|it| it.1 == condition);
     for name in all.map(|it| it.0.clone()).collect::<Vec<_>>() {
-        sources.replace(|_| true, &format!("pub fn {name}("), &format!("pub(crate) fn {name}_unchecked("));
+        let met = sources.replace(|_| true, &format!("pub fn {name}("), &format!("pub(crate) fn {name}_unchecked("));
+        assert!(met == 1, "{met} public functions are `{name}`, whose precondition is `{condition}`");
         sources.replace(|_| true, &format!(".{name}("), &format!(".{name}_unchecked("));
     }
 }

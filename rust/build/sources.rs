@@ -1,6 +1,7 @@
 //! The proved sources on their way into a package: contracts in comments, rows applied, paths rooted.
 
 use crate::contracts::{Precondition, commented, is_in_word};
+use std::collections::BTreeSet;
 use std::path::{Path, PathBuf};
 use std::{env, fs};
 
@@ -101,29 +102,27 @@ impl Sources {
     }
 
     /// Refuses a precondition that a file of preconditions doesn't have, and one in it that no function has. A line of
-    /// it has a precondition, a colon and the functions; others say what checks those below.
+    /// it has a precondition, a colon and the functions, or `*` for any; others say what checks those below.
     pub fn check_preconditions(&self, list: &str, is_of: impl Fn(&str) -> bool) {
         let text = read(&self.top.join(list));
         let lines = text.lines().filter(|it| !it.starts_with('#')).filter_map(|it| it.rsplit_once(": "));
         let listed = lines.flat_map(|(condition, names)| names.split(' ').map(move |it| (it, condition)));
-        let mut listed: Vec<_> = listed.collect();
+        let mut unmet: BTreeSet<_> = listed.collect();
+        let listed = unmet.clone();
         for source in self.all.iter().filter(|it| is_of(&it.path)) {
             for (name, condition) in &source.preconditions {
-                let at = listed.iter().position(|it| it == &(name.as_str(), condition.as_str()));
-                let at = at.unwrap_or_else(|| {
-                    panic!(
-                        "`{name}` in {} has the precondition `{condition}`, and {list} names no check of it",
-                        source.path
-                    )
-                });
-                listed.remove(at);
+                let ways = [(name.as_str(), condition.as_str()), ("*", condition.as_str())];
+                unmet.retain(|it| !ways.contains(it));
+                if !ways.iter().any(|it| listed.contains(it)) {
+                    panic!("`{name}` in {} has the precondition `{condition}`, which {list} doesn't name", source.path);
+                }
             }
         }
-        assert!(listed.is_empty(), "{list} names preconditions that no function has: {listed:?}");
+        assert!(unmet.is_empty(), "{list} names preconditions that no function has: {unmet:?}");
     }
 
-    /// Applies the rows of a file: each has the path of a source or `everywhere`, text after `-`, and text after `+`, to
-    /// stand in its place. In a source it is met once. A line that begins with `# ` is a remark.
+    /// Applies the rows of a file: each has the path of a source or `everywhere`, text after `-`, and text after `+`,
+    /// to stand in its place. In a source it is met once. A line that begins with `# ` is a remark.
     pub fn apply(&mut self, rows: &str) {
         let text = read(&self.top.join(rows));
         let text: String = text.split_inclusive('\n').filter(|it| !it.starts_with("# ")).collect();

@@ -1,11 +1,11 @@
 //! DWARF expressions, decoded and evaluated (DWARF 5, sections 2.5 and 2.6) under the names of the crate
-//! [gimli](https://github.com/gimli-rs/gimli) 0.34, by proved sources whose contracts were taken out, so that nothing is
-//! proved of this crate itself.
+//! [gimli](https://github.com/gimli-rs/gimli) 0.34, by proved sources whose contracts were taken out, so that nothing
+//! is proved of this crate itself.
 //!
 //! Of the sources, which are in Rattle, it is proved that each call returns and gives what a separate specification
-//! says. The module `sources` has them without their contracts, with a few tokens replaced. The rest is written by hand:
-//! it checks the preconditions of their calls, and adds what gimli's types have besides. Tests show that all of it does
-//! what is proved of the sources.
+//! says. The build script makes the module `sources` of them: it puts their contracts in comments, and replaces a few
+//! types, bounds, attributes and names. The rest is written by hand: it checks the preconditions of their calls, and
+//! adds what gimli's types have besides. Tests show that all of it does what is proved of the sources.
 //!
 //! ```
 //! # #[cfg(feature = "alloc")] {

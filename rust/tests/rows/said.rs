@@ -177,7 +177,8 @@ fn take<R: Reader>(it: &mut Evaluation<R>, step: &str, read: &impl Fn(&[u8]) -> 
     })
 }
 
-/// The lines of `dwexpr eval`: each reply, up to a step out of turn, and of a complete evaluation the pieces and the value.
+/// The lines of `dwexpr eval`: each reply, up to a step out of turn, and of a complete evaluation the pieces and the
+/// value.
 pub fn evaluation<R: Reader>(bytes: &[u8], encoding: Encoding, steps: &str, read: impl Fn(&[u8]) -> R) -> String {
     let (mut evaluation, mut said) = (Evaluation::new(read(bytes), encoding), String::new());
     evaluation.set_max_iterations(MAXIMUM);

@@ -97,7 +97,8 @@ int dwexpr_libdw_names(Dwarf_Die *site, const dwexpr_libdw_frame *caller, const 
         return begin + caller->place.bias == entry;
     name = symbol.name = external_name(&origin);
     wanted = external_name(&function);
-    return name && ((wanted && !strcmp(name, wanted)) || dwexpr_libdw_find_symbol(called->place.module, entry, &symbol));
+    return name && ((wanted && !strcmp(name, wanted)) ||
+                    dwexpr_libdw_find_symbol(called->place.module, entry, &symbol));
 }
 
 /* ---- tail calls */
@@ -110,7 +111,9 @@ uint64_t dwexpr_libdw_called_address(Dwarf_Die *site, const dwexpr_libdw_frame *
     if (origin_of(site, &origin) && dwexpr_libdw_has_entry(&origin, &entry))
         return entry + caller->place.bias;
     symbol.name = dwexpr_libdw_linkage_name(&origin);
-    return symbol.name && dwexpr_libdw_resolve(caller->source.dwfl, caller->place.module, 0, &symbol) ? symbol.address : 0;
+    return symbol.name && dwexpr_libdw_resolve(caller->source.dwfl, caller->place.module, 0, &symbol)
+               ? symbol.address
+               : 0;
 }
 
 int dwexpr_libdw_enter(const dwexpr_libdw_frame *caller, uint64_t address, dwexpr_libdw_frame *entered)

@@ -229,8 +229,8 @@ static int on_module(Dwfl_Module *module, void **data, const char *name, Dwarf_A
 
 int dwexpr_libdw_find_module(dwexpr_libdw_frame *frame, Dwarf_CU *unit, Dwfl_Module **module, Dwarf_Addr *bias)
 {
-    struct wanted wanted = {dwarf_cu_getdwarf(unit), 0, NULL, 0};
-    uint8_t kind = 0;
+    struct wanted wanted = {.dwarf = dwarf_cu_getdwarf(unit)};
+    uint8_t kind = DW_UT_compile;
     dwexpr_libdw_find_place(frame);
     *module = frame->place.module;
     *bias = frame->place.bias;
@@ -239,10 +239,7 @@ int dwexpr_libdw_find_module(dwexpr_libdw_frame *frame, Dwarf_CU *unit, Dwfl_Mod
         return 0;
     dwarf_cu_info(unit, NULL, &kind, NULL, NULL, NULL, NULL, NULL);
     wanted.is_split = kind == DW_UT_split_compile || kind == DW_UT_split_type;
-    if (!frame->source.dwfl || !wanted.dwarf)
-        return 1;
-    if (!frame->place.module || on_module(frame->place.module, NULL, NULL, 0, &wanted) == DWARF_CB_OK)
-        dwfl_getmodules(frame->source.dwfl, on_module, &wanted, 0);
+    dwfl_getmodules(frame->source.dwfl, on_module, &wanted, 0);
     *module = wanted.module;
     *bias = wanted.bias;
     return !wanted.module;
@@ -341,8 +338,8 @@ static uint32_t add_variables(struct entries *entries, Dwarf_Die *parent, Dwarf_
     return code;
 }
 
-/* Adds the function that ends a level, and the variables of its scopes, the innermost first: those that stand there, and
- * those that only the entry of which a scope is an instance has. */
+/* Adds the function that ends a level, and the variables of its scopes, the innermost first: those that stand there,
+ * and those that only the entry of which a scope is an instance has. */
 static uint32_t add_level(struct entries *entries, Dwarf_Die *scopes, size_t count, unsigned level, int is_enclosing)
 {
     uint32_t code = add_entry(entries, &scopes[count - 1], level, is_enclosing);

@@ -37,10 +37,9 @@ static void visit_units(dwexpr_libdw_frame *frame, Dwfl_Module *module, struct v
         return;
     }
     visit.unit = frame->place.unit.addr;
-    if ((visit.unit && visit.on_unit(&frame->place.unit, visit.given)) || !frame->source.dwfl ||
-        (visit.module && visit_module(visit.module, NULL, NULL, 0, &visit) != DWARF_CB_OK))
-        return;
-    dwfl_getmodules(frame->source.dwfl, visit_module, &visit, 0);
+    if (!(visit.unit && visit.on_unit(&frame->place.unit, visit.given)) &&
+        !(visit.module && visit_module(visit.module, NULL, NULL, 0, &visit) != DWARF_CB_OK))
+        dwfl_getmodules(frame->source.dwfl, visit_module, &visit, 0);
 }
 
 const char *dwexpr_libdw_linkage_name(Dwarf_Die *entry)

@@ -345,8 +345,9 @@ def refused(folder):
             count_of("refused.c", [program, core, 100], env=BUT_FOR_LIBDW)
 
 
-# At most so many lines of 100 that no test takes.
+# At most so many lines of 100 that no test takes, in the builds of the library together.
 MOST_UNTAKEN = 3
+KINDS_BUILT = ["plain", "checked", "refusing"]
 
 
 def counted_by_gcov(folder):
@@ -363,7 +364,7 @@ def counted_by_gcov(folder):
 def untaken(folder):
     """The lines and branches that no test has taken."""
     counts = {}
-    for place, found in itertools.chain.from_iterable(map(counted_by_gcov, [folder / "plain", folder / "refusing"])):
+    for place, found in itertools.chain.from_iterable(map(counted_by_gcov, (folder / kind for kind in KINDS_BUILT))):
         before = counts.setdefault(place, [0] * len(found))
         counts[place] = [one + other for one, other in itertools.zip_longest(before, found, fillvalue=0)]
     lines = sum(not found[0] for found in counts.values())

@@ -141,31 +141,33 @@ static uint32_t find_scopes(Dwarf_Die *unit, Dwarf_Addr address, struct dwexpr_l
 /* ---- the place of a frame */
 
 /* Whether a unit has an address: by its own addresses, or by those of its functions if it has none, or not all, as in
- * version 2, which has no ranges. */
+ * version 2, which has no ranges. It is -1 if there is no memory to know. */
 static int unit_has(Dwarf_Die *unit, Dwarf_Addr address)
 {
     struct dwexpr_libdw_walk walk;
     Dwarf_Half version = 0;
     int found = dwarf_haspc(unit, address) > 0;
     dwarf_cu_info(unit->cu, &version, NULL, NULL, NULL, NULL, NULL, NULL);
-    if (found || (version > 2 && (dwarf_hasattr(unit, DW_AT_low_pc) || dwarf_hasattr(unit, DW_AT_ranges))) ||
-        find_scopes(unit, address, &walk))
+    if (found || (version > 2 && (dwarf_hasattr(unit, DW_AT_low_pc) || dwarf_hasattr(unit, DW_AT_ranges))))
         return found;
+    if (find_scopes(unit, address, &walk))
+        return -1;
     found = walk.depth > 1;
     free(walk.path);
     return found;
 }
 
 /* The unit that has an address, by the table of addresses, or by their own if a compiler writes no table. */
-static Dwarf_Die *find_unit(Dwfl_Module *module, Dwarf_Addr address, Dwarf_Addr *bias)
+static uint32_t find_unit(Dwfl_Module *module, Dwarf_Addr address, Dwarf_Addr *bias, Dwarf_Die **unit)
 {
-    Dwarf_Die *unit = dwfl_module_addrdie(module, address, bias);
-    if (unit && unit_has(unit, address - *bias))
-        return unit;
-    unit = NULL;
-    while ((unit = dwfl_module_nextcu(module, unit, bias)) != NULL && !unit_has(unit, address - *bias))
-        ;
-    return unit;
+    int found;
+    *unit = dwfl_module_addrdie(module, address, bias);
+    found = *unit ? unit_has(*unit, address - *bias) : 0;
+    if (!found)
+        *unit = NULL;
+    while (!found && (*unit = dwfl_module_nextcu(module, *unit, bias)) != NULL)
+        found = unit_has(*unit, address - *bias);
+    return found < 0 ? DWEXPR_LIBDW_NO_MEMORY : 0;
 }
 
 uint32_t dwexpr_libdw_find_place(dwexpr_libdw_frame *frame)
@@ -185,8 +187,10 @@ uint32_t dwexpr_libdw_find_place(dwexpr_libdw_frame *frame)
     place->module = frame->source.dwfl ? dwfl_addrmodule(frame->source.dwfl, address) : NULL;
     unit = frame->source.unit;
     if (!unit && place->module)
-        unit = find_unit(place->module, address, &place->bias);
+        frame->code = find_unit(place->module, address, &place->bias, &unit);
     place->address = address - place->bias;
+    if (frame->code)
+        return frame->code;
     if (!unit) {
         frame->code = frame->source.dwfl ? DWEXPR_LIBDW_NO_UNIT : 0;
         return frame->code;

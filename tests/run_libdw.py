@@ -14,7 +14,7 @@
   dump, under valgrind.
 - tests/libdw/frames.c on stopped processes: registers and values of callers, limits, and reads by two threads.
 - examples/where.c and gdb, for processes and core dumps (compare_gdb.py).
-- tests/libdw/refused.c: a core dump, where each call of malloc in turn is refused.
+- tests/libdw/refused.c and functions.c: a core dump and programs, where each call of malloc in turn is refused.
 - tests/libdw/hostile.c: programs whose debug information has wrong bytes.
 
 It takes two minutes on four processors. It wants cc and libdw; what else is missing is left out, and said so. The last
@@ -343,6 +343,9 @@ def refused(folder):
     for core in folder.glob("dump"):
         if program:
             count_of("refused.c", [program, core, 100], env=BUT_FOR_LIBDW)
+    program = built("tests/libdw/functions.c", folder / "functions_refused", *SANITIZERS[:-1])
+    if program:
+        count_of("functions.c, refused", [program, 37, *folder.glob("*.functions")], env=BUT_FOR_LIBDW)
 
 
 # At most so many lines of 100 that no test takes, in the builds of the library together.

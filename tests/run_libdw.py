@@ -14,7 +14,7 @@
   dump, under valgrind.
 - c/libdw/tests/frames.c on stopped processes: registers and values of callers, limits, and reads by two threads.
 - examples/where.c and gdb, for processes and core dumps (compare_gdb.py).
-- c/libdw/tests/refused.c: a core dump, where each call of malloc in turn is refused.
+- c/libdw/tests/refused.c and functions.c: a core dump and programs, where each call of malloc in turn is refused.
 - c/libdw/tests/hostile.c: programs whose debug information has wrong bytes.
 
 It takes two minutes on four processors. It wants cc and libdw; what else is missing is left out, and said so. The last
@@ -257,7 +257,7 @@ def examples(folder):
 
 @contextlib.contextmanager
 def stopped_at(folder, source, compiler, words, place):
-    """A process that stopped at a place of a program in c/libdw/tests/stopped or tests/libdw, or None. It ends with the block.
+    """A process that stopped at a place of a program of the tests over libdw, or None. It ends with the block.
     """
     program = folder / f"{source}-{compiler}{words[0]}"
     path = next(filter(pathlib.Path.exists, (TESTS / it / source for it in ("stopped", "."))))
@@ -379,10 +379,14 @@ def refused(folder):
     for core in folder.glob("dump"):
         if program:
             count_of("refused.c", [program, core, 100], env=BUT_FOR_LIBDW)
+    program = built("tests/functions.c", folder / "functions_refused", *SANITIZERS[:-1])
+    if program:
+        count_of("functions.c, refused", [program, 37, *folder.glob("*.functions")], env=BUT_FOR_LIBDW)
 
 
-# At most so many lines of 100 that no test takes.
+# At most so many lines of 100 that no test takes, in the builds of the library together.
 MOST_UNTAKEN = 3
+KINDS_BUILT = ["plain", "checked", "refusing"]
 
 
 def counted_by_gcov(folder):
@@ -399,7 +403,7 @@ def counted_by_gcov(folder):
 def untaken(folder):
     """The lines and branches that no test has taken."""
     counts = {}
-    for place, found in itertools.chain.from_iterable(map(counted_by_gcov, [folder / "plain", folder / "refusing"])):
+    for place, found in itertools.chain.from_iterable(map(counted_by_gcov, (folder / kind for kind in KINDS_BUILT))):
         before = counts.setdefault(place, [0] * len(found))
         counts[place] = [one + other for one, other in itertools.zip_longest(before, found, fillvalue=0)]
     lines = sum(not found[0] for found in counts.values())

@@ -273,8 +273,8 @@ uint32_t dwexpr_libdw_number(dwexpr_libdw_frame *frame, Dwarf_Attribute *attribu
 uint32_t dwexpr_libdw_points_into(const dwexpr_libdw_value *value, const dwexpr_piece *piece, Dwarf_Die *variable);
 
 /* The bytes of a value that has this many bits, as they would be in memory, of the frame that the value names. Its
- * pieces follow each other from the
- * lowest bit of each byte in little endian, and from the highest in big endian. The last byte is filled up with zeros.
+ * pieces follow each other from the lowest bit of each byte in little endian, and from the highest in big endian. The
+ * last byte is filled up with zeros.
  *
  * Answers 0 if every bit is known. Else it answers why the first unknown bit isn't: DWEXPR_LIBDW_OPTIMIZED_AWAY,
  * _IMPLICIT_POINTER, _NOT_READABLE, _TOO_SMALL or _BAD_REGISTER. Unknown bits are zeros in `bytes` and ones in

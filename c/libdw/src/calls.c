@@ -1,11 +1,12 @@
 /* The call that led to a frame, and what it passed (DWARF 5, section 3.4). */
 #include "private.h"
 
-/* Goes to the next call site of a function, in its blocks and in what is inlined into it. */
+/* Goes to the next call site of a function, in its blocks and in what is inlined into it. Gives back as
+ * dwexpr_libdw_next_entry does. */
 static int next_call_site(struct dwexpr_libdw_walk *walk, Dwarf_Die *site)
 {
-    int enters = walk->depth == walk->floor; /* where it began */
-    while (dwexpr_libdw_next_entry(walk, enters) > 0) {
+    int enters = walk->depth == walk->floor, more; /* where it began */
+    while ((more = dwexpr_libdw_next_entry(walk, enters)) > 0) {
         const int tag = dwarf_tag(&walk->path[walk->depth - 1]);
         *site = walk->path[walk->depth - 1];
         if (tag == DW_TAG_call_site || tag == DW_TAG_GNU_call_site)
@@ -13,7 +14,7 @@ static int next_call_site(struct dwexpr_libdw_walk *walk, Dwarf_Die *site)
         enters = tag == DW_TAG_lexical_block || tag == DW_TAG_inlined_subroutine || tag == DW_TAG_try_block ||
                  tag == DW_TAG_catch_block;
     }
-    return 0;
+    return more;
 }
 
 /* An attribute of a call site, which has another name before version 5. */
@@ -44,7 +45,7 @@ int dwexpr_libdw_find_call_site(dwexpr_libdw_frame *frame, Dwarf_Die *site)
     if (!caller || dwexpr_libdw_find_place(frame) || dwexpr_libdw_find_place(caller) || !frame->place.function.addr ||
         !caller->place.function.addr || dwexpr_libdw_begin_walk(&walk, &caller->place.function))
         return 0;
-    while (!found && next_call_site(&walk, site)) {
+    while (!found && next_call_site(&walk, site) > 0) {
         Dwarf_Attribute attribute;
         Dwarf_Addr address;
         found = !dwarf_formaddr(attribute_of(site, DW_AT_call_return_pc, DW_AT_low_pc, &attribute), &address) &&
@@ -97,7 +98,8 @@ int dwexpr_libdw_names(Dwarf_Die *site, const dwexpr_libdw_frame *caller, const 
         return begin + caller->place.bias == entry;
     name = symbol.name = external_name(&origin);
     wanted = external_name(&function);
-    return name && ((wanted && !strcmp(name, wanted)) || dwexpr_libdw_find_symbol(called->place.module, entry, &symbol));
+    return name && ((wanted && !strcmp(name, wanted)) ||
+                    dwexpr_libdw_find_symbol(called->place.module, entry, &symbol));
 }
 
 /* ---- tail calls */
@@ -110,7 +112,9 @@ uint64_t dwexpr_libdw_called_address(Dwarf_Die *site, const dwexpr_libdw_frame *
     if (origin_of(site, &origin) && dwexpr_libdw_has_entry(&origin, &entry))
         return entry + caller->place.bias;
     symbol.name = dwexpr_libdw_linkage_name(&origin);
-    return symbol.name && dwexpr_libdw_resolve(caller->source.dwfl, caller->place.module, 0, &symbol) ? symbol.address : 0;
+    return symbol.name && dwexpr_libdw_resolve(caller->source.dwfl, caller->place.module, 0, &symbol)
+               ? symbol.address
+               : 0;
 }
 
 int dwexpr_libdw_enter(const dwexpr_libdw_frame *caller, uint64_t address, dwexpr_libdw_frame *entered)
@@ -129,43 +133,44 @@ int dwexpr_libdw_find_tail_call(const dwexpr_libdw_frame *between, const dwexpr_
 {
     struct dwexpr_libdw_walk walk;
     Dwarf_Die other;
-    int count = 0;
+    int count = 0, more;
     if (dwexpr_libdw_begin_walk(&walk, &between->place.function))
         return 0;
-    while (next_call_site(&walk, &other))
+    while ((more = next_call_site(&walk, &other)) > 0)
         if (is_tail_call(&other)) {
             *site = other;
             count++;
         }
     free(walk.path);
-    return count == 1 && dwexpr_libdw_names(site, between, called) > 0;
+    return more == 0 && count == 1 && dwexpr_libdw_names(site, between, called) > 0;
 }
 
 /* The most functions that are looked at for a tail call of the first of them. */
 enum { MOST_FUNCTIONS = 32 };
 
-/* Adds the functions to which one leaves by tail calls. Gives back 1 if one of them may be the first, else 0. */
+/* Adds the functions to which one leaves by tail calls. Gives back 1 if one of them may be the first, or if there is no
+ * memory to know; else 0. */
 static int add_tail_calls(dwexpr_libdw_frame *functions, int at, int *count)
 {
     struct dwexpr_libdw_walk walk;
     Dwarf_Die site;
-    int found = dwexpr_libdw_begin_walk(&walk, &functions[at].place.function) != 0, i;
-    if (found)
-        return 1;
-    while (!found && next_call_site(&walk, &site)) {
+    int found = dwexpr_libdw_begin_walk(&walk, &functions[at].place.function) != 0, more = 0, i;
+    while (!found && (more = next_call_site(&walk, &site)) > 0) {
+        dwexpr_libdw_frame *next = &functions[*count];
         if (!is_tail_call(&site))
             continue;
         found = dwexpr_libdw_names(&site, &functions[at], &functions[0]) != 0 || *count == MOST_FUNCTIONS;
-        if (found || !dwexpr_libdw_enter(&functions[at], dwexpr_libdw_called_address(&site, &functions[at]),
-                                         &functions[*count]))
+        if (found || !dwexpr_libdw_enter(&functions[at], dwexpr_libdw_called_address(&site, &functions[at]), next)) {
+            found = found || next->code == DWEXPR_LIBDW_NO_MEMORY;
             continue;
+        }
         for (i = 0; i < *count; i++)
             if (functions[i].place.function.addr == functions[*count].place.function.addr)
                 break;
         *count += i == *count;
     }
     free(walk.path);
-    return found;
+    return found || more < 0;
 }
 
 int dwexpr_libdw_may_call_itself(dwexpr_libdw_frame *frame)

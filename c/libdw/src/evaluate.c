@@ -569,8 +569,8 @@ uint32_t dwexpr_libdw_evaluate(dwexpr_libdw_frame *frame, const dwexpr_libdw_tex
 
 /* ---- the frame of an entry's function */
 
-/* The caller whose function encloses that of a frame: the one whose frame base DW_AT_static_link gives, or else the only
- * one there is. GCC writes a link also if no caller sets it. NULL if it isn't known. */
+/* The caller whose function encloses that of a frame: the one whose frame base DW_AT_static_link gives, or else the
+ * only one there is. GCC writes a link also if no caller sets it. NULL if it isn't known. */
 static dwexpr_libdw_frame *enclosing_frame(dwexpr_libdw_frame *inner, const Dwarf_Die *function)
 {
     Dwarf_Attribute attribute;

@@ -141,31 +141,33 @@ static uint32_t find_scopes(Dwarf_Die *unit, Dwarf_Addr address, struct dwexpr_l
 /* ---- the place of a frame */
 
 /* Whether a unit has an address: by its own addresses, or by those of its functions if it has none, or not all, as in
- * version 2, which has no ranges. */
+ * version 2, which has no ranges. It is -1 if there is no memory to know. */
 static int unit_has(Dwarf_Die *unit, Dwarf_Addr address)
 {
     struct dwexpr_libdw_walk walk;
     Dwarf_Half version = 0;
     int found = dwarf_haspc(unit, address) > 0;
     dwarf_cu_info(unit->cu, &version, NULL, NULL, NULL, NULL, NULL, NULL);
-    if (found || (version > 2 && (dwarf_hasattr(unit, DW_AT_low_pc) || dwarf_hasattr(unit, DW_AT_ranges))) ||
-        find_scopes(unit, address, &walk))
+    if (found || (version > 2 && (dwarf_hasattr(unit, DW_AT_low_pc) || dwarf_hasattr(unit, DW_AT_ranges))))
         return found;
+    if (find_scopes(unit, address, &walk))
+        return -1;
     found = walk.depth > 1;
     free(walk.path);
     return found;
 }
 
 /* The unit that has an address, by the table of addresses, or by their own if a compiler writes no table. */
-static Dwarf_Die *find_unit(Dwfl_Module *module, Dwarf_Addr address, Dwarf_Addr *bias)
+static uint32_t find_unit(Dwfl_Module *module, Dwarf_Addr address, Dwarf_Addr *bias, Dwarf_Die **unit)
 {
-    Dwarf_Die *unit = dwfl_module_addrdie(module, address, bias);
-    if (unit && unit_has(unit, address - *bias))
-        return unit;
-    unit = NULL;
-    while ((unit = dwfl_module_nextcu(module, unit, bias)) != NULL && !unit_has(unit, address - *bias))
-        ;
-    return unit;
+    int found;
+    *unit = dwfl_module_addrdie(module, address, bias);
+    found = *unit ? unit_has(*unit, address - *bias) : 0;
+    if (!found)
+        *unit = NULL;
+    while (!found && (*unit = dwfl_module_nextcu(module, *unit, bias)) != NULL)
+        found = unit_has(*unit, address - *bias);
+    return found < 0 ? DWEXPR_LIBDW_NO_MEMORY : 0;
 }
 
 uint32_t dwexpr_libdw_find_place(dwexpr_libdw_frame *frame)
@@ -185,8 +187,10 @@ uint32_t dwexpr_libdw_find_place(dwexpr_libdw_frame *frame)
     place->module = frame->source.dwfl ? dwfl_addrmodule(frame->source.dwfl, address) : NULL;
     unit = frame->source.unit;
     if (!unit && place->module)
-        unit = find_unit(place->module, address, &place->bias);
+        frame->code = find_unit(place->module, address, &place->bias, &unit);
     place->address = address - place->bias;
+    if (frame->code)
+        return frame->code;
     if (!unit) {
         frame->code = frame->source.dwfl ? DWEXPR_LIBDW_NO_UNIT : 0;
         return frame->code;
@@ -229,8 +233,8 @@ static int on_module(Dwfl_Module *module, void **data, const char *name, Dwarf_A
 
 int dwexpr_libdw_find_module(dwexpr_libdw_frame *frame, Dwarf_CU *unit, Dwfl_Module **module, Dwarf_Addr *bias)
 {
-    struct wanted wanted = {dwarf_cu_getdwarf(unit), 0, NULL, 0};
-    uint8_t kind = 0;
+    struct wanted wanted = {.dwarf = dwarf_cu_getdwarf(unit)};
+    uint8_t kind = DW_UT_compile;
     dwexpr_libdw_find_place(frame);
     *module = frame->place.module;
     *bias = frame->place.bias;
@@ -239,10 +243,7 @@ int dwexpr_libdw_find_module(dwexpr_libdw_frame *frame, Dwarf_CU *unit, Dwfl_Mod
         return 0;
     dwarf_cu_info(unit, NULL, &kind, NULL, NULL, NULL, NULL, NULL);
     wanted.is_split = kind == DW_UT_split_compile || kind == DW_UT_split_type;
-    if (!frame->source.dwfl || !wanted.dwarf)
-        return 1;
-    if (!frame->place.module || on_module(frame->place.module, NULL, NULL, 0, &wanted) == DWARF_CB_OK)
-        dwfl_getmodules(frame->source.dwfl, on_module, &wanted, 0);
+    dwfl_getmodules(frame->source.dwfl, on_module, &wanted, 0);
     *module = wanted.module;
     *bias = wanted.bias;
     return !wanted.module;
@@ -341,8 +342,8 @@ static uint32_t add_variables(struct entries *entries, Dwarf_Die *parent, Dwarf_
     return code;
 }
 
-/* Adds the function that ends a level, and the variables of its scopes, the innermost first: those that stand there, and
- * those that only the entry of which a scope is an instance has. */
+/* Adds the function that ends a level, and the variables of its scopes, the innermost first: those that stand there,
+ * and those that only the entry of which a scope is an instance has. */
 static uint32_t add_level(struct entries *entries, Dwarf_Die *scopes, size_t count, unsigned level, int is_enclosing)
 {
     uint32_t code = add_entry(entries, &scopes[count - 1], level, is_enclosing);

@@ -37,10 +37,9 @@ static void visit_units(dwexpr_libdw_frame *frame, Dwfl_Module *module, struct v
         return;
     }
     visit.unit = frame->place.unit.addr;
-    if ((visit.unit && visit.on_unit(&frame->place.unit, visit.given)) || !frame->source.dwfl ||
-        (visit.module && visit_module(visit.module, NULL, NULL, 0, &visit) != DWARF_CB_OK))
-        return;
-    dwfl_getmodules(frame->source.dwfl, visit_module, &visit, 0);
+    if (!(visit.unit && visit.on_unit(&frame->place.unit, visit.given)) &&
+        !(visit.module && visit_module(visit.module, NULL, NULL, 0, &visit) != DWARF_CB_OK))
+        dwfl_getmodules(frame->source.dwfl, visit_module, &visit, 0);
 }
 
 const char *dwexpr_libdw_linkage_name(Dwarf_Die *entry)
@@ -236,8 +235,9 @@ int dwexpr_libdw_find_symbol(Dwfl_Module *module, Dwarf_Addr address, struct dwe
     symbol->module = module;
     for (i = module ? dwfl_module_getsymtab(module) : 0; i > 0; i--) {
         const char *found = dwfl_module_getsym_info(module, i - 1, &symbol->symbol, &symbol->address, NULL, NULL, NULL);
-        if ((symbol->address == address || !address) && symbol->symbol.st_shndx != SHN_UNDEF && found &&
-            !strcmp(found, symbol->name))
+        const int is_wanted = address ? symbol->address == address
+                                      : GELF_ST_BIND(symbol->symbol.st_info) != STB_LOCAL;
+        if (found && is_wanted && symbol->symbol.st_shndx != SHN_UNDEF && !strcmp(found, symbol->name))
             return 1;
     }
     return 0;

@@ -62,8 +62,8 @@ struct dwexpr_libdw_walk {
 uint32_t dwexpr_libdw_begin_walk(struct dwexpr_libdw_walk *walk, const Dwarf_Die *first);
 /* Goes to the next entry, into the children if `enters`. Gives back 1; 0 at the end; or -1 if there is no memory. */
 int dwexpr_libdw_next_entry(struct dwexpr_libdw_walk *walk, int enters);
-/* Begins a walk that has gone down to an entry, so that the path has the entry's parents; it is empty if the entry isn't
- * there. */
+/* Begins a walk that has gone down to an entry, so that the path has the entry's parents; it is empty if the entry
+ * isn't there. */
 uint32_t dwexpr_libdw_find_path(struct dwexpr_libdw_walk *walk, const Dwarf_Die *first, const Dwarf_Die *entry);
 
 /* The bytes of a number and its encoding, as a type says them, or that of which it is a range. Gives back 0 if both are
@@ -111,8 +111,8 @@ struct dwexpr_libdw_symbol {
     Dwarf_Addr address; /* unless it is in thread-local storage */
 };
 
-/* Finds a symbol of a module by its name, at an address if that isn't 0: a function may have several. Gives back whether
- * there is one. */
+/* Finds a symbol of a module by its name: at an address if that isn't 0, as a function may have several, and else one
+ * that is the same in all its units. Gives back whether there is one. */
 int dwexpr_libdw_find_symbol(Dwfl_Module *module, Dwarf_Addr address, struct dwexpr_libdw_symbol *symbol);
 /* Finds the symbol that a name in a module's code stands for: the module's own if it doesn't export that, else that of
  * the program, the module's own, or that of the only module which exports it. If `is_its_own`, only if the module

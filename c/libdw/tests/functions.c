@@ -6,9 +6,11 @@
  *     entry of NAME is VALUE      what it had on entry
  *     count in FRAME is N         how many functions and variables there are
  *
- * `missing` is no such variable. Register 7 has 0x10, others and memory are as in frame.h. */
+ * `missing` is no such variable. With a number before the files, the rows are read again and again, where each time
+ * another call of malloc is refused, one in so many: then a value isn't known, or as it is said. Register 7 has 0x10, others and memory are as in frame.h. */
 #include "check.h"
 #include "frame.h"
+#include "refusing.h"
 #include <fcntl.h>
 #include <unistd.h>
 
@@ -72,9 +74,9 @@ static void check_value(dwexpr_libdw_frame *frame, const char *row, const char *
         name = dwexpr_libdw_code_name(code);
     }
     if (strspn(said, "0123456789abcdef") == 8 && !said[8])
-        check(!code && bytes_of(said, wanted) == 4 && !memcmp(got, wanted, 4), row, said);
+        check(code ? refused_call > 0 : bytes_of(said, wanted) == 4 && !memcmp(got, wanted, 4), row, said);
     else
-        check(code && !strcmp(name, said), row, name);
+        check(code && (refused_call || !strcmp(name, said)), row, name);
     dwexpr_libdw_release(value);
 }
 
@@ -90,7 +92,7 @@ static void check_words(dwexpr_libdw_frame **frames, Dwarf_Die unit, const char 
     sscanf(words, "%63s %7s %63s", name, kind, where);
     if (!strcmp(name, "entry")) {
         found = find_variable(frame, where, &variable, &total);
-        check(found, row, where);
+        check(found || refused_call, row, where);
         code = found ? dwexpr_libdw_on_entry(frame, &variable, &value) : 0;
         if (found)
             check_value(frame, row, said, code, value);
@@ -103,11 +105,11 @@ static void check_words(dwexpr_libdw_frame **frames, Dwarf_Die unit, const char 
         found = find_variable(frame, name, &variable, &total);
     }
     if (!strcmp(name, "count"))
-        check(total == strtoul(said, NULL, 10), row, "how many there are");
+        check(refused_call || total == strtoul(said, NULL, 10), row, "how many there are");
     else if (!strcmp(said, "missing"))
         check(!found, row, "it isn't there");
     else if (!found)
-        check(0, row, name);
+        check(refused_call > 0, row, name);
     else {
         code = dwexpr_libdw_variable(frame, &variable, &value);
         check_value(frame, row, said, code, value);
@@ -130,9 +132,10 @@ static void check_row(Dwfl *dwfl, Dwarf_Die unit, const char *row)
         source.pc = places[i];
         source.is_activation = i == 0;
         source.caller = i + 1 < count ? frames[i + 1] : NULL;
-        dwexpr_libdw_make_frame(&source, &frames[i]);
+        if (dwexpr_libdw_make_frame(&source, &frames[i]))
+            break;
     }
-    for (here += 2; here; here = next) {
+    for (here += 2; here && frames[0]; here = next) {
         next = strstr(here, "; ");
         if (next) {
             *next = 0;
@@ -217,26 +220,40 @@ static void check_foreign(Dwfl *dwfl, Dwarf_Die *unit, const char *path)
     close(file);
 }
 
-int main(int argc, char **argv)
+static void check_file(const char *path)
 {
     static const Dwfl_Callbacks finders = {dwfl_build_id_find_elf, dwfl_standard_find_debuginfo, NULL, NULL};
-    int i;
-    for (i = 1; i < argc; i++) {
-        Dwfl *dwfl = dwfl_begin(&finders);
-        Dwarf_Addr bias;
-        Dwarf_Die *unit = NULL, entry;
-        int more;
-        Dwfl_Module *module = dwfl_report_elf(dwfl, "functions", argv[i], -1, 0, 0);
-        dwfl_report_end(dwfl, NULL, NULL);
-        unit = module ? dwfl_module_nextcu(module, NULL, &bias) : NULL;
-        check(unit != NULL, argv[i], "its unit");
-        for (more = unit ? dwarf_child(unit, &entry) : 1; more == 0; more = dwarf_siblingof(&entry, &entry))
-            if (dwarf_tag(&entry) == DW_TAG_variable && strstr(dwarf_diename(&entry), " is "))
-                check_row(dwfl, *unit, dwarf_diename(&entry));
-        if (unit)
-            check_foreign(dwfl, unit, argv[i]);
+    Dwfl *dwfl = dwfl_begin(&finders);
+    Dwarf_Addr bias;
+    Dwarf_Die *unit = NULL, entry;
+    int more;
+    Dwfl_Module *module = dwfl_report_elf(dwfl, "functions", path, -1, 0, 0);
+    dwfl_report_end(dwfl, NULL, NULL);
+    unit = module ? dwfl_module_nextcu(module, NULL, &bias) : NULL;
+    check(unit != NULL, path, "its unit");
+    for (more = unit ? dwarf_child(unit, &entry) : 1; more == 0; more = dwarf_siblingof(&entry, &entry))
+        if (dwarf_tag(&entry) == DW_TAG_variable && strstr(dwarf_diename(&entry), " is "))
+            check_row(dwfl, *unit, dwarf_diename(&entry));
+    if (unit && !refused_call) {
+        check_foreign(dwfl, unit, path);
         check_nowhere(dwfl);
-        dwfl_end(dwfl);
+    }
+    dwfl_end(dwfl);
+}
+
+int main(int argc, char **argv)
+{
+    const unsigned long step = argc > 2 ? strtoul(argv[1], NULL, 10) : 0;
+    int i;
+    for (i = step ? 2 : 1; i < argc; i++) {
+        unsigned long all;
+        calls = refused_call = 0;
+        check_file(argv[i]);
+        all = calls;
+        for (refused_call = 1; step && refused_call <= all; refused_call += step) {
+            calls = 0;
+            check_file(argv[i]);
+        }
     }
     return finish();
 }

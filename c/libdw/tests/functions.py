@@ -324,7 +324,9 @@ class Functions(Tree):
         self.variable(function, "defined", b"\x03" + self.address(0x1018), external=True)
         self.variable(function, "indirect", b"\x03" + self.address(0x1018) + b"\x23\4", external=True)
         self.variable(function, "in_local", b"\x0e" + self.address(4) + b"\xe0", external=True)
+        # another unit has a variable of the same name to itself
         self.symbols += [("in_memory", 0x1008, 0x11), ("local", 4, 0x16), ("defined", 0x1000, 0x11)]
+        self.symbols += [("in_memory", 0x1004, 0x01), ("nowhere", 0x1004, 0x01)]
         # a module that exports none has each variable where its entry says
         self.row([function.begin], "in_memory in 0 is 08090a0b", "local in 0 is thread-local storage",
                  "nowhere in 0 is it is only declared", "defined in 0 is 18191a1b", "indirect in 0 is 1c1d1e1f",

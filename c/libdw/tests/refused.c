@@ -1,37 +1,11 @@
 /* Reads the variables of a core dump again and again, where each time another call of malloc is refused. What is known
- * then is what is known if none is. The library is built to call these in place of malloc, calloc
- * and realloc.
+ * then is what is known if none is. The library is built to call those of refusing.h.
  *
  *     refused CORE STEP    refuses the first 400 calls, and then one in STEP */
 #include "check.h"
 #include "dwexpr_libdw.h"
+#include "refusing.h"
 #include <dwarf.h>
-
-void *refusing_malloc(size_t size);
-void *refusing_calloc(size_t count, size_t size);
-void *refusing_realloc(void *old, size_t size);
-
-static unsigned long calls, refused_call;
-
-static int refuses(void)
-{
-    return ++calls == refused_call;
-}
-
-void *refusing_malloc(size_t size)
-{
-    return refuses() ? NULL : malloc(size);
-}
-
-void *refusing_calloc(size_t count, size_t size)
-{
-    return refuses() ? NULL : calloc(count, size);
-}
-
-void *refusing_realloc(void *old, size_t size)
-{
-    return refuses() ? NULL : realloc(old, size);
-}
 
 /* What is known of a variable in a frame, if no call is refused. */
 static struct known {

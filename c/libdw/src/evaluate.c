@@ -726,6 +726,21 @@ static uint32_t constant(dwexpr_libdw_frame *frame, Dwarf_Die *variable, Dwarf_A
     return 0;
 }
 
+/* The value of a variable that another unit of its module defines, and that isn't exported. */
+static uint32_t hidden(dwexpr_libdw_frame *frame, Dwarf_Die *variable, Dwfl_Module *module, dwexpr_libdw_value **value)
+{
+    Dwarf_Die *globals;
+    Dwarf_Attribute attribute;
+    size_t count, i;
+    uint32_t code = dwexpr_libdw_globals(frame, module, dwexpr_libdw_linkage_name(variable), &globals, &count);
+    for (i = 0; i < count && !dwarf_attr_integrate(&globals[i], DW_AT_external, &attribute); i++)
+        ;
+    if (!code)
+        code = i < count ? dwexpr_libdw_variable(frame, &globals[i], value) : DWEXPR_LIBDW_NOT_DEFINED;
+    free(globals);
+    return code;
+}
+
 /* The value of a variable that other units see by its name, if it is that of another one: it is only declared here, or
  * a module has its own before this one in the order in which names are looked for, as a program has copies of what its
  * libraries export. */
@@ -735,9 +750,10 @@ static uint32_t named(dwexpr_libdw_frame *frame, Dwarf_Die *variable, int is_dec
     struct dwexpr_libdw_symbol symbol = {.name = dwexpr_libdw_linkage_name(variable)};
     Dwfl_Module *module;
     Dwarf_Addr bias;
-    if (!source->dwfl || !symbol.name || dwexpr_libdw_find_module(frame, variable->cu, &module, &bias) ||
-        !dwexpr_libdw_resolve(source->dwfl, module, !is_declared, &symbol))
+    if (!source->dwfl || !symbol.name || dwexpr_libdw_find_module(frame, variable->cu, &module, &bias))
         return is_declared ? DWEXPR_LIBDW_NOT_DEFINED : 0;
+    if (!dwexpr_libdw_resolve(source->dwfl, module, !is_declared, &symbol))
+        return is_declared ? hidden(frame, variable, module, value) : 0;
     if (!is_declared && symbol.module == module)
         return 0;
     if (GELF_ST_TYPE(symbol.symbol.st_info) == STT_TLS &&

@@ -235,8 +235,10 @@ int dwexpr_libdw_find_symbol(Dwfl_Module *module, Dwarf_Addr address, struct dwe
     symbol->module = module;
     for (i = module ? dwfl_module_getsymtab(module) : 0; i > 0; i--) {
         const char *found = dwfl_module_getsym_info(module, i - 1, &symbol->symbol, &symbol->address, NULL, NULL, NULL);
+        const int type = GELF_ST_TYPE(symbol->symbol.st_info);
+        /* each unit may have a variable of a name to itself */
         const int is_wanted = address ? symbol->address == address
-                                      : GELF_ST_BIND(symbol->symbol.st_info) != STB_LOCAL;
+                                      : GELF_ST_BIND(symbol->symbol.st_info) != STB_LOCAL || type == STT_FUNC;
         if (found && is_wanted && symbol->symbol.st_shndx != SHN_UNDEF && !strcmp(found, symbol->name))
             return 1;
     }

@@ -111,8 +111,8 @@ struct dwexpr_libdw_symbol {
     Dwarf_Addr address; /* unless it is in thread-local storage */
 };
 
-/* Finds a symbol of a module by its name: at an address if that isn't 0, as a function may have several, and else one
- * that is the same in all its units. Gives back whether there is one. */
+/* Finds a symbol of a module by its name: at an address if that isn't 0, as a function may have several, and else that
+ * of a function, or of a variable that isn't local. Gives back whether there is one. */
 int dwexpr_libdw_find_symbol(Dwfl_Module *module, Dwarf_Addr address, struct dwexpr_libdw_symbol *symbol);
 /* Finds the symbol that a name in a module's code stands for: the module's own if it doesn't export that, else that of
  * the program, the module's own, or that of the only module which exports it. If `is_its_own`, only if the module

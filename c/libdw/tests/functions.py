@@ -318,7 +318,7 @@ class Functions(Tree):
         """Variables that are only declared: each is at a symbol, unless that is in thread-local storage or isn't there.
         """
         function = self.function(linkage_name="declaring")
-        for name in ("in_memory", "local", "nowhere"):
+        for name in ("in_memory", "local", "nowhere", "hidden"):
             function.add("variable", name=name, type=self.int, declaration=True, external=True)
         function.add("variable", type=self.int, declaration=True)
         self.variable(function, "defined", b"\x03" + self.address(0x1018), external=True)
@@ -326,10 +326,14 @@ class Functions(Tree):
         self.variable(function, "in_local", b"\x0e" + self.address(4) + b"\xe0", external=True)
         # another unit has a variable of the same name to itself
         self.symbols += [("in_memory", 0x1008, 0x11), ("local", 4, 0x16), ("defined", 0x1000, 0x11)]
-        self.symbols += [("in_memory", 0x1004, 0x01), ("nowhere", 0x1004, 0x01)]
+        self.symbols += [("in_memory", 0x1004, 0x01), ("nowhere", 0x1004, 0x01), ("hidden", 0x1004, 0x01)]
+        # one that isn't exported is found by its entry, and not that of a unit's own
+        for place, attributes in [(0x1004, {}), (0x1020, {"external": True})]:
+            self.variable(self.root, "hidden", b"\x03" + self.address(place), **attributes)
         # a module that exports none has each variable where its entry says
         self.row([function.begin], "in_memory in 0 is 08090a0b", "local in 0 is thread-local storage",
-                 "nowhere in 0 is it is only declared", "defined in 0 is 18191a1b", "indirect in 0 is 1c1d1e1f",
+                 "nowhere in 0 is it is only declared", "hidden in 0 is 20212223", "defined in 0 is 18191a1b",
+                 "indirect in 0 is 1c1d1e1f",
                  "in_local in 0 is thread-local storage")
 
     def sections(self):

@@ -2,8 +2,8 @@
 """README.md and docs/GUIDE.md do what they say.
 
 - Each command after a `$` prints the lines that follow it. `bin/test` is the gate itself, and isn't run.
-- Each program in C, a fence with a `main`, is built from what CMake installs by the command in front of it, in which DIR
-  is where that is. It prints what the remarks after `printf` say. So does each program in Rust, with the crate.
+- Each program in C, a fence with a `main`, is built from what CMake installs by the command in front of it, in which
+  DIR is where that is. It prints what the remarks after `printf` say. So does each program in Rust, with the crate.
 - What README.md says of gdb is so: gdb prints variables of a file that is made by hand, of two units, one with addresses
   of 8 bytes and one of 4.
 

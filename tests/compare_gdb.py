@@ -1,7 +1,8 @@
 """Compares what examples/where.c prints of stopped programs, and of their core dumps, with what gdb says.
 tests/run_libdw.py uses it.
 
-Each program of c/libdw/tests/stopped is built at -O0 to -O3 in versions 4 and 5 of DWARF, and stopped at each of its places.
+Each program of c/libdw/tests/stopped is built at -O0 to -O3 in versions 4 and 5 of DWARF, and stopped at each of its
+places.
 Some are also built with split debug information, link-time optimization, type units, the 64-bit format and for i386, if
 the compiler can. At each place `where` prints the stopped process. The process then ends by a
 signal, and `where` prints the core dump that the kernel writes.

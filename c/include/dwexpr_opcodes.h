@@ -1,5 +1,5 @@
-/* The opcodes of operations, each with its name and the form of its operands. `bin/numbers` of the repository writes the
- * numbers and the names, of the proved sources; the forms are written here:
+/* The opcodes of operations, each with its name and the form of its operands. `bin/numbers` of the repository writes
+ * the numbers and the names, of the proved sources; the forms are written here:
  *   -  none                  a  address
  *   B H I Q  1, 2, 4 and 8 bytes without a sign         b h i q  with one
  *   u  unsigned LEB128       s  signed LEB128           R  register

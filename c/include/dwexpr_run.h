@@ -13,9 +13,9 @@ extern "C" {
 /* The version of the library that is linked, as DWEXPR_VERSION is that of the header. */
 const char *dwexpr_version(void);
 
-/* The texts of a run: first the expression, then each text that it called. The caller has room for them. A text that is
- * called again stands there once, unless more than DWEXPR_RUN_RECENT others were added since and there is room. Pieces and
- * outcomes name a text by its index here:
+/* The texts of a run: first the expression, then each text that it called. The caller has room for them. A text that
+ * is called again stands there once, unless as many as DWEXPR_RUN_RECENT others were added since and there is room.
+ * Pieces and outcomes name a text by its index here:
  *
  *     dwexpr_text items[64];
  *     dwexpr_texts texts = {items, 64, 0};

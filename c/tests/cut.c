@@ -88,8 +88,10 @@ static size_t rows(FILE *file)
         const char *words = field(line, "words"), *in = field(line, "in"), *at = field(line, "bytes");
         char command[5], columns[4][3], spaced[16];
         dwexpr_encoding encoding;
-        if (words && sscanf(words, "[\"%4[a-z]\", \"%1[1-8]\", \"%1[48]\", \"%1[2-5]\", \"%2[a-z]\", \"%2000[0-9a-fA-F]\"",
-                            command, columns[0], columns[1], columns[2], columns[3], digits) == 6)
+        static const char form[] =
+            "[\"%4[a-z]\", \"%1[1-8]\", \"%1[48]\", \"%1[2-5]\", \"%2[a-z]\", \"%2000[0-9a-fA-F]\"";
+        if (words &&
+            sscanf(words, form, command, columns[0], columns[1], columns[2], columns[3], digits) == 6)
             snprintf(spaced, sizeof spaced, "%s %s %s %s", columns[0], columns[1], columns[2], columns[3]);
         else if (in && at && sscanf(at, "\"%2000[0-9a-f]", digits) == 1)
             snprintf(spaced, sizeof spaced, "%.9s", in + 1);

@@ -44,7 +44,8 @@ int main(void)
     dwexpr_evaluation_begin(&evaluation);
     for (round = 0; round < ROUNDS; round++) {
         const dwexpr_encoding encoding = any_encoding();
-        const size_t length = put_operations(text_end - BYTES, BYTES, 1 + below(6), encoding), room = size_below(ROOM + 1);
+        const size_t length = put_operations(text_end - BYTES, BYTES, 1 + below(6), encoding);
+        const size_t room = size_below(ROOM + 1);
         uint8_t *bytes = memmove(text_end - length, text_end - BYTES, length);
         dwexpr_piece *pieces = (dwexpr_piece *)(void *)(pieces_end - room * sizeof *pieces);
         size_t count = 2 + size_below(2), at;

@@ -79,7 +79,15 @@ static void check_names(const char *what, const char *(*name_of)(uint32_t), cons
     }
 }
 
-/* Each register, and a block of each length, is shown whole. */
+/* An unsigned LEB128 number of three bytes. */
+static void put_number(uint8_t *bytes, uint32_t number)
+{
+    bytes[0] = (uint8_t)(number | 0x80);
+    bytes[1] = (uint8_t)(number >> 7 | 0x80);
+    bytes[2] = (uint8_t)(number >> 14);
+}
+
+/* Each register, and blocks of many lengths, are shown whole. */
 static void long_lines(void)
 {
     static uint8_t bytes[70010];
@@ -90,7 +98,7 @@ static void long_lines(void)
     memset(bytes, 0xab, sizeof bytes);
     bytes[0] = 0x90; /* DW_OP_regx */
     for (number = 0; number <= 0xffff; number++) {
-        bytes[1] = (uint8_t)(number | 0x80), bytes[2] = (uint8_t)(number >> 7 | 0x80), bytes[3] = (uint8_t)(number >> 14);
+        put_number(bytes + 1, number);
         dwexpr_decode(bytes, 4, LE8, 0, &operation);
         dwexpr_operation_line(line, sizeof line, bytes, &operation);
         snprintf(wanted, sizeof wanted, "DW_OP_regx %u", (unsigned)number);
@@ -101,7 +109,7 @@ static void long_lines(void)
     bytes[0] = 0x9e; /* DW_OP_implicit_value */
     for (length = 0; length < 70000; length += 1 + length / 16) {
         size_t got;
-        bytes[1] = (uint8_t)(length | 0x80), bytes[2] = (uint8_t)(length >> 7 | 0x80), bytes[3] = (uint8_t)(length >> 14);
+        put_number(bytes + 1, (uint32_t)length);
         dwexpr_decode(bytes, 4 + length, LE8, 0, &operation);
         got = dwexpr_operation_line(line, sizeof line, bytes, &operation);
         snprintf(wanted, sizeof wanted, "DW_OP_implicit_value %zu byte block:", length);

@@ -481,7 +481,7 @@ static uint32_t call_each(size_t count, const uint32_t *offsets, size_t room)
     const dwexpr_settings settings = {.max_iterations = UINT32_MAX};
     static uint64_t memory[DWEXPR_EVALUATION_SIZE / 8];
     dwexpr_evaluation evaluation = {memory};
-    dwexpr_callbacks callbacks_of_texts = none;
+    dwexpr_callbacks callbacks_used = none;
     dwexpr_texts table = {many_items, room, 0};
     dwexpr_text text = {calls, 6 * count};
     size_t i;
@@ -493,9 +493,9 @@ static uint32_t call_each(size_t count, const uint32_t *offsets, size_t room)
             *at++ = (uint8_t)(offsets[i] >> byte);
         *at = i + 1 < count ? 0x13 : 0x96; /* DW_OP_drop, but for the last */
     }
-    callbacks_of_texts.location = give_own;
+    callbacks_used.location = give_own;
     dwexpr_evaluation_begin(&evaluation);
-    return dwexpr_run_in(&evaluation, &settings, text, LE8, &callbacks_of_texts, NULL, &refusal, &table, &outcome, pieces,
+    return dwexpr_run_in(&evaluation, &settings, text, LE8, &callbacks_used, NULL, &refusal, &table, &outcome, pieces,
                          MANY);
 }
 

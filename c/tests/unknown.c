@@ -1,5 +1,5 @@
-/* A request that isn't known is refused, and isn't taken for another one. The calls of dwexpr.h are stand-ins here, which
- * ask for any number. */
+/* A request that isn't known is refused, and isn't taken for another one. The calls of dwexpr.h are stand-ins here,
+ * which ask for any number. */
 #include "check.h"
 #include "dwexpr_run.h"
 
@@ -15,7 +15,8 @@ uint32_t dwexpr_evaluation_evaluate(dwexpr_evaluation *evaluation, const dwexpr_
                                     dwexpr_encoding encoding, const dwexpr_settings *settings, dwexpr_outcome *outcome,
                                     dwexpr_piece *pieces, size_t pieces_length)
 {
-    (void)evaluation, (void)texts, (void)texts_length, (void)encoding, (void)settings, (void)pieces, (void)pieces_length;
+    (void)evaluation, (void)texts, (void)texts_length, (void)encoding;
+    (void)settings, (void)pieces, (void)pieces_length;
     memset(outcome, 0, sizeof *outcome);
     outcome->request = asked;
     return DWEXPR_OK;

@@ -193,8 +193,8 @@ static void types(void)
     for (bit = 4; bit < 64; bit++)
         for (size = 0; size < 16; size++) {
             const uint64_t large = ((uint64_t)1 << bit) + size;
-            check(dwexpr_type_from_encoding(5, large) == NONE && dwexpr_type_from_encoding(7, large) == NONE, "encoding",
-                  "of a large size");
+            check(dwexpr_type_from_encoding(5, large) == NONE, "encoding", "signed, of a large size");
+            check(dwexpr_type_from_encoding(7, large) == NONE, "encoding", "unsigned, of a large size");
         }
     for (type = 0; type < 256; type++)
         check((dwexpr_type_from_encoding((uint8_t)type, 4) == NONE) == (type != 5 && type != 7), "encoding", "another");

@@ -4,7 +4,7 @@ tests/run_libdw.py uses it.
 Each program of c/libdw/tests/stopped is built at -O0 to -O3 in versions 4 and 5 of DWARF, and stopped at each of its
 places.
 Some are also built with split debug information, link-time optimization, type units, the 64-bit format and for i386, if
-the compiler can. At each place `where` prints the stopped process. The process then goes on to its end by the same
+the compiler can. At each place `where` prints the stopped process. The process then ends by a
 signal, and `where` prints the core dump that the kernel writes.
 
 Variables of each thread are compared, of the innermost function and of its callers up to three levels, or all, bit for
@@ -22,18 +22,24 @@ import re
 import resource
 import signal
 import subprocess
+import sys
 import time
 
 from checks import commands
 from commands import TOP
 
-IN_GDB = TOP / "c/libdw/tests/in_gdb.py"
+IN_GDB = TOP / "c/libdw/tests" / "in_gdb.py"
+# the bits of a large struct are one number
+sys.set_int_max_str_digits(0)
+LIBRARY = TOP / "c/libdw/tests" / "library.c"
 SOURCES = sorted((TOP / "c/libdw/tests/stopped").iterdir())
-COMPILERS = {".c": ["gcc", "clang"], ".cpp": ["g++", "clang++"], ".rs": ["rustc"]}
+COMPILERS = {
+    ".c": ["gcc", "clang"], ".cpp": ["g++", "clang++"], ".rs": ["rustc"], ".adb": ["gnatmake"], ".f90": ["gfortran"]
+}  # fmt: skip
 OPTIMIZATIONS = ["-O0", "-O1", "-O2", "-O3"]
 VERSIONS = ["-gdwarf-4", "-gdwarf-5"]
 # How many frames of a thread are compared.
-LEVELS = {"deep.c": 400}
+LEVELS = {"deep.c": 400, "arrays.f90": 8}
 FEW_LEVELS = 4
 NO_LISTS = ("clang", "-gdwarf-5", "-gsplit-dwarf")
 # What else is built: a source, a compiler, and its words. A compiler that doesn't know them is left out.
@@ -75,6 +81,15 @@ GATE = [
     ("threads.c", "gcc", ["-O2", "-gdwarf-5"]),
     ("registers.c", "gcc", ["-O0", "-gdwarf-5"]),
     ("registers.c", "gcc", ["-O2", "-gdwarf-4"]),
+    ("nested.c", "gcc", ["-O0", "-gdwarf-5"]),
+    ("nested.c", "gcc", ["-O2", "-gdwarf-4"]),
+    ("nested.c", "gcc", ["-O2", "-gdwarf-2", "-gstrict-dwarf"]),
+    ("modules.c", "gcc", ["-O2", "-gdwarf-5"]),
+    ("modules.c", "clang", ["-O0", "-gdwarf-4"]),
+    ("shapes.cpp", "g++", ["-O2", "-gdwarf-5"]),
+    ("shapes.cpp", "clang++", ["-O0", "-gdwarf-5"]),
+    ("arrays.adb", "gnatmake", ["-O0", "-gdwarf-5"]),
+    ("arrays.f90", "gfortran", ["-O0", "-gdwarf-5"]),
     *[job for job in OTHERS if job[:2] == ("pieces.c", "gcc") and job[2][0] == "-O0" and "-flto" not in job[2]],
     *[job for job in OTHERS if job[:2] == ("pieces.c", "gcc") and job[2] == ["-O2", "-gdwarf-5", "-flto"]],
 ]
@@ -83,9 +98,9 @@ def run(*words, **more):
     return commands.done(*words, seconds=300, **more)
 
 
-def of_gdb(program, places, levels):
+def of_gdb(program, places, levels, *core):
     words = ["-ex", "set exec-wrapper env -i", "-ex", f"python PLACES, LEVELS = {places}, {levels}", "-x", IN_GDB]
-    lines = run("gdb", "-nx", "-batch", *words, program).stdout.splitlines()
+    lines = run("gdb", "-nx", "-batch", *words, program, *core).stdout.splitlines()
     return dict(json.loads(line[2:]) for line in lines if line.startswith("@@"))
 
 
@@ -105,11 +120,11 @@ def be_traced():
 
 
 @contextlib.contextmanager
-def stopped(program, place, folder):
+def stopped(program, words, folder):
     """A process that has stopped at SIGILL, and isn't traced any more; None if it ended before. It ends with the
     block."""
     settings = {"cwd": folder, "stdout": subprocess.DEVNULL, "stderr": subprocess.DEVNULL}
-    with subprocess.Popen([program, str(place)], preexec_fn=be_traced, env={}, **settings) as process:
+    with subprocess.Popen([program, *map(str, words)], preexec_fn=be_traced, env={}, **settings) as process:
         try:
             os.waitpid(process.pid, 0)
             passed = 0
@@ -130,28 +145,31 @@ def stopped(program, place, folder):
 
 
 def dumped(process, folder):
-    """The core dump of a stopped process, which ends by the signal at which it was stopped; None if there is none."""
+    """The core dump of a stopped process, which ends by a signal that no runtime handles; None if there is none."""
+    os.kill(process.pid, signal.SIGSYS)
     os.kill(process.pid, signal.SIGCONT)
     process.wait()
     return next(folder.glob("core*"), None)
 
 
 def of_where(lines):
-    """The variables by thread, level, inlined function and name, in order: what is printed of each."""
+    """The variables by thread, level, inlined function and name, in order: what is printed of each. The functions
+    around that of a frame are counted from -1 down."""
     found, frames = collections.defaultdict(list), []
     for line in lines:
         if line.startswith("thread "):
             thread = int(line.split()[1])
         elif frame := re.fullmatch(r"#(\d+) 0x[0-9a-f]+", line):
-            frames.append((thread, int(frame[1]), []))
-        elif line.startswith("in "):
-            frames[-1][2].append([])
+            frames.append((thread, int(frame[1]), [], []))
+        elif around := re.match(r"(?:in|(within)) (?!= )", line):
+            function = []
+            frames[-1][3 if around[1] else 2].append(function)
         else:
-            frames[-1][2][-1].append(line.partition(" = ")[::2])
+            function.append(line.partition(" = ")[::2])
     # of a core dump the thread that crashed comes first; their numbers are in the order in which they began
-    order = sorted({thread for thread, _, _ in frames})
-    for thread, level, functions in frames:
-        for number, function in enumerate(reversed(functions)):
+    order = sorted({thread for thread, *_ in frames})
+    for thread, level, inlined, enclosing in frames:
+        for number, function in [*enumerate(reversed(inlined)), *((-1 - at, it) for at, it in enumerate(enclosing))]:
             for name, text in function:
                 found[order.index(thread), level, number, name].append(text)
     return found
@@ -186,6 +204,8 @@ CHANGED_ON_THE_WAY = "on entry of a function that calls itself by tail calls, re
 # gdb stops after 256 expressions. The variables of c/libdw/tests/stopped/deep.c are known by the level.
 BEYOND = "known here alone, as the source says, after more expressions than gdb evaluates"
 OF_LEVEL = {("deep", "n"): lambda level: level, ("deep", "step"): lambda level: 302 - level}
+# A register has it, and gdb.Value can't tell what.
+NO_BYTES = "known here alone, as gdb's Python has no bytes of it"
 # LLVM leaves out the last pieces of a static struct.
 NO_PIECE = "equal, but for bits without a piece, where gdb has zeros"
 
@@ -197,8 +217,10 @@ def kind_of(theirs, text, size, level):
     if isinstance(theirs, str) and theirs.startswith("invalid dwarf2 offset"):
         return LOST
     if isinstance(theirs, str):
-        return "refused by both" if is_unknown else "different"
+        return "refused by both" if is_unknown else NO_BYTES if theirs in NO_BYTES else "different"
     bits, known, lost = theirs
+    if len(text.split()) > 1 and re.fullmatch(r"(?:[0-9a-f]{2} )+", text) and len(text.split()) != size:
+        return "different"
     if not known and is_unknown:
         return "an implicit pointer on both sides" if text.startswith("points into") else "optimized away on both sides"
     if level > 0 and text in ("memory or a register can't be read", "unknown: a register"):
@@ -236,7 +258,16 @@ def build_words(source, compiler, words):
         words = [word.replace("-O", "-Copt-level=") for word in words if not word.startswith("-gdwarf")]
         return [compiler, "-g", "-Ccodegen-units=1", *words, source, "-o"]
     threads = ["-pthread"] if "pthread" in source.read_text() else []
-    return [compiler, "-g", *words, *threads, source, "-o"]
+    linked = ["-L.", "-llibrary", "-ldl", "-Wl,-rpath,$ORIGIN"] if source.stem == "modules" else []
+    # the second unit of a program
+    more = [path for path in [source.parents[1] / source.name] if path.exists() and path != source]
+    return [compiler, "-g", *words, *threads, source, *more, *linked, "-o"]
+
+
+def build_libraries(compiler, folder, words):
+    """Builds what c/libdw/tests/stopped/modules.c stands on."""
+    for name in ("library", "second"):
+        run(compiler, "-g", *words, "-fPIC", "-shared", LIBRARY, "-o", folder / f"lib{name}.so", cwd=folder)
 
 
 def compare_program(where, source, compiler, words):
@@ -246,13 +277,15 @@ def compare_program(where, source, compiler, words):
     places = max(int(number) for number in re.findall(r"(?i)stop!?\((\d+)\)", source.read_text()))
     with commands.temporary() as folder:
         program = folder / "stopped"
+        if source.stem == "modules":
+            build_libraries(compiler, folder, words)
         built = run(*build_words(source, compiler, words), program, cwd=folder)
         if built.returncode != 0:
             return sums, [f"left out: {source.name} by {compiler} {' '.join(words)}: it isn't built"]
         levels = LEVELS.get(source.name, FEW_LEVELS)
         for place, variables in of_gdb(program, places, levels).items():
             name = f"{source.name} {compiler} {' '.join(words)}, place {place}"
-            with stopped(program, place, folder) as process:
+            with stopped(program, [place], folder) as process:
                 if not process:
                     continue
                 printed = run(where, "--pid", process.pid).stdout.splitlines()
@@ -264,12 +297,35 @@ def compare_program(where, source, compiler, words):
     return sums, lines
 
 
-def compare_all(where, jobs):
+# Programs of Debian's, and words at which they stop by SIGILL.
+OF_OTHERS = [("/usr/bin/python3.11d", ["-c", "import os; os.kill(os.getpid(), 4)"])]
+OTHERS_LEVELS = 25
+
+
+def compare_other(where, program, words):
+    """Compares a program of others': gdb reads the same core dump."""
+    sums = {"process": collections.Counter(), "core dump": collections.Counter()}
+    lines = []
+    with commands.temporary() as folder, stopped(program, words, folder) as process:
+        if process:
+            printed = {"process": run(where, "--pid", process.pid).stdout.splitlines()}
+            if core := dumped(process, folder):
+                printed["core dump"] = run(where, "--core", core).stdout.splitlines()
+                for variables in of_gdb(program, 0, OTHERS_LEVELS, core).values():
+                    for what, ours in printed.items():
+                        lines += compare(f"{program}, {what}", variables, of_where(ours), sums[what])
+    return sums, lines
+
+
+def compare_all(where, jobs, others):
     """Compares programs: the sums, for the process and the core dump."""
     sums = {"process": collections.Counter(), "core dump": collections.Counter()}
     with concurrent.futures.ProcessPoolExecutor() as pool:
-        jobs = [(where, TOP / "c/libdw/tests/stopped" / source, *words) for source, *words in jobs]
-        for found, lines in pool.map(compare_program, *zip(*jobs)):
+        folder = TOP / "c/libdw/tests/stopped"
+        runs = [pool.submit(compare_program, where, folder / source, *words) for source, *words in jobs]
+        runs += [pool.submit(compare_other, where, *words) for words in others]
+        for done in runs:
+            found, lines = done.result()
             for what, counted in found.items():
                 sums[what] += counted
             print(*lines, sep="\n", end="\n" if lines else "", flush=True)

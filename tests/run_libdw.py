@@ -2,16 +2,19 @@
 """Builds and runs what stands on libdw: libdwexpr_libdw.a and the examples.
 
 - The headers, without a warning as C11, C17 and C++17.
-- c/libdw/tests/values.c, rules.c and entries.c: values of expressions, bytes that are put together from libdw's
-  operations, call frame information, entries that expressions name; with the sanitizers of addresses and of undefined
-  behaviour too.
-- Bytes that are put together are the file's: for every operation in every encoding of a unit, and for libc6-dbg.
-- examples/expressions.c: libdw's operations and this library's are the same, for programs and for libc6-dbg. It says so
-  if they aren't, whichever field of an operation but the kind is changed.
+- c/libdw/tests/values.c, rules.c, entries.c, types.c, functions.c and dumps.c: values of expressions, bytes
+  that are put together from libdw's operations, call frame information, entries that expressions name, types, functions
+  with their calls, and core dumps, of files that the scripts beside these write; with the sanitizers of addresses and
+  of undefined behaviour too.
+- Bytes that are put together are the file's: for every operation in every encoding of a unit, and for the files of
+  libc6-dbg, libstdc++6-12-dbg and python3.11-dbg.
+- examples/expressions.c: libdw's operations and this library's are the same, for programs and for these packages. It
+  says so if they aren't, whichever field of an operation but the kind is changed.
 - examples/variable.c and c/libdw/tests/stack.cpp on a stopped process, and examples/where.c on a process and its core
   dump, under valgrind.
 - c/libdw/tests/frames.c on stopped processes: registers and values of callers, limits, and reads by two threads.
 - examples/where.c and gdb, for processes and core dumps (compare_gdb.py).
+- c/libdw/tests/refused.c and functions.c: a core dump and programs, where each call of malloc in turn is refused.
 - c/libdw/tests/hostile.c: programs whose debug information has wrong bytes.
 
 It takes two minutes on four processors. It wants cc and libdw; what else is missing is left out, and said so. The last
@@ -22,6 +25,7 @@ import concurrent.futures
 import contextlib
 import functools
 import itertools
+import json
 import pathlib
 import platform
 import re
@@ -45,9 +49,13 @@ TESTS = LIBDW / "tests"
 
 NO_LEAKS = {"ASAN_OPTIONS": "detect_leaks=0"}
 BUT_FOR_LIBDW = {"LSAN_OPTIONS": f"suppressions={TESTS / 'leaks'}:print_suppressions=0"}
-ALL = "--all" in sys.argv
-if ALL:
+ALL, COVERAGE = "--all" in sys.argv, "--coverage" in sys.argv
+if ALL or COVERAGE:
     checks.SECONDS = 3000
+if COVERAGE:
+    COVERED = ["-O0", "-g", "--coverage"]
+    KINDS = {"": COVERED, " with sanitizers": COVERED}
+    SANITIZERS = COVERED
 
 # The last line of examples/expressions.c.
 COMPARED = re.compile(
@@ -62,9 +70,16 @@ NONE_DIFFERS = {"status": 0, "differing": 0, "refused": 0}
 LIBRARIES = {}
 
 
+def core_library():
+    """The archive, if it is that of these sources, or else what rustc makes of them."""
+    return ARCHIVE if ARCHIVE.exists() else "rustc"
+
+
 def built(source, program, *words, **more):
     """Builds a source of the repository over the library and the archive, without a warning: the program, or None."""
     kind = "checked" if SANITIZERS[-1] in words else "plain"
+    if COVERAGE:
+        words = [*words, *COVERED]
     libraries = [LIBRARIES[kind] / "libdwexpr_libdw.a", LIBRARIES[kind] / "libdwexpr.a"]
     words = [*words, f"-I{C / 'tests'}", *libraries, "-ldw", "-lelf"]
     return checks.built(LIBDW / source, program, *words, **more)
@@ -77,16 +92,18 @@ def built_where(folder):
 
 
 def callers(folder):
-    check("entries.py", [sys.executable, TESTS / "entries.py", folder])
-    for name in ["values", "rules", "entries"]:
+    made = ["entries", "types", "functions", "dumps"]
+    for name in made:
+        check(f"{name}.py", [sys.executable, TESTS / f"{name}.py", folder])
+    for name in ["values", "rules", *made]:
         if name == "rules" and platform.machine() != "x86_64":
             left_out("c/libdw/tests/rules.c", "x86-64")
             continue
-        given = sorted(folder.glob("*.entries")) if name == "entries" else []
+        given = [folder] if name == "dumps" else sorted(folder.glob(f"*.{name}")) if name in made else []
         for kind, words in KINDS.items():
             if program := built(f"tests/{name}.c", folder / name, *words):
                 # libdwfl keeps some memory
-                count_of(f"{name}.c{kind}", [program, *given], env=NO_LEAKS if name == "rules" else {})
+                count_of(f"{name}.c{kind}", [program, *given], env=BUT_FOR_LIBDW)
 
 
 def programs(folder, what, stems, levels):
@@ -102,7 +119,9 @@ def compared(program, files, **more):
     """The status of examples/expressions.c, and what it counts, by name."""
     done = run([program, *files], **more)
     said = COMPARED.search(done.stdout)
-    return {"status": done.returncode} | {name: int(said[name]) for name in said.groupdict()} if said else {}
+    apart = len(re.findall("^.*: an expression can't be put together$", done.stdout, re.MULTILINE))
+    numbers = {name: int(said[name]) for name in said.groupdict()} if said else {}
+    return {"status": done.returncode, "apart": apart} | numbers
 
 
 def put_together(round_trip, files, what):
@@ -112,6 +131,16 @@ def put_together(round_trip, files, what):
     same = int(said[1]) if said else 0
     count(same, not said, f"{what}, put together", done.stdout[-2000:])
     return same
+
+
+# Debian's packages of debug information whose expressions are compared.
+PACKAGES = ["libc6-dbg", "libstdc++6-12-dbg", "python3.11-dbg"]
+
+
+def debug_files(package):
+    """The files of debug information that a package has; none if it isn't there."""
+    done = run(["dpkg-query", "--listfiles", package])
+    return re.findall(r"^/usr/lib/(?:debug/.*\.debug|.*/debug/.*\.so\.[\d.]+\d{2})$", done.stdout, re.MULTILINE)
 
 
 def expressions(folder):
@@ -132,14 +161,16 @@ def expressions(folder):
     good = len(listed) * len(every) == total and listed[:half] == listed[half:]
     expect(good, "examples/expressions.c --list on every operation", listed[-1:])
     changed_fields(folder, every[-1])
-    files = sorted(pathlib.Path("/usr/lib/debug").rglob("*.debug"))
-    if files:
-        same = put_together(round_trip, files, "expressions of libc6-dbg")
+    for package in PACKAGES:
+        files = debug_files(package)
+        if not files:
+            left_out(f"expressions of {package}", package)
+            continue
+        same = put_together(round_trip, files, f"expressions of {package}")
         found = compared(compare, files)
-        good = NONE_DIFFERS.items() <= found.items() and found["expressions"] == same > 0
-        expect(good, "examples/expressions.c on libc6-dbg", found)
-    else:
-        left_out("expressions of libc6-dbg", "libc6-dbg")
+        # of a list libdw doesn't tell an expression's size, which the sign of an offset may need
+        good = NONE_DIFFERS.items() <= found.items() and found["expressions"] + found["apart"] == same > 0
+        expect(good, f"examples/expressions.c on {package}", found)
     for file in programs(folder, "examples/expressions.c on programs", ["pieces"], ["-O0", "-O2"]):
         found = compared(compare, [file])
         good = NONE_DIFFERS.items() <= found.items() and found["operations"] >= found["expressions"] > 0
@@ -234,12 +265,14 @@ def stopped_at(folder, source, compiler, words, place):
     """
     program = folder / f"{source}-{compiler}{words[0]}"
     path = next(filter(pathlib.Path.exists, (TESTS / it / source for it in ("stopped", "."))))
-    call = [compiler, "-g", *words, path, "-o", program]
+    call = [*compare_gdb.build_words(path, compiler, words), program]
+    if path.stem == "modules":
+        compare_gdb.build_libraries(compiler, folder, words)
     # gnatmake writes what it makes on the way where it is called
     if lacks(f"{source} by {compiler}", compiler) or not check(f"{program.name}: build", call, cwd=folder):
         yield None
         return
-    with compare_gdb.stopped(program, place, folder) as process:
+    with compare_gdb.stopped(program, [place], folder) as process:
         yield process
 
 
@@ -254,6 +287,9 @@ FRAMES = [
     ("bounds", "bounds.f90", "gfortran", ["-O0"], 1),
     ("variants", "variants.adb", "gnatmake", ["-O0"], 1),
     ("signals", "signals.c", "clang", ["-O2"], 1),
+    ("modules", "modules.c", "gcc", ["-O2"], 1),
+    ("split_modules", "modules.c", "gcc", ["-O2", "-gdwarf-5", "-gsplit-dwarf"], 1),
+    ("no_rules", "no_rules.c", "gcc", ["-O2"], 1),
 ]
 
 
@@ -309,7 +345,8 @@ def with_gdb(folder):
         return
     jobs = compare_gdb.EVERY if ALL else compare_gdb.GATE
     there = {it: not lacks(f"programs of {it} and gdb", it) for it in sorted({compiler for _, compiler, _ in jobs})}
-    sums = compare_gdb.compare_all(where, [job for job in jobs if there[job[1]]])
+    others = [it for it in compare_gdb.OF_OTHERS if not lacks("a program of Debian's and gdb", it[0])]
+    sums = compare_gdb.compare_all(where, [job for job in jobs if there[job[1]]], others)
     for what, found in sums.items():
         print(f"{what}: " + ", ".join(f"{number} {kind}" for kind, number in found.most_common()))
         if found["equal"] or found["different"]:
@@ -337,6 +374,52 @@ def hostile(folder):
             count(int(said[1]) if good else 0, not good, f"{words[1].name}", done.stdout[-300:] + done.stderr[-3000:])
 
 
+def refused(folder):
+    """A core dump, and calls of malloc that are refused."""
+    calls = [f"-D{name}=refusing_{name}" for name in ("malloc", "calloc", "realloc")]
+    flags = COVERED if COVERAGE else SANITIZERS
+    LIBRARIES["plain"] = checks.build_libraries(folder / "refusing", core_library(), *calls, *flags)
+    program = built("tests/refused.c", folder / "refused", *SANITIZERS[:-1])
+    for core in folder.glob("dump"):
+        if program:
+            count_of("refused.c", [program, core, 100], env=BUT_FOR_LIBDW)
+    program = built("tests/functions.c", folder / "functions_refused", *SANITIZERS[:-1])
+    if program:
+        count_of("functions.c, refused", [program, 37, *folder.glob("*.functions")], env=BUT_FOR_LIBDW)
+
+
+# At most so many lines of 100 that no test takes, in the builds of the library together.
+MOST_UNTAKEN = 3
+KINDS_BUILT = ["plain", "checked", "refusing"]
+
+
+def counted_by_gcov(folder):
+    """What gcov says of the objects in a folder: how often each line was run, and each of its branches, by the file and
+    the line's number."""
+    for file in folder.rglob("*.gcda"):
+        done = run(["gcov", "-b", "-c", "--json-format", "--stdout", "-o", file.parent, file], cwd=TOP)
+        for source in json.loads(done.stdout)["files"]:
+            for line in source["lines"] if source["file"].startswith(str(LIBDW / "src")) else []:
+                branches = [branch["count"] for branch in line["branches"]]
+                yield (source["file"], line["line_number"]), [line["count"], *branches]
+
+
+def untaken(folder):
+    """The lines and branches that no test has taken."""
+    counts = {}
+    for place, found in itertools.chain.from_iterable(map(counted_by_gcov, (folder / kind for kind in KINDS_BUILT))):
+        before = counts.setdefault(place, [0] * len(found))
+        counts[place] = [one + other for one, other in itertools.zip_longest(before, found, fillvalue=0)]
+    lines = sum(not found[0] for found in counts.values())
+    branches = [number for found in counts.values() for number in found[1:]]
+    for (file, number), found in sorted(counts.items()):
+        if 0 in found:
+            text = (TOP / file).read_text(encoding="utf-8").splitlines()[number - 1].strip()
+            print(f"{file}:{number}: {'not run' if not found[0] else f'{found.count(0)} branches'}: {text}")
+    print(f"{lines} of {len(counts)} lines aren't run, {branches.count(0)} of {len(branches)} branches aren't taken")
+    expect(lines * 100 <= MOST_UNTAKEN * len(counts), "lines that are run")
+
+
 def has_libdw(folder):
     text = "#include <elfutils/libdwfl.h>\nint main(void) { return dwfl_errno(); }\n"
     return run(["cc", "-xc", "-", "-ldw", "-lelf", "-o", folder / "has_libdw"], input=text).returncode == 0
@@ -346,17 +429,20 @@ def main():
     parser = commands.parser(__doc__)
     said = "compare all programs with gdb, and change 30 times as many bytes"
     parser.add_argument("--all", action="store_true", help=said)
+    said = "print the lines and branches of libdw/ and run/ that no test takes"
+    parser.add_argument("--coverage", action="store_true", help=said)
     parser.parse_args()
     with commands.temporary() as folder:
         if not has_libdw(folder):
             return left_out("include/dwexpr_libdw.h and the examples over it", "libdw")
-        core = ARCHIVE if ARCHIVE.exists() else "rustc"
         print(f"over {'the proved archive' if ARCHIVE.exists() else 'the library by rustc'}")
         for kind, words in [("plain", []), ("checked", ["-O1", *SANITIZERS])]:
-            LIBRARIES[kind] = checks.build_libraries(folder / kind, core, *words)
+            LIBRARIES[kind] = checks.build_libraries(folder / kind, core_library(), *(COVERED if COVERAGE else words))
         check_headers("dwexpr_libdw.h", "dwexpr_names.h")
-        for stage in [callers, expressions, examples, frames, texts, with_gdb, hostile]:
+        for stage in [callers, expressions, examples, frames, texts, with_gdb, hostile, refused]:
             stage(folder)
+        if COVERAGE:
+            untaken(folder)
     return None
 
 

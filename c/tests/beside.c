@@ -1,9 +1,10 @@
 /* Two libraries in one process: the proved archive, whose calls are named `proved_dwexpr_*` here, and the one that
  * rustc made of the same sources. All that they write for made-up decodings, evaluations and values is compared.
  *
- *     beside COUNT
+ *     beside COUNT [SEED]
  *
- * The last line is `N passed, M failed`, with one check for each kind of case, and one for all that has to be met. */
+ * A seed other than 0 makes up other cases. The last line is `N passed, M failed`, with one check for each kind of
+ * case, and one for all that has to be met. */
 #include "made_up.h"
 
 #define PROVED(name) extern __typeof__(name) proved_##name
@@ -184,12 +185,15 @@ static void want(const char *name, const unsigned long *counts, uint32_t first, 
 
 int main(int argc, char **argv)
 {
-    const unsigned long count = argc == 2 ? strtoul(argv[1], NULL, 10) : 0;
+    const unsigned long count = argc >= 2 ? strtoul(argv[1], NULL, 10) : 0;
     static struct maker made;
     static uint64_t rooms[2][DWEXPR_EVALUATION_SIZE / 8];
     dwexpr_evaluation proved = {rooms[0]}, by_rustc = {rooms[1]};
     unsigned long differ[3] = {0, 0, 0};
+    const uint64_t seed = argc == 3 ? strtoull(argv[2], NULL, 0) : 0;
 
+    if (seed)
+        made_up_state = seed;
     check(proved_dwexpr_evaluation_size() <= sizeof rooms[0], "size", "the archive's");
     check(dwexpr_evaluation_size() <= sizeof rooms[1], "size", "that by rustc");
     proved_dwexpr_evaluation_begin(&proved);

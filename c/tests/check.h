@@ -76,14 +76,15 @@ static inline int same_pieces(const dwexpr_piece *a, const dwexpr_piece *b, size
     return 1;
 }
 
-/* The next made-up number, of the same series in each run. */
+static uint64_t made_up_state = 88172645463325252u;
+
+/* The next made-up number, of the same series in each run unless the state is set. */
 static inline uint64_t any(void)
 {
-    static uint64_t state = 88172645463325252u;
-    state ^= state << 13;
-    state ^= state >> 7;
-    state ^= state << 17;
-    return state;
+    made_up_state ^= made_up_state << 13;
+    made_up_state ^= made_up_state >> 7;
+    made_up_state ^= made_up_state << 17;
+    return made_up_state;
 }
 
 /* The step that answers a request; of none and of one that is complete the start. */

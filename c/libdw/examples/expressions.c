@@ -131,7 +131,7 @@ static void compare_list(Dwarf_Attribute *attribute)
     size_t count, length;
     ptrdiff_t place = 0;
     while ((place = dwarf_getlocations(attribute, place, &base, &first, &last, &theirs, &count)) > 0)
-        if (dwexpr_libdw_encode(theirs, count, encoding, bytes, sizeof bytes, &length) || length > sizeof bytes)
+        if (dwexpr_libdw_encode(theirs, count, 0, encoding, bytes, sizeof bytes, &length) || length > sizeof bytes)
             fprintf(prints ? stderr : stdout, "%s: an expression can't be put together\n", file);
         else if (!prints || first != last)
             compare(bytes, length, theirs, count, 0);

@@ -32,16 +32,31 @@ static void print_variable(dwexpr_libdw_frame *frame, Dwarf_Die *variable)
     dwexpr_libdw_value *value;
     Dwarf_Attribute attribute;
     Dwarf_Die type;
-    Dwarf_Word size, encoding = 0;
-    uint32_t code;
-    if (!dwarf_diename(variable) || dwexpr_libdw_type(variable, &type) ||
-        dwexpr_libdw_size(frame, &type, NULL, &size) || size == 0 || size > sizeof bytes)
+    Dwarf_Word size = 0, encoding = 0;
+    uint32_t code, no_size = DWEXPR_LIBDW_FAILED;
+    if (!dwarf_diename(variable))
         return;
-    dwarf_formudata(dwarf_attr(&type, DW_AT_encoding, &attribute), &encoding);
-    memset(unknown, 0xff, size);
     code = dwexpr_libdw_variable(frame, variable, &value);
-    if (!code)
+    if (!dwexpr_libdw_type(variable, &type)) {
+        const int has_place = !code && value->outcome.pieces == 1 && value->pieces[0].kind == DWEXPR_AT_ADDRESS;
+        no_size = dwexpr_libdw_size(frame, &type, has_place ? &value->pieces[0].number : NULL, &size);
+        dwarf_formudata(dwarf_attr(&type, DW_AT_encoding, &attribute), &encoding);
+    }
+    if (!code && no_size)
+        printf("%s has no size: %s\n", dwarf_diename(variable), dwexpr_libdw_code_name(no_size));
+    if (no_size || size == 0 || size > sizeof bytes) {
+        dwexpr_libdw_release(value);
+        return;
+    }
+    memset(unknown, 0xff, size);
+    if (!code && dwarf_hasattr(&type, DW_AT_data_location)) {
+        uint64_t address;
+        code = dwexpr_libdw_data(frame, &type, value->pieces[0].number, &address);
+        if (!code && !(code = dwexpr_libdw_memory(frame, address, bytes, size)))
+            memset(unknown, 0, size);
+    } else if (!code) {
         code = dwexpr_libdw_read(frame, value, 8 * size, bytes, unknown);
+    }
     printf("%s = ", dwarf_diename(variable));
     if (unknown[0] != 0xff || memcmp(unknown, unknown + 1, size - 1))
         print_bytes(bytes, unknown, size, encoding);
@@ -52,7 +67,7 @@ static void print_variable(dwexpr_libdw_frame *frame, Dwarf_Die *variable)
     dwexpr_libdw_release(value);
 }
 
-/* The variables of the functions at a frame's place, those of inlined functions first. */
+/* The variables of the functions at a frame's place, those of inlined functions first, and of those around them. */
 static void print_frame(size_t number, dwexpr_libdw_frame *frame)
 {
     dwexpr_libdw_place place;
@@ -64,10 +79,10 @@ static void print_frame(size_t number, dwexpr_libdw_frame *frame)
     for (i = 0; i < count; i++) {
         const int tag = dwarf_tag(&entries[i].entry);
         const char *name = dwarf_diename(&entries[i].entry);
-        if (tag == DW_TAG_variable || tag == DW_TAG_formal_parameter)
+        if (tag != DW_TAG_subprogram && tag != DW_TAG_inlined_subroutine)
             print_variable(frame, &entries[i].entry);
         else
-            printf("in %s\n", name ? name : "?");
+            printf("%s %s\n", entries[i].is_enclosing ? "within" : "in", name ? name : "?");
     }
     free(entries);
 }
@@ -87,14 +102,16 @@ int main(int argc, char **argv)
     else
         fprintf(stderr, "usage: %s --pid PID | --core FILE [PROGRAM]\n", argv[0]);
     for (i = 0; target && i < dwexpr_libdw_threads(target, &threads); i++) {
+        uint32_t found;
         printf("thread %ld\n", (long)threads[i]);
-        code = dwexpr_libdw_unwind(target, threads[i], 100000, &stack);
+        found = dwexpr_libdw_unwind(target, threads[i], 100000, &stack);
         for (j = 0; (frame = dwexpr_libdw_frame_at(stack, j)) != NULL; j++)
             print_frame(j, frame);
         dwexpr_libdw_free_stack(stack);
+        code = found ? found : code;
     }
     if (code)
-        fprintf(stderr, "%s\n", dwexpr_libdw_code_name(code));
+        fprintf(stderr, "%s: %s\n", dwexpr_libdw_code_name(code), dwexpr_libdw_target_error());
     dwexpr_libdw_close(target);
     return code ? 2 : 0;
 }

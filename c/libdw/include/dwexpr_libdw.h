@@ -44,6 +44,9 @@ enum dwexpr_libdw_code {
     DWEXPR_LIBDW_TOO_MANY_FRAMES = 139,  /* a thread has more frames than were asked for */
     DWEXPR_LIBDW_BAD_REGISTER = 140,     /* a callback gave a register of too many bytes */
     DWEXPR_LIBDW_NO_NUMBER = 141,        /* an attribute is no number, or an expression gives none */
+    DWEXPR_LIBDW_OTHER_FUNCTION = 142,   /* the variable is of a function whose frame isn't known from this one */
+    DWEXPR_LIBDW_NOT_DEFINED = 143,      /* the variable is only declared, and no module has it */
+    DWEXPR_LIBDW_CUT_OFF = 144,          /* a frame has no call frame information: others may be missing after it */
     DWEXPR_LIBDW_WANTS = 192             /* and above: + DWEXPR_WANTS_MEMORY if memory is asked for and isn't known */
 };
 
@@ -69,13 +72,15 @@ void dwexpr_libdw_free_text(dwexpr_libdw_text *expression);
 uint32_t dwexpr_libdw_encoding(Dwarf_CU *unit, dwexpr_encoding *encoding);
 
 /* Puts an expression together from libdw's operations. Each operation gets as many bytes as its offset and the next
- * one's say. The last one gets as few as it needs: libdw doesn't tell its size.
+ * one's say. libdw doesn't tell the size of the last one: it gets as few as it needs, or if `size` isn't 0, what that
+ * leaves, which is how many bytes the expression has. libdw reads the offset of an implicit pointer without its sign:
+ * of 127, one byte is -1 and two are 127.
  *
  * Answers 0 or DWEXPR_LIBDW_NOT_ENCODABLE: an opcode is unknown, a number doesn't fit its operand, or an operation of
  * two LEB128 numbers isn't in its shortest form. `length` is 0 then. No more than `room` bytes are written. libdw cuts
  * off LEB128 numbers at 64 bits: such bits don't come back. */
-uint32_t dwexpr_libdw_encode(const Dwarf_Op *operations, size_t count, dwexpr_encoding encoding, uint8_t *bytes,
-                             size_t room, size_t *length);
+uint32_t dwexpr_libdw_encode(const Dwarf_Op *operations, size_t count, size_t size, dwexpr_encoding encoding,
+                             uint8_t *bytes, size_t room, size_t *length);
 
 /* The expression of an attribute, at an address in the debug information if it is a list of locations. The bytes are
  * those of the file.
@@ -113,6 +118,13 @@ uint32_t dwexpr_libdw_open_core(const char *file, const char *program, dwexpr_li
  * `core`; that is NULL for a process. Both outlive the target. Answers as above. */
 uint32_t dwexpr_libdw_attach(Dwfl *dwfl, Elf *core, dwexpr_libdw_target **target);
 
+/* Why the last of these calls, or of dwexpr_libdw_unwind, has no target, or frames that are cut off, in the words of
+ * the system or of libdw. It stays valid until the thread's next such call. */
+const char *dwexpr_libdw_target_error(void);
+
+/* What a target reads debug information from. It belongs to the target. */
+Dwfl *dwexpr_libdw_dwfl(const dwexpr_libdw_target *target);
+
 /* Frees a target, and with it the Dwfl that was opened here. NULL is allowed. */
 void dwexpr_libdw_close(dwexpr_libdw_target *target);
 
@@ -122,8 +134,9 @@ size_t dwexpr_libdw_threads(const dwexpr_libdw_target *target, const pid_t **thr
 
 /* Finds the frames of a thread, at most so many.
  *
- * Answers 0; DWEXPR_LIBDW_TOO_MANY_FRAMES if there are more, and gives those innermost; DWEXPR_LIBDW_NO_TARGET; or
- * DWEXPR_LIBDW_NO_MEMORY. Free the stack by dwexpr_libdw_free_stack. */
+ * Answers 0; DWEXPR_LIBDW_TOO_MANY_FRAMES if there are more, and gives those innermost; DWEXPR_LIBDW_CUT_OFF if one of
+ * them has no call frame information, so that frames after it may be missing, and gives those that are found;
+ * DWEXPR_LIBDW_NO_TARGET; or DWEXPR_LIBDW_NO_MEMORY. Free the stack by dwexpr_libdw_free_stack. */
 uint32_t dwexpr_libdw_unwind(dwexpr_libdw_target *target, pid_t thread, size_t most, dwexpr_libdw_stack **stack);
 void dwexpr_libdw_free_stack(dwexpr_libdw_stack *stack);
 
@@ -181,12 +194,27 @@ uint32_t dwexpr_libdw_scopes(dwexpr_libdw_frame *frame, Dwarf_Die **scopes, size
 /* An entry of a function, or of one of its variables or parameters that are in scope. */
 typedef struct dwexpr_libdw_entry {
     Dwarf_Die entry;
-    unsigned level; /* 0 for the innermost function, 1 for that into which it is inlined, .. */
+    unsigned level;   /* 0 for the innermost function, 1 for that into which it is inlined, or in which it stands, .. */
+    int is_enclosing; /* 1 if the frame's function stands in this one, as in Ada: it may have a frame of its own */
 } dwexpr_libdw_entry;
 
 /* The functions and variables at a frame's address: of each level the function, and then its variables, those of inner
- * blocks first. Answers as dwexpr_libdw_locate. Free `entries`. */
+ * blocks first. Constants and what common blocks hold are among them, and what isn't there or is only declared. Answers
+ * as dwexpr_libdw_locate. Free `entries`. */
 uint32_t dwexpr_libdw_variables(dwexpr_libdw_frame *frame, dwexpr_libdw_entry **entries, size_t *count);
+
+/* The variables and constants that stand in no function, of this module or, if it is NULL, of all: those of the frame's
+ * unit first, and then of its module. If `name` isn't NULL, those that have it in the source or for the linker. Each
+ * has its value by dwexpr_libdw_variable in any frame. Answers 0 or DWEXPR_LIBDW_NO_MEMORY. Free `globals`. */
+uint32_t dwexpr_libdw_globals(dwexpr_libdw_frame *frame, Dwfl_Module *module, const char *name, Dwarf_Die **globals,
+                              size_t *count);
+
+/* A register of a frame, in the order of the target: of at most DWEXPR_LIBDW_REGISTER_SIZE bytes. Answers 0,
+ * DWEXPR_LIBDW_NOT_READABLE or DWEXPR_LIBDW_BAD_REGISTER. */
+uint32_t dwexpr_libdw_register(const dwexpr_libdw_frame *frame, uint32_t number, uint8_t *bytes, size_t *size);
+
+/* Memory that a frame can read. Answers 0 or DWEXPR_LIBDW_NOT_READABLE. */
+uint32_t dwexpr_libdw_memory(const dwexpr_libdw_frame *frame, uint64_t address, uint8_t *bytes, size_t size);
 
 /* The value that a register of the caller has by the call frame information, or the CFA if the register is
  * DWEXPR_LIBDW_CFA: `size` bytes of at most DWEXPR_LIBDW_REGISTER_SIZE, in the order of the target.
@@ -205,6 +233,7 @@ typedef struct dwexpr_libdw_value {
     size_t texts_length;
     dwexpr_encoding encoding;
     Dwarf_CU *unit; /* of the entries that pieces point into */
+    const dwexpr_libdw_frame *frame; /* whose registers pieces name: of the function in which a variable stands */
     void *memory;   /* private */
 } dwexpr_libdw_value;
 
@@ -221,8 +250,12 @@ void dwexpr_libdw_release(dwexpr_libdw_value *value);
 uint32_t dwexpr_libdw_evaluate(dwexpr_libdw_frame *frame, const dwexpr_libdw_text *expression, const uint64_t *object,
                                const uint64_t *initial, dwexpr_libdw_value **value);
 
-/* The value of a variable or a parameter in a frame: by its DW_AT_const_value, or its DW_AT_location at the frame's
- * address. Answers what dwexpr_libdw_locate, dwexpr_libdw_expression or dwexpr_libdw_evaluate does. */
+/* The value of a variable, a parameter or a constant in a frame: by its DW_AT_const_value, or its DW_AT_location at the
+ * address of its function's frame: that is this one, or a caller if its function encloses the frame's. Addresses are
+ * those of its module. One that is only declared, or that the program has a copy of, is at the symbol of its name.
+ *
+ * Answers what dwexpr_libdw_expression or dwexpr_libdw_evaluate does; DWEXPR_LIBDW_OTHER_FUNCTION; or
+ * DWEXPR_LIBDW_NOT_DEFINED. */
 uint32_t dwexpr_libdw_variable(dwexpr_libdw_frame *frame, Dwarf_Die *variable, dwexpr_libdw_value **value);
 
 /* The value that a parameter had on entry of the function, if the caller's call site says it. Answers likewise. */
@@ -239,8 +272,9 @@ uint32_t dwexpr_libdw_number(dwexpr_libdw_frame *frame, Dwarf_Attribute *attribu
  * The piece's byte_offset is the place within it. Answers 0 or DWEXPR_LIBDW_FAILED. */
 uint32_t dwexpr_libdw_points_into(const dwexpr_libdw_value *value, const dwexpr_piece *piece, Dwarf_Die *variable);
 
-/* The bytes of a value that has this many bits, as they would be in memory. Its pieces follow each other from the
- * lowest bit of each byte in little endian, and from the highest in big endian. The last byte is filled up with zeros.
+/* The bytes of a value that has this many bits, as they would be in memory, of the frame that the value names. Its
+ * pieces follow each other from the lowest bit of each byte in little endian, and from the highest in big endian. The
+ * last byte is filled up with zeros.
  *
  * Answers 0 if every bit is known. Else it answers why the first unknown bit isn't: DWEXPR_LIBDW_OPTIMIZED_AWAY,
  * _IMPLICIT_POINTER, _NOT_READABLE, _TOO_SMALL or _BAD_REGISTER. Unknown bits are zeros in `bytes` and ones in
@@ -257,8 +291,24 @@ uint32_t dwexpr_libdw_type(Dwarf_Die *variable, Dwarf_Die *type);
 /* The bytes of a type, which may be an array of variable length. Answers as dwexpr_libdw_number. */
 uint32_t dwexpr_libdw_size(dwexpr_libdw_frame *frame, Dwarf_Die *type, const uint64_t *object, uint64_t *bytes);
 
+/* The definition of a type that its unit only declares, by its name, in the unit and then as dwexpr_libdw_globals looks
+ * for variables. dwexpr_libdw_size takes it by itself. Answers 0, DWEXPR_LIBDW_NOT_DEFINED, DWEXPR_LIBDW_FAILED or
+ * DWEXPR_LIBDW_NO_MEMORY. */
+uint32_t dwexpr_libdw_definition(dwexpr_libdw_frame *frame, Dwarf_Die *type, Dwarf_Die *definition);
+
+/* Where the data of an object of a type is: at the object, or where DW_AT_data_location says, as for arrays in Fortran.
+ * Answers as dwexpr_libdw_number; DWEXPR_LIBDW_OPTIMIZED_AWAY if it isn't allocated or associated. */
+uint32_t dwexpr_libdw_data(dwexpr_libdw_frame *frame, Dwarf_Die *type, uint64_t object, uint64_t *address);
+
+/* The bits of an array's element in the array's data: where they begin, counted as dwexpr_libdw_read places them, and
+ * how many there are. There is an index for each dimension, as in the source; of an enumeration it is the value's
+ * number. Answers as dwexpr_libdw_number: DWEXPR_LIBDW_NO_NUMBER if there is no such element. */
+uint32_t dwexpr_libdw_element(dwexpr_libdw_frame *frame, Dwarf_Die *array, const uint64_t *object,
+                              const int64_t *indexes, size_t count, uint64_t *begin, uint64_t *bits);
+
 /* The bits of a member: where they begin, counted as dwexpr_libdw_read places them, and how many there are. `object` is
- * the address of the whole, which a virtual base needs, or NULL. Answers as dwexpr_libdw_number. */
+ * the address of the whole, which a virtual base needs, or NULL. `bits` may be NULL, if the place alone is wanted.
+ * Answers as dwexpr_libdw_number; if the number of bits alone isn't known, `begin` is written. */
 uint32_t dwexpr_libdw_member(dwexpr_libdw_frame *frame, Dwarf_Die *member, const uint64_t *object, uint64_t *begin,
                              uint64_t *bits);
 

@@ -1,11 +1,12 @@
 /* The call that led to a frame, and what it passed (DWARF 5, section 3.4). */
 #include "private.h"
 
-/* Goes to the next call site of a function, in its blocks and in what is inlined into it. */
+/* Goes to the next call site of a function, in its blocks and in what is inlined into it. Gives back as
+ * dwexpr_libdw_next_entry does. */
 static int next_call_site(struct dwexpr_libdw_walk *walk, Dwarf_Die *site)
 {
-    int enters = walk->depth == walk->floor; /* where it began */
-    while (dwexpr_libdw_next_entry(walk, enters) > 0) {
+    int enters = walk->depth == walk->floor, more; /* where it began */
+    while ((more = dwexpr_libdw_next_entry(walk, enters)) > 0) {
         const int tag = dwarf_tag(&walk->path[walk->depth - 1]);
         *site = walk->path[walk->depth - 1];
         if (tag == DW_TAG_call_site || tag == DW_TAG_GNU_call_site)
@@ -13,7 +14,7 @@ static int next_call_site(struct dwexpr_libdw_walk *walk, Dwarf_Die *site)
         enters = tag == DW_TAG_lexical_block || tag == DW_TAG_inlined_subroutine || tag == DW_TAG_try_block ||
                  tag == DW_TAG_catch_block;
     }
-    return 0;
+    return more;
 }
 
 /* An attribute of a call site, which has another name before version 5. */
@@ -44,7 +45,7 @@ int dwexpr_libdw_find_call_site(dwexpr_libdw_frame *frame, Dwarf_Die *site)
     if (!caller || dwexpr_libdw_find_place(frame) || dwexpr_libdw_find_place(caller) || !frame->place.function.addr ||
         !caller->place.function.addr || dwexpr_libdw_begin_walk(&walk, &caller->place.function))
         return 0;
-    while (!found && next_call_site(&walk, site)) {
+    while (!found && next_call_site(&walk, site) > 0) {
         Dwarf_Attribute attribute;
         Dwarf_Addr address;
         found = !dwarf_formaddr(attribute_of(site, DW_AT_call_return_pc, DW_AT_low_pc, &attribute), &address) &&
@@ -78,46 +79,27 @@ static Dwarf_Die root_of(const Dwarf_Die *function)
 static const char *external_name(Dwarf_Die *function)
 {
     Dwarf_Attribute attribute;
-    const char *name = dwarf_formstring(dwarf_attr_integrate(function, DW_AT_linkage_name, &attribute));
-    if (!name)
-        name = dwarf_formstring(dwarf_attr_integrate(function, DW_AT_MIPS_linkage_name, &attribute));
-    if (!name && dwarf_attr_integrate(function, DW_AT_external, &attribute))
-        name = dwarf_diename(function);
-    return name;
-}
-
-/* The address of a symbol of this name, at this address if that isn't 0; 0 if there is none. A function of a library
- * may have several. */
-static Dwarf_Addr symbol_at(Dwfl_Module *module, Dwarf_Addr address, const char *name)
-{
-    int i;
-    for (i = module ? dwfl_module_getsymtab(module) : 0; i > 0; i--) {
-        GElf_Sym symbol;
-        GElf_Addr place;
-        const char *found = dwfl_module_getsym_info(module, i - 1, &symbol, &place, NULL, NULL, NULL);
-        if (found && (place == address || !address) && symbol.st_shndx != SHN_UNDEF && !strcmp(found, name))
-            return place;
-    }
-    return 0;
+    const char *name = dwexpr_libdw_linkage_name(function), *plain = dwarf_diename(function);
+    return name != plain || dwarf_attr_integrate(function, DW_AT_external, &attribute) ? name : NULL;
 }
 
 int dwexpr_libdw_names(Dwarf_Die *site, const dwexpr_libdw_frame *caller, const dwexpr_libdw_frame *called)
 {
     Dwarf_Die origin, function = called->place.function;
-    Dwarf_Addr entry, begin;
+    const uint64_t entry = dwexpr_libdw_entry_of(called);
+    Dwarf_Addr begin;
+    struct dwexpr_libdw_symbol symbol;
     const char *name, *wanted;
     if (!origin_of(site, &origin))
         return -1;
     if (root_of(&origin).addr == root_of(&function).addr)
         return 1;
-    if (dwarf_entrypc(&function, &entry))
-        return 0;
-    entry += called->place.bias;
-    if (!dwarf_entrypc(&origin, &begin))
+    if (dwexpr_libdw_has_entry(&origin, &begin))
         return begin + caller->place.bias == entry;
-    name = external_name(&origin);
+    name = symbol.name = external_name(&origin);
     wanted = external_name(&function);
-    return name && ((wanted && !strcmp(name, wanted)) || symbol_at(called->place.module, entry, name));
+    return name && ((wanted && !strcmp(name, wanted)) ||
+                    dwexpr_libdw_find_symbol(called->place.module, entry, &symbol));
 }
 
 /* ---- tail calls */
@@ -126,72 +108,69 @@ uint64_t dwexpr_libdw_called_address(Dwarf_Die *site, const dwexpr_libdw_frame *
 {
     Dwarf_Die origin;
     Dwarf_Addr entry;
-    const char *name;
-    if (!origin_of(site, &origin))
-        return 0;
-    if (!dwarf_entrypc(&origin, &entry))
+    struct dwexpr_libdw_symbol symbol;
+    if (origin_of(site, &origin) && dwexpr_libdw_has_entry(&origin, &entry))
         return entry + caller->place.bias;
-    name = external_name(&origin);
-    if (!name)
-        name = dwarf_diename(&origin);
-    return name ? symbol_at(caller->place.module, 0, name) : 0;
+    symbol.name = dwexpr_libdw_linkage_name(&origin);
+    return symbol.name && dwexpr_libdw_resolve(caller->source.dwfl, caller->place.module, 0, &symbol)
+               ? symbol.address
+               : 0;
 }
 
 int dwexpr_libdw_enter(const dwexpr_libdw_frame *caller, uint64_t address, dwexpr_libdw_frame *entered)
 {
     dwexpr_libdw_source source = caller->source;
-    Dwarf_Addr entry;
     source.pc = address;
     source.is_activation = 1;
     source.unit = NULL;
     source.frame_base = source.cfa = NULL;
     source.read_register = NULL;
     dwexpr_libdw_begin_frame(entered, &source);
-    return address && !dwexpr_libdw_find_place(entered) && entered->place.function.addr &&
-           !dwarf_entrypc(&entered->place.function, &entry) && entry + entered->place.bias == address;
+    return address && !dwexpr_libdw_find_place(entered) && dwexpr_libdw_entry_of(entered) == address;
 }
 
 int dwexpr_libdw_find_tail_call(const dwexpr_libdw_frame *between, const dwexpr_libdw_frame *called, Dwarf_Die *site)
 {
     struct dwexpr_libdw_walk walk;
     Dwarf_Die other;
-    int count = 0;
+    int count = 0, more;
     if (dwexpr_libdw_begin_walk(&walk, &between->place.function))
         return 0;
-    while (next_call_site(&walk, &other))
+    while ((more = next_call_site(&walk, &other)) > 0)
         if (is_tail_call(&other)) {
             *site = other;
             count++;
         }
     free(walk.path);
-    return count == 1 && dwexpr_libdw_names(site, between, called) > 0;
+    return more == 0 && count == 1 && dwexpr_libdw_names(site, between, called) > 0;
 }
 
 /* The most functions that are looked at for a tail call of the first of them. */
 enum { MOST_FUNCTIONS = 32 };
 
-/* Adds the functions to which one leaves by tail calls. Gives back 1 if one of them may be the first, else 0. */
+/* Adds the functions to which one leaves by tail calls. Gives back 1 if one of them may be the first, or if there is no
+ * memory to know; else 0. */
 static int add_tail_calls(dwexpr_libdw_frame *functions, int at, int *count)
 {
     struct dwexpr_libdw_walk walk;
     Dwarf_Die site;
-    int found = dwexpr_libdw_begin_walk(&walk, &functions[at].place.function) != 0, i;
-    if (found)
-        return 1;
-    while (!found && next_call_site(&walk, &site)) {
+    int found = dwexpr_libdw_begin_walk(&walk, &functions[at].place.function) != 0, more = 0, i;
+    while (!found && (more = next_call_site(&walk, &site)) > 0) {
+        dwexpr_libdw_frame *next = &functions[*count];
         if (!is_tail_call(&site))
             continue;
         found = dwexpr_libdw_names(&site, &functions[at], &functions[0]) != 0 || *count == MOST_FUNCTIONS;
-        if (found || !dwexpr_libdw_enter(&functions[at], dwexpr_libdw_called_address(&site, &functions[at]),
-                                         &functions[*count]))
+        if (found || !dwexpr_libdw_enter(&functions[at], dwexpr_libdw_called_address(&site, &functions[at]), next)) {
+            found = found || next->code == DWEXPR_LIBDW_NO_MEMORY;
             continue;
+        }
         for (i = 0; i < *count; i++)
             if (functions[i].place.function.addr == functions[*count].place.function.addr)
                 break;
         *count += i == *count;
     }
     free(walk.path);
-    return found;
+    return found || more < 0;
 }
 
 int dwexpr_libdw_may_call_itself(dwexpr_libdw_frame *frame)

@@ -89,6 +89,8 @@ static int put_operands(struct writer *writer, const Dwarf_Op *op, size_t size, 
         if (put_fixed(writer, op->number, reference, 0, encoding.big_endian) ||
             (!length && !(op->number2 >> 63) && front & 0x40))
             return -1;
+        if (length && length < 10 && op->number2 >> 7 * length && op->number2 >> 7 * length != UINT64_MAX >> 7 * length)
+            return -1;
         if (length && length < 10)
             put_leb(writer, op->number2 & (((uint64_t)1 << 7 * length) - 1), length, 0);
         else
@@ -127,8 +129,8 @@ static int put_operands(struct writer *writer, const Dwarf_Op *op, size_t size, 
     }
 }
 
-uint32_t dwexpr_libdw_encode(const Dwarf_Op *operations, size_t count, dwexpr_encoding encoding, uint8_t *bytes,
-                             size_t room, size_t *length)
+uint32_t dwexpr_libdw_encode(const Dwarf_Op *operations, size_t count, size_t size, dwexpr_encoding encoding,
+                             uint8_t *bytes, size_t room, size_t *length)
 {
     struct writer writer = {bytes, room, 0};
     size_t i;
@@ -136,11 +138,11 @@ uint32_t dwexpr_libdw_encode(const Dwarf_Op *operations, size_t count, dwexpr_en
     for (i = 0; i < count; i++) {
         const Dwarf_Op *op = &operations[i];
         const size_t begin = writer.length;
-        const size_t size = i + 1 < count ? (size_t)(op[1].offset - op->offset) : 0;
-        const size_t operands = size > 1 && size <= 1 + 10 + 256 ? size - 1 : 0; /* more only a long block has */
+        const size_t whole = i + 1 < count ? (size_t)(op[1].offset - op->offset) : size > begin ? size - begin : 0;
+        const size_t operands = whole > 1 && whole <= 1 + 10 + 256 ? whole - 1 : 0; /* more only a long block has */
         put(&writer, &op->atom, 1);
         if (op->offset - operations[0].offset != begin || put_operands(&writer, op, operands, encoding) ||
-            (i + 1 < count && writer.length - begin != size))
+            ((size || i + 1 < count) && writer.length - begin != whole))
             return DWEXPR_LIBDW_NOT_ENCODABLE;
     }
     *length = writer.length;

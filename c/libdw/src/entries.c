@@ -52,6 +52,30 @@ int dwexpr_libdw_next_entry(struct dwexpr_libdw_walk *walk, int enters)
     return 0;
 }
 
+uint32_t dwexpr_libdw_find_path(struct dwexpr_libdw_walk *walk, const Dwarf_Die *first, const Dwarf_Die *entry)
+{
+    uint32_t code = dwexpr_libdw_begin_walk(walk, first);
+    while (!code && walk->path[walk->depth - 1].addr != entry->addr) {
+        Dwarf_Die next, *path = (Dwarf_Die *)dwexpr_libdw_with_room(walk->path, walk->depth, &walk->room, sizeof *path);
+        if (!path) {
+            free(walk->path);
+            walk->path = NULL;
+            return DWEXPR_LIBDW_NO_MEMORY;
+        }
+        walk->path = path;
+        /* it stands below the last one that doesn't stand after it */
+        if (dwarf_child(&path[walk->depth - 1], &next) || (const char *)next.addr > (const char *)entry->addr) {
+            walk->depth = 0;
+            break;
+        }
+        do
+            path[walk->depth] = next;
+        while (!dwexpr_libdw_next_sibling(&next) && (const char *)next.addr <= (const char *)entry->addr);
+        walk->depth++;
+    }
+    return code;
+}
+
 /* ---- types */
 
 static int is_left_out(int tag)
@@ -78,92 +102,299 @@ uint32_t dwexpr_libdw_type(Dwarf_Die *variable, Dwarf_Die *type)
     return DWEXPR_LIBDW_FAILED;
 }
 
-/* How many elements a dimension of an array has. */
-static uint32_t dimension(dwexpr_libdw_frame *frame, Dwarf_Die *range, const uint64_t *object, uint64_t *count)
+/* Finds an attribute of a type, or of that of which it is a range. */
+static int has_in_base(Dwarf_Die *type, unsigned name, Dwarf_Attribute *attribute)
 {
-    Dwarf_Attribute attribute;
-    uint64_t upper, lower = 0;
-    uint32_t code;
-    if (dwarf_attr_integrate(range, DW_AT_count, &attribute))
-        return dwexpr_libdw_number(frame, &attribute, object, count);
-    if (!dwarf_attr_integrate(range, DW_AT_upper_bound, &attribute))
-        return DWEXPR_LIBDW_NO_NUMBER;
-    code = dwexpr_libdw_number(frame, &attribute, object, &upper);
-    if (!code && dwarf_attr_integrate(range, DW_AT_lower_bound, &attribute)) {
-        code = dwexpr_libdw_number(frame, &attribute, object, &lower);
-    } else if (!code) {
-        Dwarf_Die unit;
-        Dwarf_Sword first;
-        const int language = dwarf_diecu(range, &unit, NULL, NULL) ? dwarf_srclang(&unit) : -1;
-        if (language >= 0 && !dwarf_default_lower_bound(language, &first))
-            lower = (uint64_t)first;
-    }
-    /* an upper bound below the lower one is an array without elements */
-    *count = (int64_t)(upper - lower) < -1 ? 0 : upper - lower + 1;
-    return code;
-}
-
-/* How many elements an array has in all its dimensions. */
-static uint32_t elements(dwexpr_libdw_frame *frame, Dwarf_Die *array, const uint64_t *object, uint64_t *count)
-{
-    Dwarf_Die range;
-    int more;
-    *count = 1;
-    for (more = dwarf_child(array, &range); more == 0; more = dwexpr_libdw_next_sibling(&range)) {
-        uint64_t here = 0;
-        uint32_t code;
-        if (dwarf_tag(&range) != DW_TAG_subrange_type)
-            continue;
-        code = dimension(frame, &range, object, &here);
-        if (code)
-            return code;
-        if (here && *count > UINT64_MAX / here)
-            return DWEXPR_LIBDW_NO_NUMBER;
-        *count *= here;
+    Dwarf_Die base = *type;
+    int steps;
+    for (steps = 0; steps < 64; steps++) {
+        const int tag = dwarf_tag(&base);
+        if (dwarf_attr_integrate(&base, name, attribute))
+            return 1;
+        if ((tag != DW_TAG_subrange_type && tag != DW_TAG_enumeration_type) || dwexpr_libdw_type(&base, &base))
+            return 0;
     }
     return 0;
 }
 
-uint32_t dwexpr_libdw_size(dwexpr_libdw_frame *frame, Dwarf_Die *type, const uint64_t *object, uint64_t *bytes)
+int dwexpr_libdw_scalar(Dwarf_Die *type, Dwarf_Word *size, Dwarf_Word *encoding)
 {
     Dwarf_Attribute attribute;
-    Dwarf_Die kind = *type;
-    uint64_t count, factor = 1;
-    uint32_t code;
+    return !has_in_base(type, DW_AT_byte_size, &attribute) || dwarf_formudata(&attribute, size) ||
+           !has_in_base(type, DW_AT_encoding, &attribute) || dwarf_formudata(&attribute, encoding);
+}
+
+/* ---- arrays */
+
+/* A dimension of an array. */
+struct dimension {
+    uint64_t lower, count;
+    int has_count;      /* an array of C may have no bound */
+    Dwarf_Die index;    /* an enumeration whose values are the indexes; its `addr` is NULL if it is none */
+    uint64_t stride;    /* bits from one index to the next; 0 if the elements follow each other */
+};
+
+/* How many values of an enumeration are below a number, and not below a lower one. */
+static uint64_t values_between(Dwarf_Die *enumeration, uint64_t lower, uint64_t number)
+{
+    Dwarf_Die value;
+    uint64_t count = 0;
+    int more;
+    for (more = dwarf_child(enumeration, &value); more == 0; more = dwexpr_libdw_next_sibling(&value)) {
+        Dwarf_Attribute attribute;
+        Dwarf_Sword found;
+        if (dwarf_tag(&value) == DW_TAG_enumerator &&
+            !dwarf_formsdata(dwarf_attr(&value, DW_AT_const_value, &attribute), &found))
+            count += found >= (int64_t)lower && found < (int64_t)number;
+    }
+    return count;
+}
+
+/* The bits between two elements, or two indexes, as an entry says them; 0 if it doesn't. */
+static uint32_t stride_of(const struct dwexpr_libdw_given *given, Dwarf_Die *entry, uint64_t *bits)
+{
+    Dwarf_Attribute attribute;
+    uint32_t code = 0;
+    *bits = 0;
+    if (dwarf_attr_integrate(entry, DW_AT_bit_stride, &attribute))
+        return dwexpr_libdw_number_with(given, &attribute, bits);
+    if (dwarf_attr_integrate(entry, DW_AT_byte_stride, &attribute))
+        code = dwexpr_libdw_number_with(given, &attribute, bits);
+    *bits *= 8;
+    return code;
+}
+
+static int is_enumeration(Dwarf_Die *range, Dwarf_Die *enumeration)
+{
     int steps;
+    *enumeration = *range;
+    for (steps = 0; steps < 64 && dwarf_tag(enumeration) == DW_TAG_subrange_type; steps++)
+        if (dwexpr_libdw_type(enumeration, enumeration))
+            return 0;
+    return dwarf_tag(enumeration) == DW_TAG_enumeration_type;
+}
+
+static uint32_t dimension(const struct dwexpr_libdw_given *given, Dwarf_Die *range, struct dimension *found)
+{
+    Dwarf_Attribute attribute;
+    Dwarf_Die unit;
+    Dwarf_Sword first;
+    uint64_t upper;
+    uint32_t code = stride_of(given, range, &found->stride);
+    const int language = dwarf_diecu(range, &unit, NULL, NULL) ? dwarf_srclang(&unit) : -1;
+    found->lower = found->count = 0;
+    found->has_count = 1;
+    if (!is_enumeration(range, &found->index))
+        found->index.addr = NULL;
+    if (!code && dwarf_attr_integrate(range, DW_AT_lower_bound, &attribute))
+        code = dwexpr_libdw_number_with(given, &attribute, &found->lower);
+    else if (language >= 0 && !dwarf_default_lower_bound(language, &first))
+        found->lower = (uint64_t)first;
+    if (!code && dwarf_attr_integrate(range, DW_AT_count, &attribute))
+        return dwexpr_libdw_number_with(given, &attribute, &found->count);
+    if (dwarf_tag(range) == DW_TAG_enumeration_type) {
+        found->lower = (uint64_t)INT64_MIN;
+        found->count = values_between(range, found->lower, INT64_MAX);
+    } else if (!code && dwarf_attr_integrate(range, DW_AT_upper_bound, &attribute)) {
+        code = dwexpr_libdw_number_with(given, &attribute, &upper);
+        /* an upper bound below the lower one is an array without elements */
+        if (code || (int64_t)(upper - found->lower) < -1)
+            return code;
+        found->count = found->index.addr ? values_between(&found->index, found->lower, upper + 1)
+                                         : upper - found->lower + 1;
+    } else {
+        found->has_count = 0;
+    }
+    return code;
+}
+
+enum { MOST_DIMENSIONS = 64 };
+
+/* The dimensions of an array: an entry for each, or one for all, whose number is computed (DW_AT_rank). */
+static uint32_t dimensions(dwexpr_libdw_frame *frame, Dwarf_Die *array, const uint64_t *object,
+                           struct dimension *found, size_t *count)
+{
+    struct dwexpr_libdw_given given = {frame, object, NULL};
+    Dwarf_Attribute attribute;
+    Dwarf_Die range;
+    uint64_t rank = 1, i;
+    uint32_t code = 0;
+    int more;
+    *count = 0;
+    if (dwarf_attr_integrate(array, DW_AT_rank, &attribute))
+        code = dwexpr_libdw_number_with(&given, &attribute, &rank);
+    for (more = dwarf_child(array, &range); more == 0 && !code; more = dwexpr_libdw_next_sibling(&range)) {
+        const int tag = dwarf_tag(&range);
+        const int is_generic = tag == DW_TAG_generic_subrange;
+        if (tag != DW_TAG_subrange_type && tag != DW_TAG_enumeration_type && !is_generic)
+            continue;
+        given.initial = is_generic ? &i : NULL;
+        for (i = 0; i < (is_generic ? rank : 1) && !code; i++)
+            code = *count < MOST_DIMENSIONS ? dimension(&given, &range, &found[(*count)++]) : DWEXPR_LIBDW_NO_NUMBER;
+    }
+    return code;
+}
+
+/* How many elements an array has in all its dimensions. */
+static uint32_t elements(const struct dimension *found, size_t dimensions, uint64_t *count)
+{
+    size_t i;
+    *count = 1;
+    for (i = 0; i < dimensions; i++) {
+        if (!found[i].has_count || (found[i].count && *count > UINT64_MAX / found[i].count))
+            return DWEXPR_LIBDW_NO_NUMBER;
+        *count *= found[i].count;
+    }
+    return 0;
+}
+
+/* Whether the first index of an array is the one that changes fastest (DW_AT_ordering, else as the language has it). */
+static int is_first_fastest(Dwarf_Die *array)
+{
+    Dwarf_Attribute attribute;
+    Dwarf_Word ordering;
+    Dwarf_Die unit;
+    if (!dwarf_formudata(dwarf_attr_integrate(array, DW_AT_ordering, &attribute), &ordering))
+        return ordering == DW_ORD_col_major;
+    switch (dwarf_diecu(array, &unit, NULL, NULL) ? dwarf_srclang(&unit) : -1) {
+    case DW_LANG_Fortran77: case DW_LANG_Fortran90: case DW_LANG_Fortran95: case DW_LANG_Fortran03:
+    case DW_LANG_Fortran08: return 1;
+    default: return 0;
+    }
+}
+
+uint32_t dwexpr_libdw_element(dwexpr_libdw_frame *frame, Dwarf_Die *array, const uint64_t *object,
+                              const int64_t *indexes, size_t count, uint64_t *begin, uint64_t *bits)
+{
+    const struct dwexpr_libdw_given given = {frame, object, NULL};
+    struct dimension found[MOST_DIMENSIONS];
+    Dwarf_Die type;
+    uint64_t next;
+    size_t length, i;
+    uint32_t code = dimensions(frame, array, object, found, &length);
+    *begin = *bits = 0;
+    if (!code)
+        code = dwexpr_libdw_type(array, &type);
+    if (!code)
+        code = dwexpr_libdw_size(frame, &type, object, bits);
+    *bits *= 8;
+    if (!code)
+        code = stride_of(&given, array, &next);
+    if (code || count != length)
+        return code ? code : DWEXPR_LIBDW_NO_NUMBER;
+    if (next && next < *bits)
+        *bits = next;
+    next = next ? next : *bits;
+    for (i = 0; i < length; i++) {
+        const size_t at = is_first_fastest(array) ? i : length - 1 - i;
+        struct dimension *here = &found[at];
+        const uint64_t place = here->index.addr
+                                   ? values_between(&here->index, here->lower, (uint64_t)indexes[at])
+                                   : (uint64_t)indexes[at] - here->lower;
+        if (indexes[at] < (int64_t)here->lower || (here->has_count && place >= here->count) ||
+            (!here->has_count && i + 1 < length))
+            return DWEXPR_LIBDW_NO_NUMBER;
+        *begin += place * (here->stride ? here->stride : next);
+        next *= here->count;
+    }
+    return 0;
+}
+
+uint32_t dwexpr_libdw_data(dwexpr_libdw_frame *frame, Dwarf_Die *type, uint64_t object, uint64_t *address)
+{
+    static const unsigned names[] = {DW_AT_allocated, DW_AT_associated};
+    Dwarf_Attribute attribute;
+    size_t i;
+    for (i = 0; i < 2; i++) {
+        uint64_t is_there = 1;
+        const uint32_t code = dwarf_attr_integrate(type, names[i], &attribute)
+                                  ? dwexpr_libdw_number(frame, &attribute, &object, &is_there)
+                                  : 0;
+        if (code || !is_there)
+            return code ? code : DWEXPR_LIBDW_OPTIMIZED_AWAY;
+    }
+    *address = object;
+    return dwarf_attr_integrate(type, DW_AT_data_location, &attribute)
+               ? dwexpr_libdw_number(frame, &attribute, &object, address)
+               : 0;
+}
+
+/* ---- sizes */
+
+/* The bytes of a type that isn't an array and has no DW_AT_byte_size. */
+static uint32_t other_size(dwexpr_libdw_frame *frame, Dwarf_Die *type, const uint64_t *object, uint64_t *bytes)
+{
+    Dwarf_Attribute attribute;
+    Dwarf_Die unit, target;
+    uint8_t address_size = 0;
+    uint32_t code;
+    if (has_in_base(type, DW_AT_byte_size, &attribute))
+        return dwexpr_libdw_number(frame, &attribute, object, bytes);
+    dwarf_diecu(type, &unit, &address_size, NULL);
+    *bytes = address_size;
+    switch (dwarf_tag(type)) {
+    case DW_TAG_pointer_type: case DW_TAG_reference_type: case DW_TAG_rvalue_reference_type: return 0;
+    case DW_TAG_ptr_to_member_type: /* of a function it has a second word */
+        if (!dwexpr_libdw_type(type, &target) && dwarf_tag(&target) == DW_TAG_subroutine_type)
+            *bytes *= 2;
+        return 0;
+    case DW_TAG_string_type:
+        return dwarf_attr_integrate(type, DW_AT_string_length, &attribute)
+                   ? dwexpr_libdw_string_length(frame, type, &attribute, object, bytes)
+                   : DWEXPR_LIBDW_NO_NUMBER;
+    default: break;
+    }
+    if (!dwarf_attr_integrate(type, DW_AT_bit_size, &attribute))
+        return DWEXPR_LIBDW_NO_NUMBER;
+    code = dwexpr_libdw_number(frame, &attribute, object, bytes);
+    *bytes = *bytes / 8 + (*bytes % 8 != 0);
+    return code;
+}
+
+uint32_t dwexpr_libdw_size(dwexpr_libdw_frame *frame, Dwarf_Die *type, const uint64_t *object, uint64_t *bytes)
+{
+    const struct dwexpr_libdw_given given = {frame, object, NULL};
+    Dwarf_Attribute attribute;
+    Dwarf_Die kind = *type;
+    uint64_t count, stride, factor = 1;
+    uint32_t code = 0;
+    int steps;
+    *bytes = 0;
     /* the sizes of arrays of arrays are multiplied */
-    for (steps = 0; steps < 64; steps++) {
-        if (is_left_out(dwarf_tag(&kind))) {
+    for (steps = 0; steps < 64 && !code; steps++) {
+        struct dimension found[MOST_DIMENSIONS];
+        size_t length;
+        if (is_left_out(dwarf_tag(&kind)))
             code = dwexpr_libdw_type(&kind, &kind);
-            if (code)
-                return code;
-        }
-        if (dwarf_attr_integrate(&kind, DW_AT_byte_size, &attribute)) {
-            code = dwexpr_libdw_number(frame, &attribute, object, bytes);
+        if (!code && dwarf_hasattr(&kind, DW_AT_declaration))
+            code = dwexpr_libdw_definition(frame, &kind, &kind);
+        if (code)
+            break;
+        if (dwarf_attr_integrate(&kind, DW_AT_byte_size, &attribute) || dwarf_tag(&kind) != DW_TAG_array_type) {
+            code = other_size(frame, &kind, object, bytes);
+            if (!code && *bytes && factor > UINT64_MAX / *bytes)
+                code = DWEXPR_LIBDW_NO_NUMBER;
             *bytes *= factor;
             return code;
         }
-        if (dwarf_tag(&kind) != DW_TAG_array_type) {
-            Dwarf_Die unit;
-            uint8_t address_size;
-            const int tag = dwarf_tag(&kind);
-            if ((tag != DW_TAG_pointer_type && tag != DW_TAG_reference_type && tag != DW_TAG_rvalue_reference_type) ||
-                !dwarf_diecu(&kind, &unit, &address_size, NULL))
-                return DWEXPR_LIBDW_NO_NUMBER;
-            *bytes = factor * address_size;
+        code = dimensions(frame, &kind, object, found, &length);
+        if (!code)
+            code = elements(found, length, &count);
+        if (!code)
+            code = stride_of(&given, &kind, &stride);
+        if (code || (count && (factor > UINT64_MAX / count || stride > UINT64_MAX / 2 / count)))
+            break;
+        if (stride) {
+            const uint64_t whole = (count * stride + 7) / 8;
+            if (whole && factor > UINT64_MAX / whole)
+                break;
+            *bytes = factor * whole;
             return 0;
         }
-        code = elements(frame, &kind, object, &count);
-        if (code)
-            return code;
-        if (count && factor > UINT64_MAX / count)
-            return DWEXPR_LIBDW_NO_NUMBER;
         factor *= count;
         code = dwexpr_libdw_type(&kind, &kind);
-        if (code)
-            return code;
     }
-    return DWEXPR_LIBDW_NO_NUMBER;
+    return code ? code : DWEXPR_LIBDW_NO_NUMBER;
 }
 
 /* The bits of a bit field, which DWARF 3 counts from the highest bit of the bytes that hold it (section 5.6.6). */
@@ -186,29 +417,45 @@ static uint32_t old_bit_field(dwexpr_libdw_frame *frame, Dwarf_Die *member, uint
     return 0;
 }
 
+/* Where a member begins, unless it is a bit field whose place needs the bits. */
+static uint32_t member_begin(dwexpr_libdw_frame *frame, Dwarf_Die *member, const uint64_t *object, uint64_t *begin)
+{
+    /* an expression gives the member's address */
+    const uint64_t whole = object ? *object : 0;
+    Dwarf_Attribute attribute;
+    Dwarf_Block block;
+    uint32_t code;
+    *begin = 0;
+    /* that of a class, which no object holds */
+    if (dwarf_hasattr(member, DW_AT_declaration))
+        return DWEXPR_LIBDW_NO_NUMBER;
+    if (dwarf_attr(member, DW_AT_data_bit_offset, &attribute))
+        return dwexpr_libdw_number(frame, &attribute, NULL, begin);
+    if (!dwarf_attr(member, DW_AT_data_member_location, &attribute))
+        return 0;
+    code = dwexpr_libdw_number(frame, &attribute, &whole, begin);
+    *begin = 8 * (*begin - (dwarf_formblock(&attribute, &block) ? 0 : whole));
+    return code;
+}
+
 uint32_t dwexpr_libdw_member(dwexpr_libdw_frame *frame, Dwarf_Die *member, const uint64_t *object, uint64_t *begin,
                              uint64_t *bits)
 {
     Dwarf_Attribute attribute;
     Dwarf_Die type;
-    uint64_t number;
-    uint32_t code = 0;
-    *begin = 0;
+    uint64_t number, unused;
+    const int is_old = dwarf_attr(member, DW_AT_bit_offset, &attribute) != NULL;
+    uint32_t code = member_begin(frame, member, object, begin);
+    if (code || (!bits && !is_old))
+        return code;
+    bits = bits ? bits : &unused;
+    *bits = 0;
     if (dwarf_attr(member, DW_AT_bit_size, &attribute))
         code = dwexpr_libdw_number(frame, &attribute, NULL, bits);
     else if (dwexpr_libdw_type(member, &type))
         code = DWEXPR_LIBDW_FAILED;
     else if (!(code = dwexpr_libdw_size(frame, &type, object, bits)))
         *bits *= 8;
-    if (!code && dwarf_attr(member, DW_AT_data_bit_offset, &attribute))
-        return dwexpr_libdw_number(frame, &attribute, NULL, begin);
-    if (!code && dwarf_attr(member, DW_AT_data_member_location, &attribute)) {
-        /* an expression gives the member's address */
-        const uint64_t whole = object ? *object : 0;
-        Dwarf_Block block;
-        code = dwexpr_libdw_number(frame, &attribute, &whole, begin);
-        *begin = 8 * (*begin - (dwarf_formblock(&attribute, &block) ? 0 : whole));
-    }
     if (!code && dwarf_attr(member, DW_AT_bit_offset, &attribute)) {
         code = dwexpr_libdw_number(frame, &attribute, NULL, &number);
         if (!code)

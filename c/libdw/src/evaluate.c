@@ -49,10 +49,8 @@ static uint32_t register_number(const dwexpr_libdw_frame *frame, uint32_t number
 static int memory_number(const struct job *job, uint64_t *content)
 {
     const dwexpr_outcome *asked = &job->value->outcome;
-    const dwexpr_libdw_source *source = &job->frame->source;
-    uint8_t bytes[8] = {0};
-    if (asked->flag || asked->size > sizeof bytes || !source->read_memory ||
-        source->read_memory(source->context, asked->number, bytes, asked->size))
+    uint8_t bytes[UINT8_MAX] = {0};
+    if (asked->flag || dwexpr_libdw_memory(job->frame, asked->number, bytes, asked->size))
         return 1;
     *content = dwexpr_libdw_number_of(bytes, asked->size, job->value->encoding.big_endian);
     return 0;
@@ -64,9 +62,7 @@ static uint32_t find_base(dwexpr_libdw_frame *frame, uint32_t *left)
     uint32_t code;
     if (frame->has_base)
         return 0;
-    code = dwexpr_libdw_find_place(frame);
-    if (code)
-        return code;
+    dwexpr_libdw_find_place(frame);
     if (!frame->place.function.addr ||
         !dwarf_attr_integrate(&frame->place.function, DW_AT_frame_base, &attribute))
         return DWEXPR_LIBDW_OPTIMIZED_AWAY;
@@ -134,6 +130,19 @@ static int entry_of(Dwarf_Attribute *unit, uint8_t opcode, uint64_t offset, Dwar
     return !unit->cu || dwarf_getlocation_die(unit, &operation, entry);
 }
 
+/* The expression of an attribute at a frame's address, in the addresses of the attribute's module. */
+static uint32_t expression_in(dwexpr_libdw_frame *frame, Dwarf_Attribute *attribute, dwexpr_libdw_text *expression)
+{
+    Dwfl_Module *module;
+    Dwarf_Addr bias;
+    Dwarf_Block block;
+    memset(expression, 0, sizeof *expression);
+    /* a list has addresses of its module */
+    if (dwexpr_libdw_find_module(frame, attribute->cu, &module, &bias) && dwarf_formblock(attribute, &block))
+        return DWEXPR_LIBDW_WANTS + DWEXPR_WANTS_RELOCATED;
+    return dwexpr_libdw_expression(attribute, frame->place.address + frame->place.bias - bias, expression);
+}
+
 /* The text of a call's entry, by its index in the table. */
 static uint32_t location_of(struct job *job, size_t *index)
 {
@@ -148,7 +157,7 @@ static uint32_t location_of(struct job *job, size_t *index)
     if (entry_of(&job->unit, asked->flag ? DW_OP_call_ref : DW_OP_call4, asked->number, &entry))
         return DWEXPR_LIBDW_FAILED;
     if (dwarf_attr_integrate(&entry, DW_AT_location, &attribute))
-        code = dwexpr_libdw_expression(&attribute, job->frame->place.address, &called);
+        code = expression_in(job->frame, &attribute, &called);
     if (code && code != DWEXPR_LIBDW_OPTIMIZED_AWAY)
         return code;
     /* a second call of the same entry is a call of the same text */
@@ -168,6 +177,26 @@ static uint32_t location_of(struct job *job, size_t *index)
     return 0;
 }
 
+/* Makes an address in the debug information one of the process. */
+static int relocate(struct job *job, uint64_t *address)
+{
+    Dwfl_Module *module;
+    Dwarf_Addr bias;
+    const int failed = dwexpr_libdw_find_module(job->frame, job->unit.cu, &module, &bias);
+    *address += failed ? 0 : bias;
+    return failed;
+}
+
+/* The address of an offset in the thread-local storage of the expression's module. */
+static int thread_local_address(struct job *job, uint64_t *address)
+{
+    const dwexpr_libdw_source *source = &job->frame->source;
+    Dwfl_Module *module;
+    Dwarf_Addr bias;
+    return dwexpr_libdw_find_module(job->frame, job->unit.cu, &module, &bias) || !module || !source->find_tls ||
+           source->find_tls(source->context, module, job->value->outcome.number, address);
+}
+
 static int indexed_address(struct job *job, uint64_t *address)
 {
     Dwarf_Op operation = {DW_OP_addrx, job->value->outcome.number, 0, 0};
@@ -175,8 +204,19 @@ static int indexed_address(struct job *job, uint64_t *address)
     if (!job->unit.cu || dwarf_getlocation_attr(&job->unit, &operation, &attribute) ||
         dwarf_formaddr(&attribute, address))
         return 1;
-    *address += job->value->outcome.flag ? job->frame->place.bias : 0;
-    return 0;
+    return job->value->outcome.flag && relocate(job, address);
+}
+
+/* Whether an expression has no operations but of these kinds. */
+static int has_only(dwexpr_text text, dwexpr_encoding encoding, const uint8_t *kinds, size_t count)
+{
+    dwexpr_operation operation;
+    size_t at;
+    for (at = 0; at < text.length; at += operation.size)
+        if (dwexpr_decode(text.bytes, text.length, encoding, at, &operation) ||
+            !memchr(kinds, (int)operation.kind, count))
+            return 0;
+    return 1;
 }
 
 /* Whether an expression only moves values: then a number can have the bits of a float. */
@@ -187,13 +227,7 @@ static int moves_only(dwexpr_text text, dwexpr_encoding encoding)
                                     DWEXPR_OP_CALL_FRAME_CFA, DWEXPR_OP_PIECE, DWEXPR_OP_STACK_VALUE,
                                     DWEXPR_OP_ENTRY_VALUE, DWEXPR_OP_ADDRESS, DWEXPR_OP_TYPED_LITERAL,
                                     DWEXPR_OP_REINTERPRET};
-    dwexpr_operation operation;
-    size_t at;
-    for (at = 0; at < text.length; at += operation.size)
-        if (dwexpr_decode(text.bytes, text.length, encoding, at, &operation) ||
-            !memchr(kinds, (int)operation.kind, sizeof kinds))
-            return 0;
-    return 1;
+    return has_only(text, encoding, kinds, sizeof kinds);
 }
 
 /* The type of whole numbers for a base type. */
@@ -253,6 +287,7 @@ static uint32_t make_job(enum purpose purpose, dwexpr_libdw_frame *frame, const 
     job->frame = frame;
     job->unit.cu = expression->unit;
     job->value->unit = expression->unit;
+    job->value->frame = frame;
     job->value->encoding = expression->encoding;
     job->value->texts[0] = expression->text;
     job->value->texts_length = 1;
@@ -300,7 +335,7 @@ static uint32_t ask_caller(struct job *job, Dwarf_Attribute *attribute, uint32_t
 {
     dwexpr_libdw_frame *caller = job->between ? job->between : job->frame->source.caller;
     dwexpr_libdw_text expression;
-    uint32_t code = dwexpr_libdw_expression(attribute, caller->place.address, &expression);
+    uint32_t code = expression_in(caller, attribute, &expression);
     if (!code)
         code = make_job(FOR_VALUE, caller, &expression, left, next);
     if (code) {
@@ -361,16 +396,13 @@ static uint32_t ask_call_site(struct job *job, uint32_t *left, struct job **next
 /* Takes the number for which a job has waited. */
 static uint32_t take(struct job *job, uint64_t number, uint32_t *left, struct job **next)
 {
-    Dwarf_Addr entry;
     if (!job->waits_for_target) {
         job->answer.number = number;
         return resume(job);
     }
     job->waits_for_target = 0;
-    if (dwarf_entrypc(&job->frame->place.function, &entry))
-        return refused(job, 0);
-    return entry + job->frame->place.bias == number ? ask_passed(job, left, next)
-                                                    : ask_between(job, number, left, next);
+    return dwexpr_libdw_entry_of(job->frame) == number ? ask_passed(job, left, next)
+                                                       : ask_between(job, number, left, next);
 }
 
 /* ---- requests */
@@ -420,8 +452,7 @@ static uint32_t answer(struct job *job, uint32_t *left, struct job **next)
         break;
     case DWEXPR_WANTS_TLS:
         step->kind = DWEXPR_ANSWER_TLS;
-        failed = !frame->place.module || !frame->source.find_tls ||
-                 frame->source.find_tls(frame->source.context, frame->place.module, asked->number, &step->number);
+        failed = thread_local_address(job, &step->number);
         break;
     case DWEXPR_WANTS_LOCATION:
         step->kind = DWEXPR_ANSWER_LOCATION;
@@ -429,7 +460,8 @@ static uint32_t answer(struct job *job, uint32_t *left, struct job **next)
         break;
     case DWEXPR_WANTS_RELOCATED:
         step->kind = DWEXPR_ANSWER_RELOCATED;
-        step->number = asked->number + frame->place.bias;
+        step->number = asked->number;
+        failed = relocate(job, &step->number);
         break;
     case DWEXPR_WANTS_INDEXED:
         step->kind = DWEXPR_ANSWER_INDEXED;
@@ -501,7 +533,7 @@ static uint32_t attribute_number(enum purpose purpose, dwexpr_libdw_frame *frame
 {
     dwexpr_libdw_text expression;
     dwexpr_libdw_value *value = NULL;
-    uint32_t code = dwexpr_libdw_expression(attribute, frame->place.address, &expression);
+    uint32_t code = expression_in(frame, attribute, &expression);
     if (!code)
         code = evaluate_for(purpose, frame, &expression, object, initial, left, &value);
     if (!code)
@@ -535,50 +567,227 @@ uint32_t dwexpr_libdw_evaluate(dwexpr_libdw_frame *frame, const dwexpr_libdw_tex
     return evaluate_for(FOR_VALUE, frame, expression, object, initial, &left, value);
 }
 
-/* The value of DW_AT_const_value. */
-static uint32_t constant(Dwarf_Attribute *attribute, dwexpr_libdw_value *value)
+/* ---- the frame of an entry's function */
+
+/* The caller whose function encloses that of a frame: the one whose frame base DW_AT_static_link gives, or else the
+ * only one there is. GCC writes a link also if no caller sets it. NULL if it isn't known. */
+static dwexpr_libdw_frame *enclosing_frame(dwexpr_libdw_frame *inner, const Dwarf_Die *function)
 {
-    dwexpr_piece *piece = &value->pieces[0];
+    Dwarf_Attribute attribute;
+    dwexpr_libdw_frame *frame, *found = NULL;
+    uint32_t left = inner->limit;
+    uint64_t base = 0;
+    int count = 0;
+    const int has_link = dwarf_attr_integrate(&inner->place.function, DW_AT_static_link, &attribute) &&
+                         !attribute_number(FOR_VALUE, inner, &attribute, NULL, NULL, &left, &base);
+    for (frame = inner->source.caller; frame; frame = frame->source.caller) {
+        if (dwexpr_libdw_find_place(frame) || frame->place.function.addr != function->addr)
+            continue;
+        if (has_link && !find_base(frame, &left) && frame->base == base)
+            return frame;
+        found = frame;
+        count++;
+    }
+    return count == 1 ? found : NULL;
+}
+
+/* Goes out of the function of a frame, through those that enclose it, to one of them. */
+static uint32_t go_out(dwexpr_libdw_frame *frame, const Dwarf_Die *function, dwexpr_libdw_frame **owner)
+{
+    struct dwexpr_libdw_walk walk;
+    const uint32_t code = dwexpr_libdw_find_path(&walk, &frame->place.unit, &frame->place.function);
+    if (code)
+        return code;
+    while (frame && frame->place.function.addr != function->addr && --walk.depth > 0)
+        if (dwarf_tag(&walk.path[walk.depth - 1]) == DW_TAG_subprogram)
+            frame = enclosing_frame(frame, &walk.path[walk.depth - 1]);
+    *owner = frame;
+    free(walk.path);
+    return frame && walk.depth > 0 ? 0 : DWEXPR_LIBDW_OTHER_FUNCTION;
+}
+
+/* The innermost function in which an entry stands; its `addr` is NULL if there is none. */
+static uint32_t function_of(const Dwarf_Die *first, const Dwarf_Die *entry, Dwarf_Die *function)
+{
+    struct dwexpr_libdw_walk walk;
+    const uint32_t code = dwexpr_libdw_find_path(&walk, first, entry);
+    function->addr = NULL;
+    for (; !code && walk.depth > 0 && !function->addr; walk.depth--)
+        if (dwarf_tag(&walk.path[walk.depth - 1]) == DW_TAG_subprogram)
+            *function = walk.path[walk.depth - 1];
+    free(walk.path);
+    return code;
+}
+
+/* The frame in which a variable's location is evaluated: that of the function in which it stands. */
+static uint32_t find_owner(dwexpr_libdw_frame *frame, Dwarf_Die *variable, dwexpr_libdw_frame **owner)
+{
+    Dwarf_Die unit, function = {.addr = NULL};
+    uint32_t code = 0;
+    *owner = frame;
+    if (frame->place.function.addr && frame->place.function.cu == variable->cu)
+        code = function_of(&frame->place.function, variable, &function);
+    if (!code && !function.addr && dwarf_diecu(variable, &unit, NULL, NULL))
+        code = function_of(&unit, variable, &function);
+    if (code || !function.addr || function.addr == frame->place.function.addr)
+        return code;
+    return frame->place.function.addr ? go_out(frame, &function, owner) : DWEXPR_LIBDW_OTHER_FUNCTION;
+}
+
+/* Whether a location is the same in each frame. */
+static int is_fixed(Dwarf_Attribute *attribute)
+{
+    static const uint8_t kinds[] = {DWEXPR_OP_ADDRESS, DWEXPR_OP_ADDRESS_INDEX, DWEXPR_OP_UNSIGNED_CONSTANT,
+                                    DWEXPR_OP_CONSTANT_INDEX, DWEXPR_OP_PLUS_CONSTANT, DWEXPR_OP_TLS};
+    Dwarf_Block block;
+    dwexpr_encoding encoding;
+    return !dwarf_formblock(attribute, &block) && !dwexpr_libdw_encoding(attribute->cu, &encoding) &&
+           has_only((dwexpr_text){block.data, (size_t)block.length}, encoding, kinds, sizeof kinds);
+}
+
+/* ---- variables */
+
+/* Makes a value of one piece, at an address. */
+static uint32_t make_value(const dwexpr_libdw_frame *frame, Dwarf_CU *unit, uint64_t address,
+                           dwexpr_libdw_value **value)
+{
+    *value = (dwexpr_libdw_value *)calloc(1, sizeof **value);
+    if (!*value)
+        return DWEXPR_LIBDW_NO_MEMORY;
+    (*value)->unit = unit;
+    (*value)->frame = frame;
+    (*value)->outcome.request = DWEXPR_COMPLETE;
+    (*value)->outcome.pieces = 1;
+    (*value)->pieces[0].kind = DWEXPR_AT_ADDRESS;
+    (*value)->pieces[0].number = address;
+    return dwexpr_libdw_encoding(unit, &(*value)->encoding);
+}
+
+/* Makes the one piece of a value these bytes. */
+static void hold_bytes(dwexpr_libdw_value *value, const uint8_t *bytes, size_t length)
+{
+    value->pieces[0].kind = DWEXPR_HOLDS_BYTES;
+    value->pieces[0].block_length = length;
+    value->texts[0].bytes = bytes;
+    value->texts[0].length = length;
+    value->texts_length = 1;
+}
+
+/* Makes the one piece of a value a number, of more than 64 bits if its type has more. */
+static uint32_t hold_number(dwexpr_libdw_frame *frame, Dwarf_Die *variable, Dwarf_Attribute *attribute, uint64_t number,
+                            dwexpr_libdw_value *value)
+{
+    const unsigned form = dwarf_whatform(attribute);
+    Dwarf_Attribute encoding;
+    Dwarf_Die type;
+    Dwarf_Word kind = 0;
+    uint64_t size = 0;
+    struct dwexpr_libdw_memory *memory;
+    uint8_t *bytes;
+    if (!dwexpr_libdw_type(variable, &type)) {
+        dwexpr_libdw_size(frame, &type, NULL, &size);
+        dwarf_formudata(dwarf_attr_integrate(&type, DW_AT_encoding, &encoding), &kind);
+    }
+    value->pieces[0].kind = DWEXPR_HOLDS_VALUE;
+    value->pieces[0].value_type = DWEXPR_U64;
+    value->pieces[0].number = number;
+    if (size <= 8 || size > DWEXPR_LIBDW_REGISTER_SIZE)
+        return 0;
+    memory = (struct dwexpr_libdw_memory *)malloc(sizeof *memory + (size_t)size);
+    if (!memory)
+        return DWEXPR_LIBDW_NO_MEMORY;
+    memory->next = NULL;
+    value->memory = memory;
+    bytes = (uint8_t *)(memory + 1);
+    memset(bytes, (form == DW_FORM_sdata || form == DW_FORM_implicit_const || kind == DW_ATE_signed) && number >> 63
+                      ? 0xff : 0, (size_t)size);
+    dwexpr_libdw_bytes_of(number, 8, value->encoding.big_endian, bytes + (value->encoding.big_endian ? size - 8 : 0));
+    hold_bytes(value, bytes, (size_t)size);
+    return 0;
+}
+
+/* The value of DW_AT_const_value. */
+static uint32_t constant(dwexpr_libdw_frame *frame, Dwarf_Die *variable, Dwarf_Attribute *attribute,
+                         dwexpr_libdw_value *value)
+{
+    const char *string;
     Dwarf_Block block;
     Dwarf_Word number;
-    value->unit = attribute->cu;
-    if (dwexpr_libdw_encoding(attribute->cu, &value->encoding))
-        return DWEXPR_LIBDW_FAILED;
     if (!dwarf_formblock(attribute, &block)) {
-        piece->kind = DWEXPR_HOLDS_BYTES;
-        piece->block_length = (size_t)block.length;
-        value->texts[0].bytes = block.data;
-        value->texts[0].length = (size_t)block.length;
-        value->texts_length = 1;
-    } else if (!dwarf_formudata(attribute, &number)) {
-        piece->kind = DWEXPR_HOLDS_VALUE;
-        piece->value_type = DWEXPR_U64;
-        piece->number = number;
-    } else {
-        return DWEXPR_LIBDW_FAILED;
+        hold_bytes(value, block.data, (size_t)block.length);
+        return 0;
     }
-    value->outcome.request = DWEXPR_COMPLETE;
-    value->outcome.pieces = 1;
+    if (!dwarf_formudata(attribute, &number))
+        return hold_number(frame, variable, attribute, number, value);
+    string = dwarf_formstring(attribute);
+    if (!string)
+        return DWEXPR_LIBDW_FAILED;
+    hold_bytes(value, (const uint8_t *)string, strlen(string) + 1);
     return 0;
+}
+
+/* The value of a variable that another unit of its module defines, and that isn't exported. */
+static uint32_t hidden(dwexpr_libdw_frame *frame, Dwarf_Die *variable, Dwfl_Module *module, dwexpr_libdw_value **value)
+{
+    Dwarf_Die *globals;
+    Dwarf_Attribute attribute;
+    size_t count, i;
+    uint32_t code = dwexpr_libdw_globals(frame, module, dwexpr_libdw_linkage_name(variable), &globals, &count);
+    for (i = 0; i < count && !dwarf_attr_integrate(&globals[i], DW_AT_external, &attribute); i++)
+        ;
+    if (!code)
+        code = i < count ? dwexpr_libdw_variable(frame, &globals[i], value) : DWEXPR_LIBDW_NOT_DEFINED;
+    free(globals);
+    return code;
+}
+
+/* The value of a variable that other units see by its name, if it is that of another one: it is only declared here, or
+ * a module has its own before this one in the order in which names are looked for, as a program has copies of what its
+ * libraries export. */
+static uint32_t named(dwexpr_libdw_frame *frame, Dwarf_Die *variable, int is_declared, dwexpr_libdw_value **value)
+{
+    const dwexpr_libdw_source *source = &frame->source;
+    struct dwexpr_libdw_symbol symbol = {.name = dwexpr_libdw_linkage_name(variable)};
+    Dwfl_Module *module;
+    Dwarf_Addr bias;
+    if (!source->dwfl || !symbol.name || dwexpr_libdw_find_module(frame, variable->cu, &module, &bias))
+        return is_declared ? DWEXPR_LIBDW_NOT_DEFINED : 0;
+    if (!dwexpr_libdw_resolve(source->dwfl, module, !is_declared, &symbol))
+        return is_declared ? hidden(frame, variable, module, value) : 0;
+    if (!is_declared && symbol.module == module)
+        return 0;
+    if (GELF_ST_TYPE(symbol.symbol.st_info) == STT_TLS &&
+        (!source->find_tls ||
+         source->find_tls(source->context, symbol.module, symbol.symbol.st_value, &symbol.address)))
+        return DWEXPR_LIBDW_WANTS + DWEXPR_WANTS_TLS;
+    return make_value(frame, variable->cu, symbol.address, value);
 }
 
 uint32_t dwexpr_libdw_variable(dwexpr_libdw_frame *frame, Dwarf_Die *variable, dwexpr_libdw_value **value)
 {
-    Dwarf_Attribute attribute;
+    Dwarf_Attribute attribute, flag;
     dwexpr_libdw_text expression;
+    dwexpr_libdw_frame *owner = frame;
     uint32_t code = dwexpr_libdw_find_place(frame);
     *value = NULL;
-    if (code)
+    if (code == DWEXPR_LIBDW_NO_MEMORY)
         return code;
     if (dwarf_attr_integrate(variable, DW_AT_const_value, &attribute)) {
-        *value = (dwexpr_libdw_value *)calloc(1, sizeof **value);
-        return *value ? constant(&attribute, *value) : DWEXPR_LIBDW_NO_MEMORY;
+        code = make_value(frame, attribute.cu, 0, value);
+        return code ? code : constant(frame, variable, &attribute, *value);
     }
     if (!dwarf_attr_integrate(variable, DW_AT_location, &attribute))
-        return DWEXPR_LIBDW_OPTIMIZED_AWAY;
-    code = dwexpr_libdw_expression(&attribute, frame->place.address, &expression);
+        return dwarf_hasattr(variable, DW_AT_declaration) ? named(frame, variable, 1, value)
+                                                          : DWEXPR_LIBDW_OPTIMIZED_AWAY;
+    if (!is_fixed(&attribute))
+        code = find_owner(frame, variable, &owner);
+    else
+        code = dwarf_attr_integrate(variable, DW_AT_external, &flag) ? named(frame, variable, 0, value) : 0;
+    if (code || *value)
+        return code;
+    code = expression_in(owner, &attribute, &expression);
     if (!code)
-        code = dwexpr_libdw_evaluate(frame, &expression, NULL, NULL, value);
+        code = dwexpr_libdw_evaluate(owner, &expression, NULL, NULL, value);
     if (*value)
         dwexpr_libdw_keep(&expression, &(*value)->memory);
     else
@@ -589,17 +798,15 @@ uint32_t dwexpr_libdw_variable(dwexpr_libdw_frame *frame, Dwarf_Die *variable, d
 uint32_t dwexpr_libdw_on_entry(dwexpr_libdw_frame *frame, Dwarf_Die *parameter, dwexpr_libdw_value **value)
 {
     Dwarf_Attribute attribute;
-    Dwarf_Addr entry;
     dwexpr_libdw_text place, expression;
     uint8_t bytes[32];
     uint32_t code = dwexpr_libdw_find_place(frame);
     *value = NULL;
     if (code)
         return code;
-    if (!frame->place.function.addr || dwarf_entrypc(&frame->place.function, &entry) ||
-        !dwarf_attr_integrate(parameter, DW_AT_location, &attribute))
+    if (!frame->place.function.addr || !dwarf_attr_integrate(parameter, DW_AT_location, &attribute))
         return DWEXPR_LIBDW_OPTIMIZED_AWAY;
-    code = dwexpr_libdw_expression(&attribute, entry, &place);
+    code = dwexpr_libdw_expression(&attribute, dwexpr_libdw_entry_of(frame) - frame->place.bias, &place);
     if (!code && place.text.length > sizeof bytes - 3)
         code = DWEXPR_LIBDW_NOT_ENCODABLE;
     if (!code) {
@@ -629,7 +836,8 @@ uint32_t dwexpr_libdw_points_into(const dwexpr_libdw_value *value, const dwexpr_
 }
 
 /* The value of a member of an object, in whole bytes at a place that is a number: a discriminant in Ada. */
-static uint32_t member_value(Dwarf_Die *member, const uint64_t *object, dwexpr_libdw_value **value)
+static uint32_t member_value(dwexpr_libdw_frame *frame, Dwarf_Die *member, const uint64_t *object,
+                             dwexpr_libdw_value **value)
 {
     Dwarf_Attribute attribute;
     Dwarf_Word place;
@@ -637,14 +845,7 @@ static uint32_t member_value(Dwarf_Die *member, const uint64_t *object, dwexpr_l
     if (!object || dwarf_hasattr(member, DW_AT_bit_size) || dwarf_hasattr(member, DW_AT_data_bit_offset) ||
         dwarf_formudata(dwarf_attr(member, DW_AT_data_member_location, &attribute), &place))
         return DWEXPR_LIBDW_NO_NUMBER;
-    *value = (dwexpr_libdw_value *)calloc(1, sizeof **value);
-    if (!*value)
-        return DWEXPR_LIBDW_NO_MEMORY;
-    (*value)->outcome.request = DWEXPR_COMPLETE;
-    (*value)->outcome.pieces = 1;
-    (*value)->pieces[0].kind = DWEXPR_AT_ADDRESS;
-    (*value)->pieces[0].number = *object + place;
-    return dwexpr_libdw_encoding(attribute.cu, &(*value)->encoding);
+    return make_value(frame, attribute.cu, *object + place, value);
 }
 
 /* The number that a variable has, or a member of an object, as a bound of an array. */
@@ -653,15 +854,12 @@ static uint32_t variable_number(dwexpr_libdw_frame *frame, Dwarf_Die *variable, 
 {
     uint8_t bytes[8];
     dwexpr_libdw_value *value;
-    Dwarf_Attribute attribute;
     Dwarf_Die type;
     Dwarf_Word size, encoding;
     uint32_t code;
-    if (dwexpr_libdw_type(variable, &type) ||
-        dwarf_formudata(dwarf_attr_integrate(&type, DW_AT_byte_size, &attribute), &size) || !size || size > 8 ||
-        dwarf_formudata(dwarf_attr_integrate(&type, DW_AT_encoding, &attribute), &encoding))
+    if (dwexpr_libdw_type(variable, &type) || dwexpr_libdw_scalar(&type, &size, &encoding) || !size || size > 8)
         return DWEXPR_LIBDW_NO_NUMBER;
-    code = dwarf_tag(variable) == DW_TAG_member ? member_value(variable, object, &value)
+    code = dwarf_tag(variable) == DW_TAG_member ? member_value(frame, variable, object, &value)
                                                 : dwexpr_libdw_variable(frame, variable, &value);
     if (!code)
         code = dwexpr_libdw_read(frame, value, 8 * size, bytes, NULL);
@@ -676,26 +874,62 @@ static uint32_t variable_number(dwexpr_libdw_frame *frame, Dwarf_Die *variable, 
     return code;
 }
 
-uint32_t dwexpr_libdw_number(dwexpr_libdw_frame *frame, Dwarf_Attribute *attribute, const uint64_t *object,
-                             uint64_t *number)
+uint32_t dwexpr_libdw_number_with(const struct dwexpr_libdw_given *given, Dwarf_Attribute *attribute, uint64_t *number)
 {
-    const unsigned name = dwarf_whatattr(attribute), form = dwarf_whatform(attribute);
-    const int is_on_object = name == DW_AT_data_member_location || name == DW_AT_vtable_elem_location;
-    uint32_t left = frame->limit, code = dwexpr_libdw_find_place(frame);
+    const unsigned form = dwarf_whatform(attribute);
+    uint32_t left = given->frame->limit, code = dwexpr_libdw_find_place(given->frame);
     Dwarf_Block block;
     Dwarf_Die entry;
     Dwarf_Word found;
     *number = 0;
-    if (code)
+    if (code == DWEXPR_LIBDW_NO_MEMORY)
         return code;
     if (!dwarf_formblock(attribute, &block) || form == DW_FORM_sec_offset || form == DW_FORM_loclistx)
-        return attribute_number(FOR_VALUE, frame, attribute, object, is_on_object ? object : NULL, &left, number);
+        return attribute_number(FOR_VALUE, given->frame, attribute, given->object, given->initial, &left, number);
     if (dwarf_formref_die(attribute, &entry))
-        return variable_number(frame, &entry, object, number);
+        return variable_number(given->frame, &entry, given->object, number);
     if (dwarf_formudata(attribute, &found))
         return DWEXPR_LIBDW_NO_NUMBER;
     *number = found;
     return 0;
+}
+
+uint32_t dwexpr_libdw_number(dwexpr_libdw_frame *frame, Dwarf_Attribute *attribute, const uint64_t *object,
+                             uint64_t *number)
+{
+    const unsigned name = dwarf_whatattr(attribute);
+    const int is_on_object = name == DW_AT_data_member_location || name == DW_AT_vtable_elem_location;
+    const struct dwexpr_libdw_given given = {frame, object, is_on_object ? object : NULL};
+    return dwexpr_libdw_number_with(&given, attribute, number);
+}
+
+uint32_t dwexpr_libdw_string_length(dwexpr_libdw_frame *frame, Dwarf_Die *type, Dwarf_Attribute *attribute,
+                                    const uint64_t *object, uint64_t *bytes)
+{
+    Dwarf_Attribute size;
+    Dwarf_Block block;
+    Dwarf_Word count;
+    dwexpr_libdw_text place;
+    dwexpr_libdw_value *value = NULL;
+    uint8_t content[8];
+    uint32_t code;
+    if (dwarf_formblock(attribute, &block) && dwarf_whatform(attribute) != DW_FORM_sec_offset &&
+        dwarf_whatform(attribute) != DW_FORM_loclistx)
+        return dwexpr_libdw_number(frame, attribute, object, bytes);
+    code = expression_in(frame, attribute, &place);
+    if (dwarf_formudata(dwarf_attr_integrate(type, DW_AT_string_length_byte_size, &size), &count))
+        count = place.encoding.address_size;
+    if (!code && count > sizeof content)
+        code = DWEXPR_LIBDW_NO_NUMBER;
+    if (!code)
+        code = dwexpr_libdw_evaluate(frame, &place, object, NULL, &value);
+    if (!code)
+        code = dwexpr_libdw_read(frame, value, 8 * count, content, NULL);
+    if (!code)
+        *bytes = dwexpr_libdw_number_of(content, (size_t)count, place.encoding.big_endian);
+    dwexpr_libdw_release(value);
+    dwexpr_libdw_free_text(&place);
+    return code;
 }
 
 uint32_t dwexpr_libdw_caller_register(dwexpr_libdw_frame *frame, int register_number, uint8_t *bytes, size_t *size)

@@ -55,14 +55,14 @@ static uint32_t from_operations(const Dwarf_Op *operations, size_t count, dwexpr
 {
     struct dwexpr_libdw_memory *memory;
     size_t length;
-    const uint32_t code = dwexpr_libdw_encode(operations, count, expression->encoding, NULL, 0, &length);
+    const uint32_t code = dwexpr_libdw_encode(operations, count, 0, expression->encoding, NULL, 0, &length);
     if (code)
         return code;
     memory = (struct dwexpr_libdw_memory *)malloc(sizeof *memory + length);
     if (!memory)
         return DWEXPR_LIBDW_NO_MEMORY;
     memory->next = NULL;
-    dwexpr_libdw_encode(operations, count, expression->encoding, (uint8_t *)(memory + 1), length, &length);
+    dwexpr_libdw_encode(operations, count, 0, expression->encoding, (uint8_t *)(memory + 1), length, &length);
     expression->memory = memory;
     expression->text.bytes = (uint8_t *)(memory + 1);
     expression->text.length = length;

@@ -62,19 +62,65 @@ struct dwexpr_libdw_walk {
 uint32_t dwexpr_libdw_begin_walk(struct dwexpr_libdw_walk *walk, const Dwarf_Die *first);
 /* Goes to the next entry, into the children if `enters`. Gives back 1; 0 at the end; or -1 if there is no memory. */
 int dwexpr_libdw_next_entry(struct dwexpr_libdw_walk *walk, int enters);
+/* Begins a walk that has gone down to an entry, so that the path has the entry's parents; it is empty if the entry
+ * isn't there. */
+uint32_t dwexpr_libdw_find_path(struct dwexpr_libdw_walk *walk, const Dwarf_Die *first, const Dwarf_Die *entry);
+
+/* The bytes of a number and its encoding, as a type says them, or that of which it is a range. Gives back 0 if both are
+ * known. */
+int dwexpr_libdw_scalar(Dwarf_Die *type, Dwarf_Word *size, Dwarf_Word *encoding);
+
+/* ---- evaluate.c */
+
+/* What the number of an attribute is computed with: the object's address, and the value on the stack at the begin. */
+struct dwexpr_libdw_given {
+    dwexpr_libdw_frame *frame;
+    const uint64_t *object, *initial;
+};
+
+uint32_t dwexpr_libdw_number_with(const struct dwexpr_libdw_given *given, Dwarf_Attribute *attribute, uint64_t *number);
+/* The bytes of a string, by DW_AT_string_length, which is the place of a number. */
+uint32_t dwexpr_libdw_string_length(dwexpr_libdw_frame *frame, Dwarf_Die *type, Dwarf_Attribute *attribute,
+                                    const uint64_t *object, uint64_t *bytes);
 
 /* ---- frames.c */
 
 /* Finds the module, the unit and the function of a frame, the same each time. */
 uint32_t dwexpr_libdw_find_place(dwexpr_libdw_frame *frame);
+/* Finds the module of a unit, and what is added to its addresses: those of the frame if the unit is NULL. Gives back 0,
+ * or 1 if they aren't known. */
+int dwexpr_libdw_find_module(dwexpr_libdw_frame *frame, Dwarf_CU *unit, Dwfl_Module **module, Dwarf_Addr *bias);
 void dwexpr_libdw_begin_frame(dwexpr_libdw_frame *frame, const dwexpr_libdw_source *source);
-/* A register of a frame. Answers 0, DWEXPR_LIBDW_NOT_READABLE or DWEXPR_LIBDW_BAD_REGISTER. */
-uint32_t dwexpr_libdw_register(const dwexpr_libdw_frame *frame, uint32_t number,
-                               uint8_t bytes[DWEXPR_LIBDW_REGISTER_SIZE], size_t *size);
+/* The address where a function begins: of several ranges the first one, which is that of its entry. Gives back whether
+ * there is one. */
+int dwexpr_libdw_has_entry(Dwarf_Die *function, Dwarf_Addr *address);
+/* The same of a frame's function in the process; 0 if there is none. */
+uint64_t dwexpr_libdw_entry_of(const dwexpr_libdw_frame *frame);
 
 /* The call frame information at a frame's address, of .eh_frame or, if `i` is 1, of .debug_frame. Gives back 0, and
  * then `state` is to be freed. */
-int dwexpr_libdw_find_state(dwexpr_libdw_frame *frame, int i, Dwarf_Frame **state, Elf **elf);
+int dwexpr_libdw_find_state(const dwexpr_libdw_frame *frame, int i, Dwarf_Frame **state, Elf **elf);
+
+/* ---- globals.c */
+
+/* A symbol: its name, and where it is found. */
+struct dwexpr_libdw_symbol {
+    const char *name;
+    Dwfl_Module *module;
+    GElf_Sym symbol;
+    Dwarf_Addr address; /* unless it is in thread-local storage */
+};
+
+/* Finds a symbol of a module by its name: at an address if that isn't 0, as a function may have several, and else that
+ * of a function, or of a variable that isn't local. Gives back whether there is one. */
+int dwexpr_libdw_find_symbol(Dwfl_Module *module, Dwarf_Addr address, struct dwexpr_libdw_symbol *symbol);
+/* Finds the symbol that a name in a module's code stands for: the module's own if it doesn't export that, else that of
+ * the program, the module's own, or that of the only module which exports it. If `is_its_own`, only if the module
+ * exports it. Gives back whether there is one. */
+int dwexpr_libdw_resolve(Dwfl *dwfl, Dwfl_Module *module, int is_its_own, struct dwexpr_libdw_symbol *symbol);
+
+/* The name that an entry has for the linker, or else in its source. */
+const char *dwexpr_libdw_linkage_name(Dwarf_Die *entry);
 
 /* ---- calls.c */
 

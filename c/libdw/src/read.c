@@ -118,7 +118,7 @@ uint32_t dwexpr_libdw_read(const dwexpr_libdw_frame *frame, const dwexpr_libdw_v
                            uint8_t *bytes, uint8_t *unknown)
 {
     const size_t size = (size_t)(size_in_bits / 8 + (size_in_bits % 8 != 0));
-    const struct destination place = {frame, value->encoding.big_endian, bytes, unknown};
+    const struct destination place = {value->frame ? value->frame : frame, value->encoding.big_endian, bytes, unknown};
     uint64_t done, count;
     uint32_t code = 0;
     size_t i = 0;
@@ -148,12 +148,13 @@ const char *dwexpr_libdw_code_name(uint32_t code)
         "the register has the caller's value", "an implicit pointer", "memory or a register can't be read",
         "a location is smaller than its piece", "the answers take too many expressions", "there are more frames",
         "a callback gave a register of too many bytes", "there is no such number",
+        "a variable of another function", "it is only declared", "the frames are cut off",
     };
     const char *name;
     if (code >= DWEXPR_LIBDW_WANTS)
         name = dwexpr_request_name(code - DWEXPR_LIBDW_WANTS);
     else if (code >= DWEXPR_LIBDW_FAILED)
-        name = code <= DWEXPR_LIBDW_NO_NUMBER ? names[code - DWEXPR_LIBDW_FAILED] : NULL;
+        name = code <= DWEXPR_LIBDW_CUT_OFF ? names[code - DWEXPR_LIBDW_FAILED] : NULL;
     else
         name = dwexpr_code_name(code);
     return name ? name : "unknown code";

@@ -20,6 +20,7 @@ struct stack_frame {
     dwexpr_libdw_frame frame;
     dwexpr_libdw_stack *stack;
     size_t registers, register_count; /* in those of the stack */
+    int is_guessed; /* the one that it called has no call frame information: libdwfl takes its frame pointer */
 };
 
 struct dwexpr_libdw_stack {
@@ -30,6 +31,7 @@ struct dwexpr_libdw_stack {
     struct known_register *registers;
     size_t register_length, register_room;
     struct dwexpr_libdw_sets sets; /* of the innermost frame */
+    int is_cut_off;
     uint32_t code;
 };
 
@@ -143,7 +145,7 @@ static int read_register(void *context, uint32_t number, uint8_t *bytes, size_t 
         if (!i)
             return read_set(stack, number, bytes, size);
         /* a signal's handler keeps nothing */
-        if (stack->frames[i].frame.source.is_activation ||
+        if (stack->frames[i].frame.source.is_activation || stack->frames[i].is_guessed ||
             (i == first && !is_kept(&stack->frames[first].frame, target->machine, number)))
             return 1;
     }
@@ -184,33 +186,12 @@ static int find_thread_pointer(const dwexpr_libdw_stack *stack, uint64_t *pointe
     return 0;
 }
 
-/* On x86 the program's own is below the thread pointer. libdwfl doesn't tell where that of a shared library is. */
 static int find_tls(void *context, Dwfl_Module *module, uint64_t offset, uint64_t *address)
 {
     const dwexpr_libdw_stack *stack = ((const struct stack_frame *)context)->stack;
-    const dwexpr_libdw_target *target = stack->target;
     uint64_t pointer;
-    size_t count, i;
-    Dwarf_Addr bias;
-    Elf *elf = dwfl_module_getelf(module, &bias);
-    if (!elf || !target->program || dwfl_addrmodule(target->dwfl, target->program) != module ||
-        elf_getphdrnum(elf, &count) || find_thread_pointer(stack, &pointer))
-        return 1;
-    for (i = 0; i < count; i++) {
-        GElf_Phdr segment;
-        uint64_t align, first;
-        if (!gelf_getphdr(elf, (int)i, &segment) || segment.p_type != PT_TLS)
-            continue;
-        /* GCC 12 writes an address for an offset in split debug information of version 5 */
-        if (offset >= segment.p_memsz)
-            return 1;
-        /* the block ends at the pointer, and begins at an address with the alignment of the segment */
-        align = segment.p_align ? segment.p_align : 1;
-        first = (0 - segment.p_vaddr) % align;
-        *address = pointer + offset - first - (segment.p_memsz - first + align - 1) / align * align;
-        return 0;
-    }
-    return 1;
+    return find_thread_pointer(stack, &pointer) ||
+           dwexpr_libdw_find_block(stack->target, module, pointer, offset, address);
 }
 
 /* ---- the way through the frames */
@@ -252,6 +233,20 @@ static uint32_t add_registers(dwexpr_libdw_stack *stack, Dwfl_Frame *state, stru
     return 0;
 }
 
+static int has_rules(const dwexpr_libdw_frame *frame)
+{
+    int i;
+    for (i = 0; i < 2; i++) {
+        Dwarf_Frame *state;
+        Elf *elf;
+        if (!dwexpr_libdw_find_state(frame, i, &state, &elf)) {
+            free(state);
+            return 1;
+        }
+    }
+    return 0;
+}
+
 static int on_frame(Dwfl_Frame *state, void *given)
 {
     dwexpr_libdw_stack *stack = (dwexpr_libdw_stack *)given;
@@ -279,6 +274,10 @@ static int on_frame(Dwfl_Frame *state, void *given)
     frames->stack = stack;
     source.is_activation = is_activation;
     dwexpr_libdw_begin_frame(&frames->frame, &source);
+    frames->is_guessed = stack->length > 1 && !has_rules(&frames[-1].frame);
+    if (frames->is_guessed)
+        dwexpr_libdw_keep_error("a frame has no call frame information");
+    stack->is_cut_off |= frames->is_guessed;
     stack->code = add_registers(stack, state, frames);
     return stack->code ? DWARF_CB_ABORT : DWARF_CB_OK;
 }
@@ -296,8 +295,10 @@ uint32_t dwexpr_libdw_unwind(dwexpr_libdw_target *target, pid_t thread, size_t m
     found->most = most;
     if (target->core)
         found->code = dwexpr_libdw_read_sets(target, thread, &found->sets);
-    if (!found->code)
-        dwfl_getthread_frames(target->dwfl, thread, on_frame, found);
+    if (!found->code && dwfl_getthread_frames(target->dwfl, thread, on_frame, found) < 0) {
+        dwexpr_libdw_keep_error(dwfl_errmsg(-1));
+        found->is_cut_off = 1;
+    }
     for (i = 0; i < found->length; i++) {
         found->frames[i].frame.source.context = &found->frames[i];
         found->frames[i].frame.source.caller = i + 1 < found->length ? &found->frames[i + 1].frame : NULL;
@@ -305,7 +306,9 @@ uint32_t dwexpr_libdw_unwind(dwexpr_libdw_target *target, pid_t thread, size_t m
     code = found->code;
     if (!code && !found->length)
         code = DWEXPR_LIBDW_NO_TARGET;
-    if (code && code != DWEXPR_LIBDW_TOO_MANY_FRAMES) {
+    if (!code && found->is_cut_off)
+        code = DWEXPR_LIBDW_CUT_OFF;
+    if (code && code != DWEXPR_LIBDW_TOO_MANY_FRAMES && code != DWEXPR_LIBDW_CUT_OFF) {
         dwexpr_libdw_free_stack(found);
         return code;
     }

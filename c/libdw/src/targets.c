@@ -4,6 +4,7 @@
 
 #if _ELFUTILS_PREREQ(0, 188) /* dwfl_frame_reg */
 
+#include <errno.h>
 #include <fcntl.h>
 #include <stdio.h>
 #include <unistd.h>
@@ -230,6 +231,28 @@ static void read_process_header(dwexpr_libdw_target *target)
     target->file = open_file(path);
 }
 
+/* ---- why there is no target */
+
+static _Thread_local const char *error;
+
+void dwexpr_libdw_keep_error(const char *text)
+{
+    error = text;
+}
+
+const char *dwexpr_libdw_target_error(void)
+{
+    return error ? error : "nothing failed";
+}
+
+/* What the system's number or, if that is negative, libdwfl says. Gives back whether there is one. */
+static int has_failed(int number)
+{
+    if (number)
+        error = number > 0 ? strerror(number) : dwfl_errmsg(-1);
+    return number != 0;
+}
+
 /* ---- targets */
 
 static int on_thread(Dwfl_Thread *thread, void *given)
@@ -275,7 +298,9 @@ static uint32_t begin_target(dwexpr_libdw_target *target, Dwfl *dwfl, Elf *core)
     failed = dwfl_getthreads(dwfl, on_thread, target);
     if (failed == DWARF_CB_ABORT)
         return DWEXPR_LIBDW_NO_MEMORY;
-    return failed || !target->thread_count ? DWEXPR_LIBDW_NO_TARGET : 0;
+    if (!failed && !target->thread_count)
+        error = "it has no threads";
+    return has_failed(failed) || !target->thread_count ? DWEXPR_LIBDW_NO_TARGET : 0;
 }
 
 uint32_t dwexpr_libdw_attach(Dwfl *dwfl, Elf *core, dwexpr_libdw_target **target)
@@ -293,8 +318,8 @@ uint32_t dwexpr_libdw_open_process(pid_t process, dwexpr_libdw_target **target)
         return code;
     dwfl = (*target)->owned = dwfl_begin(&finders);
     code = DWEXPR_LIBDW_NO_TARGET;
-    if (dwfl && !dwfl_linux_proc_report(dwfl, process) && !dwfl_report_end(dwfl, NULL, NULL) &&
-        !dwfl_linux_proc_attach(dwfl, process, false))
+    if (!has_failed(dwfl ? 0 : -1) && !has_failed(dwfl_linux_proc_report(dwfl, process)) &&
+        !has_failed(dwfl_report_end(dwfl, NULL, NULL)) && !has_failed(dwfl_linux_proc_attach(dwfl, process, false)))
         code = begin_target(*target, dwfl, NULL);
     return ended(code, target);
 }
@@ -309,12 +334,17 @@ uint32_t dwexpr_libdw_open_core(const char *file, const char *program, dwexpr_li
         return code;
     elf_version(EV_CURRENT);
     (*target)->file = open_file(file);
-    if ((*target)->file >= 0)
-        core = (*target)->opened = elf_begin((*target)->file, ELF_C_READ_MMAP, NULL);
+    if ((*target)->file < 0) {
+        has_failed(errno);
+        return ended(DWEXPR_LIBDW_NO_TARGET, target);
+    }
+    core = (*target)->opened = elf_begin((*target)->file, ELF_C_READ_MMAP, NULL);
     dwfl = (*target)->owned = dwfl_begin(&finders);
     code = DWEXPR_LIBDW_NO_TARGET;
-    if (core && dwfl && dwfl_core_file_report(dwfl, core, program) > 0 && !dwfl_report_end(dwfl, NULL, NULL) &&
-        dwfl_core_file_attach(dwfl, core) >= 0)
+    if (!core)
+        error = elf_errmsg(-1);
+    else if (!has_failed(dwfl ? 0 : -1) && !has_failed(-(dwfl_core_file_report(dwfl, core, program) <= 0)) &&
+             !has_failed(dwfl_report_end(dwfl, NULL, NULL)) && !has_failed(-(dwfl_core_file_attach(dwfl, core) < 0)))
         code = begin_target(*target, dwfl, core);
     return ended(code, target);
 }
@@ -329,6 +359,11 @@ void dwexpr_libdw_close(dwexpr_libdw_target *target)
     if (target->file >= 0)
         close(target->file);
     free(target);
+}
+
+Dwfl *dwexpr_libdw_dwfl(const dwexpr_libdw_target *target)
+{
+    return target->dwfl;
 }
 
 size_t dwexpr_libdw_threads(const dwexpr_libdw_target *target, const pid_t **threads)

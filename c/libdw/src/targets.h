@@ -26,6 +26,9 @@ struct dwexpr_libdw_target {
     Dwarf_Addr program; /* an address in the program itself, 0 if it isn't known */
 };
 
+/* Keeps a text for dwexpr_libdw_target_error. */
+void dwexpr_libdw_keep_error(const char *text);
+
 /* The sets of a thread. */
 struct dwexpr_libdw_sets {
     uint8_t *bytes[SETS];
@@ -35,6 +38,9 @@ struct dwexpr_libdw_sets {
 uint32_t dwexpr_libdw_keep_set(struct dwexpr_libdw_sets *sets, enum set set, const uint8_t *bytes, size_t length);
 /* The sets of a thread in a core dump. */
 uint32_t dwexpr_libdw_read_sets(const dwexpr_libdw_target *target, pid_t thread, struct dwexpr_libdw_sets *sets);
+/* The address of an offset in a module's thread-local storage, of the thread with a thread pointer. */
+int dwexpr_libdw_find_block(const dwexpr_libdw_target *target, Dwfl_Module *module, uint64_t pointer, uint64_t offset,
+                            uint64_t *address);
 int dwexpr_libdw_read_memory(const dwexpr_libdw_target *target, uint64_t address, uint8_t *bytes, size_t size);
 
 #pragma GCC visibility pop

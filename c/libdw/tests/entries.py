@@ -15,6 +15,9 @@ from unit import Unit, signed_leb, unsigned_leb
 VARIABLE, PLAIN, LISTED, BASE_TYPE = 2, 3, 4, 5
 # DW_AT_const_value by its form: udata, sdata, data1, block1, data16
 CONSTANTS = {"udata": (6, 0x0F), "sdata": (7, 0x0D), "data1": (8, 0x0B), "block1": (9, 0x0A), "data16": (10, 0x1E)}
+CONSTANTS |= {"string": (11, 0x08), "ref4": (12, 0x13)}
+# the same of a variable with a type
+TYPED = {"udata": 13, "sdata": 14}
 SIGNED, UNSIGNED, SIGNED_CHAR, UNSIGNED_CHAR, BOOLEAN, FLOAT, COMPLEX = 5, 7, 6, 8, 2, 4, 3
 
 
@@ -38,8 +41,14 @@ class Entries(Unit):
         return self.add(bytes([VARIABLE]) + name + unsigned_leb(len(expression)) + expression)
 
     def constant(self, form, wanted, content):
-        name = f"a constant by {form}: {wanted.hex()}".encode() + b"\0"
+        wanted = wanted if isinstance(wanted, str) else wanted.hex()
+        name = f"a constant by {form}: {wanted}".encode() + b"\0"
         self.add(bytes([CONSTANTS[form][0]]) + name + content)
+
+    def typed(self, form, kind, wanted, content):
+        """A constant with a type."""
+        name = f"a constant of a type by {form}: {wanted.hex()}".encode() + b"\0"
+        self.add(bytes([TYPED[form]]) + name + self.pack("I", kind) + content)
 
     def call(self, offset):
         return b"\x99" + self.pack("I", offset)
@@ -80,6 +89,7 @@ class Entries(Unit):
         five = self.add(bytes([VARIABLE]) + b"five\0" + b"\1\x35")
         empty = self.add(bytes([PLAIN]))
         two = self.add(bytes([LISTED]) + self.offset(self.list_begins))
+        self.no_bytes = self.add(bytes([LISTED]) + self.offset(self.list_begins + self.second_list))
         sum_of = b"\x33%b\x22\x9f"
         eight = self.pack("I", 8)
         self.variable("3 + call2", eight, sum_of % (b"\x98" + self.pack("H", five)))
@@ -90,6 +100,13 @@ class Entries(Unit):
         many = b"\x30" + 70 * (self.call(two) + b"\x22") + b"\x9f"
         self.variable("many calls of a list", self.pack("I", 140), many)
         self.variable("a call of no entry", "an entry's location", self.call(0xFFFF))
+        # of each of 64 entries, which are one more than a run has room for beside its own text
+        each = [self.add(bytes([VARIABLE]) + b"\0" + b"\2\x08" + bytes([it])) for it in range(64)]
+        every = b"\x30" + b"".join(self.call(it) + b"\x22" for it in each) + b"\x9f"
+        self.variable("calls of too many entries", "too many texts are called", every)
+        self.variable("calls of many entries", self.pack("I", sum(range(63))), every[:1] + every[1:-7] + b"\x9f")
+        # the byte 64 may be a sign, so its list can't be put together
+        self.variable("a call of a list without bytes", "an entry's location", self.call(self.no_bytes))
         # The next variable calls itself.
         itself = self.variable("a place", "00", b"\x30\x9f") + len(b"\2a place: 00\0\2\x30\x9f")
         self.variable("a call of itself", "a list is full", self.call(itself))
@@ -102,6 +119,21 @@ class Entries(Unit):
         self.constant("data1", self.pack("I", 253), b"\xfd")
         self.constant("block1", b"\xaa\xbb\xcc", b"\3\xaa\xbb\xcc")
         self.constant("data16", bytes(range(16)), bytes(range(16)))
+        self.constant("string", b"abc\0", b"abc\0")
+        self.constant("ref4", "libdw refuses the debug information", self.pack("I", 0))
+        # numbers of types with more than 64 bits, in the order of the target
+
+        def wide(number):
+            return (number % 2**128).to_bytes(16, "little" if self.order == "<" else "big")
+
+        for kind in (SIGNED, UNSIGNED):
+            base = self.base_type(16, kind)
+            self.typed("sdata", base, wide(-5), signed_leb(-5))
+            self.typed("sdata", base, wide(5), signed_leb(5))
+            self.typed("udata", base, wide(7), unsigned_leb(7))
+            top = 2**64 - 9
+            self.typed("udata", base, wide(top - 2**64 if kind == SIGNED else top), unsigned_leb(top))
+        self.typed("udata", self.base_type(65, UNSIGNED), self.pack("I", 7), unsigned_leb(7))
 
     def addresses(self):
         """Two addresses of .debug_addr."""
@@ -115,10 +147,19 @@ class Entries(Unit):
         abbreviations += bytes([LISTED, 0x34, 0, 0x02, 0x17, 0, 0, BASE_TYPE, 0x24, 0, 0x0B, 0x0B, 0x3E, 0x0B, 0, 0])
         for code, form in CONSTANTS.values():
             abbreviations += bytes([code, 0x34, 0, 0x03, 0x08, 0x1C, form, 0, 0])
-        two = b"\5\1\x32\0"  # DW_LLE_default_location
-        if self.version < 5:
-            two = self.address(0) + self.address(0x10000) + self.pack("H", 1) + b"\x32" + 2 * self.address(0)
-        lists, self.list_begins = self.lists(two)
+        for form, code in TYPED.items():
+            abbreviations += bytes([code, 0x34, 0, 0x03, 0x08, 0x49, 0x13, 0x1C, CONSTANTS[form][1], 0, 0])
+        pointer = b"\xa0" + self.offset(0) + b"\x40"
+
+        def list_of(expression):
+            if self.version >= 5:
+                return b"\5" + bytes([len(expression)]) + expression + b"\0"  # DW_LLE_default_location
+            places = self.address(0) + self.address(0x10000)
+            return places + self.pack("H", len(expression)) + expression + 2 * self.address(0)
+
+        two = list_of(b"\x32")
+        self.second_list = len(two)
+        lists, self.list_begins = self.lists(two + list_of(pointer))
         self.types()
         self.calls()
         if self.version >= 4:

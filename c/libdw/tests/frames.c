@@ -8,6 +8,8 @@
  *     frames bases PID      bases.cpp beside this, where `copied` has virtual bases
  *     frames bounds PID     bounds.f90 beside this, where an array's bounds stand in its descriptor
  *     frames variants PID   variants.adb beside this, where an array's bounds are members of the object
+ *     frames modules PID    place 1 of modules.c
+ *     frames no_rules PID   no_rules.c beside this
  *     frames signals PID    place 1 of signals.c, by clang -O2, which names a caller's register whatever a call
  *                           changes */
 #include <dwarf.h>
@@ -351,6 +353,102 @@ static void check_variants(void)
     check(frame && dwexpr_libdw_member(frame, &member, NULL, &begin, &bits), "items", "not without an object");
 }
 
+/* ---- modules */
+
+static int is_split, is_offset = 1;
+
+/* The values that variables of a name have in a frame, in the order in which they are found; how many there are. */
+static size_t globals_of(dwexpr_libdw_frame *frame, const char *name, uint64_t *numbers, Dwarf_Die *last)
+{
+    Dwarf_Die *globals;
+    size_t count, i;
+    check(!dwexpr_libdw_globals(frame, NULL, name, &globals, &count), name, "they are looked for");
+    for (i = 0; i < count && i < 4; i++) {
+        dwexpr_libdw_value *value;
+        uint32_t code = dwexpr_libdw_variable(frame, &globals[i], &value);
+        numbers[i] = 0;
+        if (!code)
+            code = dwexpr_libdw_read(frame, value, 32, (uint8_t *)&numbers[i], NULL);
+        /* GCC 12 writes addresses for offsets in split debug information of version 5 */
+        is_offset &= code != DWEXPR_LIBDW_WANTS + DWEXPR_WANTS_TLS;
+        check(!code || !is_offset, name, dwexpr_libdw_code_name(code));
+        dwexpr_libdw_release(value);
+        *last = globals[i];
+    }
+    free(globals);
+    return count;
+}
+
+/* Of the library, whose `library_count` is the copy in the program, and of the second one: as gdb has them. `argc` is
+ * 2. */
+static void check_modules(void)
+{
+    static const struct {
+        const char *name;
+        size_t count;
+        uint64_t numbers[2];
+    } rows[] = {{"library_count", 2, {42, 42}}, {"library_static", 2, {42, 42}}, {"library_hidden", 2, {43, 43}},
+                {"library_local", 2, {46, 66}}, {"own_local", 1, {10, 0}},       {"exchanged", 1, {0, 0}},
+                {"nowhere", 0, {0, 0}}};
+    dwexpr_libdw_frame *frame;
+    dwexpr_libdw_place place;
+    Dwarf_Die last, unit, function, parameter, *globals;
+    dwexpr_libdw_value *value;
+    uint64_t numbers[4];
+    size_t i, j, count;
+    int more;
+    /* in the program's frames, and in one of libc, which may have no debug information */
+    for (j = 0; (frame = dwexpr_libdw_frame_at(stack, j)) != NULL; j++)
+        for (i = 0; i < COUNT(rows); i++) {
+            is_offset = 1;
+            count = globals_of(frame, rows[i].name, numbers, &last);
+            check(is_split || is_offset, rows[i].name, "an offset");
+            if (!is_offset)
+                continue;
+            check(count == rows[i].count, rows[i].name, "how many there are");
+            /* the modules are in the order of their addresses */
+            check(!count || (count == 1 && numbers[0] == rows[i].numbers[0]) ||
+                      (count == 2 && numbers[0] + numbers[1] == rows[i].numbers[0] + rows[i].numbers[1]),
+                  rows[i].name, "its value");
+        }
+    frame = dwexpr_libdw_frame_at(stack, 0);
+    dwexpr_libdw_locate(frame, &place);
+    check(!dwexpr_libdw_globals(frame, place.module, NULL, &globals, &count) && count == 3, "the program",
+          "at, own_local, exchanged");
+    free(globals);
+    /* a parameter of a function that isn't on the stack */
+    globals_of(frame, "library_hidden", numbers, &last);
+    check(dwarf_diecu(&last, &unit, NULL, NULL) && first_child(&unit, DW_TAG_subprogram, &function), "library",
+          "its unit");
+    for (more = 0; more == 0 && strcmp(dwarf_diename(&function), "library_last");)
+        more = dwarf_siblingof(&function, &function);
+    check(more == 0 && first_child(&function, DW_TAG_formal_parameter, &parameter), "library_last", "its parameter");
+    check(dwexpr_libdw_variable(frame, &parameter, &value) == DWEXPR_LIBDW_OTHER_FUNCTION, "library_last", "no frame");
+    dwexpr_libdw_release(value);
+}
+
+/* ---- frames that are cut off */
+
+static void check_cut_off(void)
+{
+    dwexpr_libdw_frame *frame = dwexpr_libdw_frame_at(stack, 0);
+    dwexpr_libdw_stack *again;
+    const pid_t *threads;
+    uint64_t number = 0;
+    uint32_t code;
+    size_t i;
+    dwexpr_libdw_threads(target, &threads);
+    code = dwexpr_libdw_unwind(target, threads[0], 1000, &again);
+    check(code == DWEXPR_LIBDW_CUT_OFF && again, "no call frame information", dwexpr_libdw_code_name(code));
+    check(!strcmp(dwexpr_libdw_target_error(), "nothing failed") == 0, "no call frame information", "why");
+    check(!variable_of(frame, "given", &number) && number == 2, "given", "it is argc");
+    check(dwexpr_libdw_frame_at(stack, 1) != NULL, "without_rules", "its frame");
+    /* what libdwfl makes of a frame pointer has none of the registers that a call keeps */
+    for (i = 2; (frame = dwexpr_libdw_frame_at(stack, i)) != NULL; i++)
+        check_register(i, RBX, 0, "rbx");
+    dwexpr_libdw_free_stack(again);
+}
+
 int main(int argc, char **argv)
 {
     static const struct {
@@ -358,7 +456,9 @@ int main(int argc, char **argv)
         void (*checks)(void);
     } kinds[] = {{"deep", check_deep},     {"members", check_members}, {"pointers", check_pointers},
                  {"arrays", check_arrays}, {"bases", check_bases},     {"bounds", check_bounds},
-                 {"variants", check_variants}, {"signals", check_signals}};
+                 {"variants", check_variants}, {"signals", check_signals},
+                 {"modules", check_modules}, {"split_modules", check_modules},
+                 {"no_rules", check_cut_off}};
     size_t i;
     const pid_t *threads;
     uint32_t code;
@@ -367,7 +467,8 @@ int main(int argc, char **argv)
     code = dwexpr_libdw_open_process((pid_t)atol(argv[2]), &target);
     if (!code && dwexpr_libdw_threads(target, &threads))
         code = dwexpr_libdw_unwind(target, threads[0], 1000, &stack);
-    check(!code && stack, "the frames", dwexpr_libdw_code_name(code));
+    check((!code || code == DWEXPR_LIBDW_CUT_OFF) && stack, "the frames", dwexpr_libdw_code_name(code));
+    is_split = !strcmp(argv[1], "split_modules");
     for (i = 0; stack && i < COUNT(kinds); i++)
         if (!strcmp(argv[1], kinds[i].name))
             kinds[i].checks();

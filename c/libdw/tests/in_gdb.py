@@ -4,6 +4,7 @@ bits as numbers: of the variable's value, which of them are known, and which wer
 
 import json
 import struct
+import sys
 
 import gdb
 
@@ -11,6 +12,11 @@ WHOLE = {gdb.TYPE_CODE_INT, gdb.TYPE_CODE_CHAR, gdb.TYPE_CODE_BOOL, gdb.TYPE_COD
 REFERENCES = {gdb.TYPE_CODE_REF, gdb.TYPE_CODE_RVALUE_REF}
 FLOATS = {4: ("f", "I"), 8: ("d", "Q")}
 LONG_DOUBLE = 80
+# examples/where.c prints no more
+MOST_BYTES = 4096
+sys.set_int_max_str_digits(0)
+NO_BYTES = "gdb's Python has no bytes of it"
+OF_PROCESS = {"unwind_buf", "tid", "pid", "threadid"}
 
 
 def number_of(value, kind):
@@ -21,7 +27,14 @@ def number_of(value, kind):
     if kind.code == gdb.TYPE_CODE_FLT and kind.sizeof in FLOATS:
         form, whole = FLOATS[kind.sizeof]
         return struct.unpack("<" + whole, struct.pack("<" + form, float(value)))[0]
-    return int(value.format_string(format="x"), 16) if kind.code == gdb.TYPE_CODE_FLT else int(value)
+    is_wide = kind.code == gdb.TYPE_CODE_FLT or kind.sizeof > 8
+    return int(value.format_string(format="x"), 16) if is_wide else int(value)
+
+
+def of_memory(value):
+    if value.address is None:
+        raise gdb.error(NO_BYTES)
+    return int.from_bytes(bytes(gdb.selected_inferior().read_memory(int(value.address), value.type.sizeof)), "little")
 
 
 def parts(value, place, size):
@@ -42,11 +55,15 @@ def parts(value, place, size):
         for field in kind.fields():
             if hasattr(field, "bitpos"):
                 yield from parts(value[field], place + field.bitpos, field.bitsize)
+    elif not value.is_optimized_out:
+        yield place, 8 * kind.sizeof, of_memory(value)
 
 
-def content(value):
+def content(value, language):
     bits = known = lost = 0
-    for place, size, number in parts(value, 0, 0):
+    # of other languages gdb's values aren't Python's
+    is_whole = language in ("ada", "fortran") and not value.is_optimized_out and value.address is not None
+    for place, size, number in [(0, 8 * value.type.sizeof, of_memory(value))] if is_whole else parts(value, 0, 0):
         mask = ((1 << size) - 1) << place
         if number is None:
             lost |= mask
@@ -56,22 +73,31 @@ def content(value):
     return bits, known, lost
 
 
-def variables(frame, *place):
+def variables(frame, thread, level, inlined):
+    """Those of a function, and of the functions around it: these are counted from -1 down."""
+    frame.select()  # lengths are read of the one that is selected
     block = frame.block()
+    place = thread, level, inlined
     while block is not None and not block.is_global and not block.is_static:
         for symbol in block:
-            # that one of libc has numbers that differ in each process
-            if (symbol.is_variable or symbol.is_argument) and symbol.name != "unwind_buf":
+            # those of libc have numbers that differ in each process
+            is_number = symbol.is_constant and symbol.type.code != gdb.TYPE_CODE_ENUM
+            if (symbol.is_variable or symbol.is_argument or is_number) and symbol.name not in OF_PROCESS:
                 size = symbol.type.strip_typedefs().sizeof
                 try:
-                    value = symbol.value(frame)
+                    # by its name in its block, gdb goes to the frame of that function
+                    value = frame.read_var(symbol.name, block) if place[2] < 0 else symbol.value(frame)
                     size = value.type.sizeof
-                    found = content(value)
+                    if size > MOST_BYTES:
+                        continue
+                    found = content(value, frame.language())
                 except gdb.error as error:
                     found = str(error)
                 yield *place, frame.name(), symbol.name, size, found
         if block.function:
-            break
+            if inlined > 0:
+                break
+            place = thread, level, min(place[2], 0) - 1
         block = block.superblock
 
 
@@ -96,8 +122,10 @@ def of_thread(thread):
 
 gdb.execute("set backtrace past-main on")
 gdb.execute("handle SIGSEGV SIGALRM nostop noprint pass", to_string=True)
-for place in range(1, PLACES + 1):
-    gdb.execute("run %d" % place, to_string=True)
+# without a place, where the core dump stopped
+for place in range(1, PLACES + 1) if PLACES else [0]:
+    if place:
+        gdb.execute("run %d" % place, to_string=True)
     found = []
     for number, thread in enumerate(sorted(gdb.selected_inferior().threads(), key=lambda it: it.num)):
         thread.switch()

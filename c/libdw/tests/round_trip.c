@@ -17,7 +17,10 @@ static void compare(const uint8_t *bytes, size_t length, const Dwarf_Op *operati
 {
     static uint8_t made[1 << 16];
     size_t i;
-    const uint32_t code = dwexpr_libdw_encode(operations, count, encoding, made, sizeof made, &i);
+    uint32_t code = dwexpr_libdw_encode(operations, count, 0, encoding, made, sizeof made, &i);
+    /* the sign of an offset may need the size */
+    if (code)
+        code = dwexpr_libdw_encode(operations, count, length, encoding, made, sizeof made, &i);
     if (!code && i == length && !memcmp(made, bytes, length)) {
         same++;
         return;

@@ -20,6 +20,7 @@ __asm__(".text\n"
         ".cfi_offset 6, -16\n"
         ".cfi_val_offset 14, -8\n"
         ".cfi_register 13, 15\n"
+        ".cfi_escape 0x10, 0x01, 0x04, 0x93, 0x04, 0x93, 0x04\n"
         ".cfi_undefined 2\n"
         ".cfi_same_value 5\n"
         "nop\n"
@@ -93,6 +94,7 @@ static void check_registers(dwexpr_libdw_frame *frame)
         {2, 0, DWEXPR_LIBDW_OPTIMIZED_AWAY},
         {7, 0x5000, 0},
         {5, 0, DWEXPR_LIBDW_NOT_READABLE},
+        {1, 0, DWEXPR_LIBDW_NO_NUMBER}, /* it is in two pieces */
     };
     size_t i;
     for (i = 0; i < COUNT(wanted); i++) {

@@ -51,22 +51,44 @@ class Unit:
         length = self.length(len(header) + len(content))
         return {".debug_loclists": length + header + content}, len(length) + len(header)
 
-    def elf(self, sections):
-        """The bytes of an object file with these sections, by name."""
+    def elf(self, sections, loads=(), kind=1, symbols=()):
+        """The bytes of an object file with these sections, by name; or of a program or a core dump, with segments: of
+        each the type, the address, the bytes and how many it has in memory. A symbol is a name, an address and what it
+        is."""
         wide = self.address_size == 8
+        if symbols:
+            strings = b"\0" + b"".join(name.encode() + b"\0" for name, *_ in symbols)
+            table = bytes(24 if wide else 16)
+            for name, address, info in symbols:
+                at = strings.index(b"\0" + name.encode() + b"\0") + 1
+                fields = ("IBBHQQ", at, info, 0, 1, address, 8) if wide else ("IIIBBH", at, address, 8, info, 0, 1)
+                table += self.pack(*fields)
+            sections = sections | {".symtab": table, ".strtab": strings}
         names = b"\0" + b"".join(name.encode() + b"\0" for name in [*sections, ".shstrtab"])
         sections = sections | {".shstrtab": names}
         word = "Q" if wide else "I"
-        place, body, headers = 64 if wide else 52, b"", bytes(64 if wide else 40)
-        for name, content in sections.items():
-            kind = 3 if name == ".shstrtab" else 1
+        front = 64 if wide else 52
+        place, body, headers = front + len(loads) * (56 if wide else 32), b"", bytes(64 if wide else 40)
+        segments = b""
+        for segment, address, content, size in loads:
+            at = place + len(body)
+            if wide:
+                segments += self.pack("IIQQQQQQ", segment, 7, at, address, address, len(content), size, 1)
+            else:
+                segments += self.pack("IIIIIIII", segment, at, address, address, len(content), size, 7, 1)
+            body += content
+        kinds = {".shstrtab": 3, ".strtab": 3, ".symtab": 2}
+        for index, (name, content) in enumerate(sections.items()):
             at = names.index(name.encode() + b"\0")
             form = f"II{word * 4}II{word * 2}"
-            headers += self.pack(form, at, kind, 0, 0, place + len(body), len(content), 0, 0, 1, 0)
+            is_symbols = name == ".symtab"
+            links = [index + 2, 1, 8, 24 if wide else 16] if is_symbols else [0, 0, 1, 0]
+            headers += self.pack(form, at, kinds.get(name, 1), 0, 0, place + len(body), len(content), *links)
             body += content
         body += bytes(-(place + len(body)) % 8)
         ident = b"\x7fELF" + bytes([2 if wide else 1, 1 if self.order == "<" else 2, 1]) + bytes(9)
         machine = (62 if self.order == "<" else 21) if wide else (3 if self.order == "<" else 20)
-        sizes = [place, 0, 0, 64 if wide else 40, len(sections) + 1, len(sections)]
-        last = self.pack(f"HHI{word * 3}IHHHHHH", 1, machine, 1, 0, 0, place + len(body), 0, *sizes)
-        return ident + last + body + headers
+        sizes = [front, 56 if wide else 32, len(loads), 64 if wide else 40, len(sections) + 1, len(sections)]
+        first = front if loads else 0
+        last = self.pack(f"HHI{word * 3}IHHHHHH", kind, machine, 1, 0, first, place + len(body), 0, *sizes)
+        return ident + last + segments + body + headers

@@ -1,0 +1,132 @@
+/* Where a thread has the thread-local storage of a module, on x86. */
+#include "targets.h"
+
+#if _ELFUTILS_PREREQ(0, 188) /* stacks.c */
+
+/* The segment of a module's thread-local storage. Gives back whether there is one. */
+static int find_segment(Dwfl_Module *module, unsigned type, GElf_Phdr *segment, Dwarf_Addr *bias)
+{
+    Elf *elf = dwfl_module_getelf(module, bias);
+    size_t count = 0, i;
+    if (elf)
+        elf_getphdrnum(elf, &count);
+    for (i = 0; i < count && gelf_getphdr(elf, (int)i, segment); i++)
+        if (segment->p_type == type)
+            return 1;
+    return 0;
+}
+
+/* ---- what glibc keeps of other modules */
+
+/* What is read of a thread's process. If a read fails, the others give 0. */
+struct reader {
+    const dwexpr_libdw_target *target;
+    size_t word; /* the bytes of an address */
+    int failed;
+};
+
+static uint64_t number_at(struct reader *reader, uint64_t address, size_t size)
+{
+    uint8_t bytes[8] = {0};
+    reader->failed |= dwexpr_libdw_read_memory(reader->target, address, bytes, size);
+    return reader->failed ? 0 : dwexpr_libdw_number_of(bytes, size, 0);
+}
+
+static uint64_t word_at(struct reader *reader, uint64_t address)
+{
+    return number_at(reader, address, reader->word);
+}
+
+static uint64_t symbol_at(struct reader *reader, const char *name)
+{
+    struct dwexpr_libdw_symbol symbol = {.name = name};
+    reader->failed |= !dwexpr_libdw_resolve(reader->target->dwfl, NULL, 0, &symbol);
+    return reader->failed ? 0 : symbol.address;
+}
+
+/* glibc tells debuggers where its fields are, by three numbers at a symbol: the bits, a count and the offset. */
+static uint64_t offset_of(struct reader *reader, const char *field)
+{
+    return number_at(reader, symbol_at(reader, field) + 8, 4);
+}
+
+/* What the dynamic linker keeps of a module: an entry of its list, which names the module's dynamic section. */
+static uint64_t find_map(struct reader *reader, Dwfl_Module *module)
+{
+    GElf_Phdr segment;
+    Dwarf_Addr bias;
+    const uint64_t dynamic = find_segment(module, PT_DYNAMIC, &segment, &bias) ? segment.p_vaddr + bias : 0;
+    uint64_t map = dynamic ? word_at(reader, symbol_at(reader, "_r_debug") + reader->word) : 0;
+    int i;
+    for (i = 0; i < 10000 && map && word_at(reader, map + 2 * reader->word) != dynamic; i++)
+        map = word_at(reader, map + 3 * reader->word);
+    return i < 10000 ? map : 0;
+}
+
+/* Whether a thread's vector of blocks is newer than a module's number in it. */
+static int is_current(struct reader *reader, uint64_t vector, uint64_t number)
+{
+    uint64_t list = word_at(reader, symbol_at(reader, "_rtld_global") +
+                                        offset_of(reader, "_thread_db_rtld_global__dl_tls_dtv_slotinfo_list"));
+    const uint64_t slots = offset_of(reader, "_thread_db_dtv_slotinfo_list_slotinfo");
+    const uint64_t size = number_at(reader, symbol_at(reader, "_thread_db_sizeof_dtv_slotinfo"), 4);
+    const uint64_t next = offset_of(reader, "_thread_db_dtv_slotinfo_list_next");
+    uint64_t first = 0, length;
+    int i;
+    for (i = 0; i < 1000 && list && !reader->failed; i++, first += length) {
+        length = word_at(reader, list); /* its first field */
+        if (number - first < length) {
+            const uint64_t slot = list + slots + (number - first) * size;
+            return word_at(reader, vector) >= word_at(reader, slot + offset_of(reader, "_thread_db_dtv_slotinfo_gen"));
+        }
+        list = word_at(reader, list + next);
+    }
+    return 0;
+}
+
+/* That of a module which was there at the start has a distance from the thread pointer. Else the thread has its address
+ * in a vector, if it has used it. */
+static int find_library_block(const dwexpr_libdw_target *target, Dwfl_Module *module, uint64_t pointer,
+                              uint64_t offset, uint64_t *address)
+{
+    struct reader reader = {target, target->ident[EI_CLASS] == ELFCLASS32 ? 4 : 8, 0};
+    const uint64_t none = reader.word == 4 ? 0xffffffff : UINT64_MAX;
+    const uint64_t map = find_map(&reader, module);
+    const uint64_t distance = map ? word_at(&reader, map + offset_of(&reader, "_thread_db_link_map_l_tls_offset")) : 0;
+    uint64_t number, vector, block;
+    if (!map || reader.failed)
+        return 1;
+    if (distance && distance != none) {
+        *address = pointer - distance + offset;
+        return 0;
+    }
+    number = word_at(&reader, map + offset_of(&reader, "_thread_db_link_map_l_tls_modid"));
+    vector = word_at(&reader, pointer + offset_of(&reader, "_thread_db_pthread_dtvp"));
+    block = word_at(&reader, vector + 2 * reader.word * number);
+    *address = block + offset;
+    /* an odd one isn't there yet */
+    return !number || !block || block % 2 || !is_current(&reader, vector, number) || reader.failed;
+}
+
+/* The program's own ends at the thread pointer, and begins at an address with the alignment of its segment. */
+static uint64_t program_block(const GElf_Phdr *segment, uint64_t pointer)
+{
+    const uint64_t align = segment->p_align ? segment->p_align : 1, first = (0 - segment->p_vaddr) % align;
+    return pointer - first - (segment->p_memsz - first + align - 1) / align * align;
+}
+
+int dwexpr_libdw_find_block(const dwexpr_libdw_target *target, Dwfl_Module *module, uint64_t pointer, uint64_t offset,
+                            uint64_t *address)
+{
+    GElf_Phdr segment;
+    Dwarf_Addr bias;
+    /* GCC 12 writes an address for an offset in split debug information of version 5 */
+    if (!find_segment(module, PT_TLS, &segment, &bias) || offset >= segment.p_memsz)
+        return 1;
+    if (!target->program || dwfl_addrmodule(target->dwfl, target->program) != module)
+        return find_library_block(target, module, pointer, offset, address);
+    *address = program_block(&segment, pointer) + offset;
+    return 0;
+}
+
+#endif

@@ -1,0 +1,115 @@
+/* Reads the variables of a core dump again and again, where each time another call of malloc is refused. What is known
+ * then is what is known if none is. The library is built to call those of refusing.h.
+ *
+ *     refused CORE STEP    refuses the first 400 calls, and then one in STEP */
+#include "check.h"
+#include "dwexpr_libdw.h"
+#include "refusing.h"
+#include <dwarf.h>
+
+/* What is known of a variable in a frame, if no call is refused. */
+static struct known {
+    size_t frame;
+    Dwarf_Off entry;
+    int on_entry;
+    uint64_t number;
+} known[4096];
+static size_t known_length, wrong, without_memory;
+
+static void keep(size_t frame, Dwarf_Die *variable, int on_entry, uint32_t code, uint64_t number)
+{
+    const Dwarf_Off entry = dwarf_dieoffset(variable);
+    size_t i = 0;
+    without_memory += code == DWEXPR_LIBDW_NO_MEMORY;
+    if (code)
+        return;
+    while (i < known_length &&
+           (known[i].frame != frame || known[i].entry != entry || known[i].on_entry != on_entry))
+        i++;
+    if (!refused_call && i == known_length && i < COUNT(known))
+        known[known_length++] = (struct known){frame, entry, on_entry, number};
+    wrong += i == known_length || known[i].number != number;
+}
+
+static void read_variable(dwexpr_libdw_frame *frame, size_t frame_index, Dwarf_Die *variable)
+{
+    dwexpr_libdw_value *value;
+    Dwarf_Die type, member;
+    uint64_t number, size, begin, bits;
+    /* of the second frame that would need the debug information of libc */
+    int on_entry;
+    for (on_entry = 0; on_entry < (frame_index ? 1 : 2); on_entry++) {
+        uint32_t code = on_entry ? dwexpr_libdw_on_entry(frame, variable, &value)
+                                 : dwexpr_libdw_variable(frame, variable, &value);
+        number = 0;
+        if (!code)
+            code = dwexpr_libdw_read(frame, value, 32, (uint8_t *)&number, NULL);
+        dwexpr_libdw_release(value);
+        keep(frame_index, variable, on_entry, code, number);
+    }
+    if (!dwexpr_libdw_type(variable, &type) && !dwexpr_libdw_size(frame, &type, NULL, &size) &&
+        dwarf_child(&type, &member) == 0) {
+        dwexpr_libdw_member(frame, &member, NULL, &begin, &bits);
+        without_memory += dwexpr_libdw_definition(frame, &type, &type) == DWEXPR_LIBDW_NO_MEMORY;
+    }
+}
+
+static void read_frame(dwexpr_libdw_frame *frame, size_t index)
+{
+    uint8_t bytes[DWEXPR_LIBDW_REGISTER_SIZE];
+    dwexpr_libdw_entry *entries;
+    Dwarf_Die *scopes, *globals;
+    dwexpr_libdw_place place;
+    size_t count, i, size;
+    without_memory += dwexpr_libdw_variables(frame, &entries, &count) == DWEXPR_LIBDW_NO_MEMORY;
+    for (i = 0; i < count; i++)
+        read_variable(frame, index, &entries[i].entry);
+    free(entries);
+    dwexpr_libdw_scopes(frame, &scopes, &count);
+    free(scopes);
+    dwexpr_libdw_locate(frame, &place);
+    if (place.module) {
+        without_memory +=
+            dwexpr_libdw_globals(frame, place.module, "counted", &globals, &count) == DWEXPR_LIBDW_NO_MEMORY;
+        free(globals);
+    }
+    dwexpr_libdw_caller_register(frame, DWEXPR_LIBDW_CFA, bytes, &size);
+    dwexpr_libdw_caller_register(frame, 6, bytes, &size);
+}
+
+static void read_core(const char *path)
+{
+    dwexpr_libdw_target *target;
+    dwexpr_libdw_stack *stack;
+    dwexpr_libdw_frame *frame;
+    const pid_t *threads;
+    size_t i;
+    const uint32_t code = dwexpr_libdw_open_core(path, NULL, &target);
+    without_memory += code == DWEXPR_LIBDW_NO_MEMORY;
+    if (code)
+        return;
+    dwexpr_libdw_threads(target, &threads);
+    without_memory += dwexpr_libdw_unwind(target, threads[0], 256, &stack) == DWEXPR_LIBDW_NO_MEMORY;
+    for (i = 0; i < 2 && (frame = dwexpr_libdw_frame_at(stack, i)) != NULL; i++)
+        read_frame(frame, i);
+    dwexpr_libdw_free_stack(stack);
+    dwexpr_libdw_close(target);
+}
+
+int main(int argc, char **argv)
+{
+    unsigned long all, step;
+    if (argc != 3)
+        return 2;
+    read_core(argv[1]);
+    all = calls;
+    step = strtoul(argv[2], NULL, 10);
+    check(known_length > 5 && !without_memory, argv[1], "variables are known");
+    for (refused_call = 1; refused_call <= all; refused_call += refused_call < 400 ? 1 : step) {
+        calls = 0;
+        read_core(argv[1]);
+    }
+    check(!wrong, argv[1], "what is known is the same");
+    check(without_memory > 50, argv[1], "memory is refused");
+    return finish();
+}

@@ -2,10 +2,10 @@
 """Builds and runs what stands on libdw: libdwexpr_libdw.a and the examples.
 
 - The headers, without a warning as C11, C17 and C++17.
-- tests/libdw/values.c, rules.c, entries.c, types.c, functions.c and dumps.c: values of expressions, bytes
-  that are put together from libdw's operations, call frame information, entries that expressions name, types, functions
-  with their calls, and core dumps, of files that the scripts beside these write; with the sanitizers of addresses and
-  of undefined behaviour too.
+- tests/libdw/values.c, rules.c, entries.c, types.c, functions.c and dumps.c: values of expressions, bytes that are put
+  together from libdw's operations, call frame information, entries that expressions name, types, functions with their
+  calls, and core dumps, of files that the scripts beside these write; with the sanitizers of addresses and of undefined
+  behaviour too.
 - Bytes that are put together are the file's: for every operation in every encoding of a unit, and for the files of
   libc6-dbg, libstdc++6-12-dbg and python3.11-dbg.
 - examples/expressions.c: libdw's operations and this library's are the same, for programs and for these packages. It
@@ -17,8 +17,8 @@
 - tests/libdw/refused.c and functions.c: a core dump and programs, where each call of malloc in turn is refused.
 - tests/libdw/hostile.c: programs whose debug information has wrong bytes.
 
-It takes two minutes on four processors. It wants cc and libdw; what else is missing is left out, and said so. The last
-line is `N passed, M failed`.
+It takes some three minutes on four processors. It wants cc and libdw; what else is missing is left out, and said so.
+The last line is `N passed, M failed`.
 """
 
 import concurrent.futures

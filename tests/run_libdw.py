@@ -17,8 +17,8 @@
 - c/libdw/tests/refused.c and functions.c: a core dump and programs, where each call of malloc in turn is refused.
 - c/libdw/tests/hostile.c: programs whose debug information has wrong bytes.
 
-It takes two minutes on four processors. It wants cc and libdw; what else is missing is left out, and said so. The last
-line is `N passed, M failed`.
+It takes some three minutes on four processors. It wants cc and libdw; what else is missing is left out, and said so.
+The last line is `N passed, M failed`.
 """
 
 import concurrent.futures

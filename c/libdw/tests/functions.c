@@ -7,7 +7,8 @@
  *     count in FRAME is N         how many functions and variables there are
  *
  * `missing` is no such variable. With a number before the files, the rows are read again and again, where each time
- * another call of malloc is refused, one in so many: then a value isn't known, or as it is said. Register 7 has 0x10, others and memory are as in frame.h. */
+ * another call of malloc is refused, one in so many: then a value isn't known, or as it is said. Register 7 has 0x10,
+ * others and memory are as in frame.h. */
 #include "check.h"
 #include "frame.h"
 #include "refusing.h"

@@ -35,8 +35,8 @@ SPEED = "docs/SPEED.md"
 # Folders of what is built or kept beside the repository, and no part of it; and those of a package.
 BESIDE = {"out", "target", "__pycache__", ".git", "dist", "lib", "share"}
 GUIDE = "docs/GUIDE.md"
-# Paths in the documents that lead nowhere here: files of gimli's.
-PATHS_ELSEWHERE = {"src/read/op.rs", "src/read/value.rs", "op.rs", "value.rs"}
+# Paths in the documents that lead nowhere here: files of gimli's, and one that a user may write.
+PATHS_ELSEWHERE = {"src/read/op.rs", "src/read/value.rs", "op.rs", "value.rs", ".cargo/config.toml"}
 
 QUOTED = re.compile(r"`([^`\n]+)`")
 LINK = re.compile(r"\]\(([^)#]+)")

@@ -42,8 +42,8 @@ fn line_of(line: &str) -> String {
     }
 }
 
-/// A test module in the form in which it runs here, and the names of its tests.
-fn carried(text: &str) -> (String, Vec<String>) {
+/// A test module in the form in which it runs here.
+fn carried(text: &str) -> String {
     let mut text = text.to_owned();
     // It names what is of the layer above.
     if let Some((before, after)) = text.split_once("use crate::read::{\n        Abbreviation,") {
@@ -60,9 +60,7 @@ fn carried(text: &str) -> (String, Vec<String>) {
     }
     let mut parts = text.split("    #[test]\n");
     let mut said = parts.next().unwrap_or_default().to_owned();
-    let mut names = Vec::new();
     for part in parts {
-        names.push(name_of(part).to_owned());
         let (test, after) = part.split_once("\n    }\n").expect("a test ends");
         match LEFT_OUT.iter().find(|it| it.0 == name_of(part)) {
             Some((name, reason)) => println!("cargo::warning=left out: {name}: {reason}"),
@@ -70,22 +68,19 @@ fn carried(text: &str) -> (String, Vec<String>) {
         }
         said += after;
     }
-    (said.split_inclusive('\n').map(line_of).collect(), names)
+    said.split_inclusive('\n').map(line_of).collect()
 }
 
 fn main() {
     println!("cargo::rerun-if-env-changed=GIMLI_TESTS");
     let out = env::var_os("OUT_DIR").expect("Cargo sets it");
-    let mut all = Vec::new();
     for (part, file) in PARTS {
         let text = env::var_os("GIMLI_TESTS").map(|folder| {
             let path = Path::new(&folder).join(file);
             println!("cargo::rerun-if-changed={}", path.display());
             fs::read_to_string(&path).unwrap_or_else(|error| panic!("{}: {error}", path.display()))
         });
-        let (said, names) = text.map(|it| carried(&it)).unwrap_or_default();
+        let said = text.map(|it| carried(&it)).unwrap_or_default();
         fs::write(Path::new(&out).join(format!("{part}.rs")), said).expect("a file is written");
-        all.extend(names);
     }
-    fs::write(Path::new(&out).join("names.rs"), format!("&{all:?}")).expect("a file is written");
 }

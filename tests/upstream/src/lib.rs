@@ -115,13 +115,3 @@ mod op {
 mod value {
     include!(concat!(env!("OUT_DIR"), "/value.rs"));
 }
-
-/// tests/gimli.json says what carries the cases of each test.
-#[test]
-fn each_test_is_listed() {
-    let names: &[&str] = include!(concat!(env!("OUT_DIR"), "/names.rs"));
-    let listed = include_str!("../../gimli.json");
-    for name in names {
-        assert!(listed.contains(&format!("\"{name}\":")), "{name}");
-    }
-}

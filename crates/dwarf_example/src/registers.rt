@@ -3,7 +3,7 @@
 ghost use Rattle.std.specs.Prelude.{◌≡◌, IfOk, true};
 ghost use Rattle.dwarf_expr.specs.Evaluation.{IsClosed, IsComplete};
 
-use dwarf_base::{Reader, Result};
+use dwarf_expr::base::{Reader, Result};
 use dwarf_expr::eval::Evaluation;
 use dwarf_expr::op::EvaluationResult;
 use dwarf_expr::store::EvaluationStorage;

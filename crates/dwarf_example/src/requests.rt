@@ -6,7 +6,7 @@ ghost use Rattle.dwarf_expr.specs.Evaluation.{IsClosed, IsComplete};
 ghost use Rattle.dwarf_expr.specs.Permits.{Admits, IsOpenFor};
 ghost use Rattle.dwarf_expr.specs.EvaluationResult.TheVariants as reply;
 
-use dwarf_base::{DebugAddrIndex, Reader, Register, Result, UnitOffset};
+use dwarf_expr::base::{DebugAddrIndex, Reader, Register, Result, UnitOffset};
 use dwarf_expr::eval::{Evaluation, Status, WaitingKind};
 use dwarf_expr::op::{DieReference, EvaluationResult, Expression};
 use dwarf_expr::store::EvaluationStorage;

@@ -4,9 +4,10 @@ ghost use Rattle.std.specs.Prelude.{length, ◌<◌, ◌^◌, false};
 ghost use Rattle.dwarf_expr.specs.EndianSlice.{slice_bytes};
 
 use crate::tests::evaluation::{SMALL, little};
-use dwarf_expr::base::{Encoding, EndianSlice, Error, Format, LittleEndian, Reader, Result, UnitOffset};
-use dwarf_expr::op::Expression;
-use dwarf_expr::op::Operation;
+use dwarf_expr::base::{
+    Encoding, EndianSlice, Error, Format, LittleEndian, Reader, Result, UnitOffset,
+};
+use dwarf_expr::op::{Expression, Operation};
 use std::process::Abort;
 
 // A literal of two bytes with one to spare.

@@ -1,6 +1,8 @@
 //! Tests of reads and of offsets.
 
-use dwarf_expr::base::{BigEndian, EndianSlice, Error, LittleEndian, Reader, ReaderOffset, reader_laws};
+use dwarf_expr::base::{
+    BigEndian, EndianSlice, Error, LittleEndian, Reader, ReaderOffset, reader_laws,
+};
 use std::process::Abort;
 
 #[test]

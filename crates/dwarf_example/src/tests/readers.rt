@@ -47,7 +47,7 @@ impl<'a> Reader for Watched<'a> {
         self.slice.offset_from(&base.slice)
     }
 
-    #[tactic(auto, using(dwarf_expr::proofs::Suffixes::suffix_none))]
+    #[tactic(auto, using(dwarf_base::proofs::Suffixes::suffix_none))]
     fn skip(&mut self, len: usize) -> Result<()> {
         let skipped = self.slice.skip(len);
         if skipped.is_err() {
@@ -56,7 +56,7 @@ impl<'a> Reader for Watched<'a> {
         skipped
     }
 
-    #[tactic(auto, using(dwarf_expr::proofs::Suffixes::suffix_none))]
+    #[tactic(auto, using(dwarf_base::proofs::Suffixes::suffix_none))]
     fn split(&mut self, len: usize) -> Result<Self> {
         self.count(len as u64);
         let front = self.slice.split(len);
@@ -69,7 +69,7 @@ impl<'a> Reader for Watched<'a> {
         })
     }
 
-    #[tactic(auto, using(dwarf_expr::proofs::Suffixes::suffix_none))]
+    #[tactic(auto, using(dwarf_base::proofs::Suffixes::suffix_none))]
     fn read_fixed(&mut self, n: u8) -> Result<u64> {
         self.count(u64::from(n));
         let number = self.slice.read_fixed(n);

@@ -3,19 +3,19 @@ use Rattle.std.specs.Prelude.{◌≡◌, ◌↔◌, Bool, IsTrue}
 use Rattle.dwarf_base.specs.declared.slices.EndianSlice.{EndianSlice}
 use Rattle.dwarf_base.specs.EndianSlice.{slice_bytes, slice_order}
 
--- a test that is true exactly of two values that are seen as the same
+-- the test is true of two values exactly if `seen` gives the same of both
 abbrev pub IsEqualityOf : {X Y : Type 0} → (seen : X → Y) → (X → X → Bool) → Type 0
 IsEqualityOf {X} seen test = (x y : X) → IsTrue (test x y) ↔ (seen x ≡ seen y)
 
--- a test that is true exactly of two values that are the same
+-- the test is true of two values exactly if they are the same
 abbrev pub IsEquality : {X : Type 0} → (X → X → Bool) → Type 0
 IsEquality {X} test = IsEqualityOf (λ x. x) test
 
--- a test that says of two values what a test of a part says of their parts
+-- the test says of two values what `are_parts_equal` says of a part of each
 abbrev pub IsEqualityBy : {X Part : Type 0} → (X → X → Bool) → (part : X → Part) → (Part → Part → Bool) → Type 0
 IsEqualityBy {X} test part are_parts_equal = (x y : X) → test x y ≡ are_parts_equal (part x) (part y)
 
--- a test of slices that is true exactly if the bytes are the same, and the byte orders by a test of their own
+-- the test is true of two slices exactly if their bytes are the same and their byte orders are equal
 abbrev pub IsSliceEquality : {E : Type 0} → (E → E → Bool) → (EndianSlice E → EndianSlice E → Bool) → Type 0
 IsSliceEquality {E} are_orders_equal test =
     (x y : EndianSlice E)

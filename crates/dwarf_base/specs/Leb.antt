@@ -4,8 +4,8 @@ use Rattle.std.specs.Prelude.{ℕ, ◌+◌, ◌*◌, ◌%◌, ◌^◌, ◌≤◌
 use Rattle.dwarf_base.specs.Faults.{Fault, past_the_end, ◌>>=◌}
 use Rattle.dwarf_base.specs.declared.errors.Error.TheVariants.{BadUnsignedLeb128, BadSignedLeb128}
 
--- what tells unsigned numbers from signed ones: the tenth bytes that keep to 64 bits, the fault of the others, and
--- the number that is made of the sum of the low bits, the count of the bytes and the last of them
+-- the differences between unsigned and signed numbers: the tenth bytes that keep to 64 bits, the fault for any other
+-- tenth byte, and the number, made from the sum of the low bits, the count of the bytes and the last byte
 pub record LebForm (A : Type 0) : Type 0 where
   pub allows_tenth : ℕ → Bool
   pub fault : Fault
@@ -37,13 +37,13 @@ IsEnded [] = ⊥
 IsEnded (byte ∷ []) = byte < 128
 IsEnded (byte ∷ next ∷ bytes) = (128 ≤ byte) × IsEnded (next ∷ bytes)
 
--- the last byte, 0 of none
+-- the last byte, or 0 if there is none
 abbrev pub last_byte_of : List ℕ → ℕ
 last_byte_of [] = 0
 last_byte_of (byte ∷ []) = byte
 last_byte_of (byte ∷ next ∷ bytes) = last_byte_of (next ∷ bytes)
 
--- the bytes, all of them, are a spelling of the value
+-- the bytes, all of them, spell the value
 pub record SpellsLeb {A : Type 0} (form : LebForm A) (bytes : List ℕ) (value : A) : Type 0 where
   pub ended : IsEnded bytes
   pub at_most_ten : length bytes ≤ 10
@@ -57,12 +57,12 @@ abbrev pub GoesOn : List ℕ → Type 0
 GoesOn [] = Unit {0}
 GoesOn (byte ∷ bytes) = (128 ≤ byte) × GoesOn bytes
 
--- they end before a last byte, and before a tenth one
+-- they end before a last byte, and there are at most nine
 pub record IsCutOff (bytes : List ℕ) : Type 0 where
   pub goes_on : GoesOn bytes
   pub at_most_nine : length bytes ≤ 9
 
--- nine bytes that go on, and then one that leaves 64 bits
+-- nine bytes that go on, and a tenth with which the number exceeds 64 bits
 pub record IsTooLong {A : Type 0} (form : LebForm A) (bytes : List ℕ) : Type 0 where
   pub nine : List ℕ
   pub tenth : ℕ
@@ -72,14 +72,14 @@ pub record IsTooLong {A : Type 0} (form : LebForm A) (bytes : List ℕ) : Type 0
   pub are_nine : length nine ≡ 9
   pub refused : form.allows_tenth tenth ≡ false
 
--- no front of the bytes spells a number, for this fault
+-- no prefix of the bytes spells a number, for this fault
 abbrev pub MalformedLeb : {A : Type 0} → LebForm A → List ℕ → Fault → Type 0
 MalformedLeb form bytes fault =
     (IsCutOff bytes × (fault ≡ past_the_end)) ⊎ (IsTooLong form bytes × (fault ≡ form.fault))
 
 -- ---- reading one
 
--- a number at the front, after `place` bytes whose low bits sum up to `sum`
+-- a number at the front, after `place` bytes whose low bits add up to `sum`
 abbrev pub leb_from : {A : Type 0} → LebForm A → (place sum : ℕ) → List ℕ → Result (A × List ℕ) Fault
 leb_from form place sum [] = Err past_the_end
 leb_from form place sum (byte ∷ rest) =

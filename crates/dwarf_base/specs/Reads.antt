@@ -12,25 +12,24 @@ pub record Text : Type 0 where
   pub bytes : List ℕ
   pub is_big : Bool
 
--- what a call gives, seen through `view`, with the bytes that it leaves, is what is read, or its fault
+-- a call returns the value that is read, seen through `view`, and leaves the bytes after it; or it returns the fault
 abbrev pub Gives : {X Y : Type 0} → (X → Y) → Result X Error → List ℕ → Result (Y × List ℕ) Fault → Type 0
 Gives view (Ok x) left read = read ≡ Ok (view x, left)
 Gives view (Err e) left read = read ≡ Err (fault_of e)
 
--- the rest is what follows some front of the bytes
+-- the rest is a suffix of the bytes
 pub record IsSuffix (rest bytes : List ℕ) : Type 0 where
   pub no_longer : length rest ≤ length bytes
   pub same : drop (length bytes - length rest) bytes ≡ rest
 
--- a read, from the text before to the text after it: what is read or its fault, and some end of the text in the same
--- order
+-- a call returns what is read, or its fault; the new text is a suffix of the old one, in the same byte order
 pub record Reads {X Y : Type 0} (view : X → Y) (old new : Text) (result : Result X Error)
     (read : Result (Y × List ℕ) Fault) : Type 0 where
   pub value : Gives view result new.bytes read
   pub rest : IsSuffix new.bytes old.bytes
   pub order : new.is_big ≡ old.is_big
 
--- what is left of a text
+-- the text that is left is a suffix of the whole, in the same byte order
 pub record IsRestOf (left whole : Text) : Type 0 where
   pub rest : IsSuffix left.bytes whole.bytes
   pub order : left.is_big ≡ whole.is_big

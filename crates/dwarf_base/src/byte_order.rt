@@ -32,7 +32,7 @@ pub enum RunTimeEndian {
 impl Default for RunTimeEndian {
     ghost is_default = { λ order. is_big_of order ≡ false };
 
-    /// The lowest byte first.
+    /// `Little`, on every machine.
     fn default() -> Self {
         RunTimeEndian::Little
     }

@@ -1,4 +1,4 @@
-//! What expressions are read by, and what they refer to: encodings, registers, offsets and indices.
+//! The encoding of a unit, and what its expressions refer to: registers, offsets and indices.
 
 ghost use Rattle.dwarf_base.specs.Faults.{Returns};
 ghost use Rattle.dwarf_base.specs.Numbers.{register_of};
@@ -14,7 +14,7 @@ pub enum Format {
     Dwarf64,
 }
 
-/// What the reading of an expression takes from its unit (DWARF 5, section 7.5.1).
+/// The parameters of a unit that its expressions are read with (DWARF 5, section 7.5.1).
 #[derive(Clone, Copy, Debug, PartialEq, Eq)]
 pub struct Encoding {
     /// The size of an address, in bytes.
@@ -30,7 +30,7 @@ pub struct Encoding {
 pub struct Register(pub u16);
 
 impl Register {
-    /// The register of this number; `UnsupportedRegister` exactly if the number is above 65535.
+    /// The register with this number. `UnsupportedRegister` exactly if the number is above 65535.
     #[inline]
     pub fn from_u64(register: u64) -> Result<Register>
         ensures { Returns (λ r. r.0) result (register_of register) }
@@ -54,6 +54,6 @@ pub struct DebugInfoOffset<T = usize>(pub T);
 #[derive(Clone, Copy, Debug, PartialEq, Eq)]
 pub struct DebugAddrIndex<T = usize>(pub T);
 
-/// Where a read went past the end. It is left open, and nothing depends on it.
+/// Identifies the place where a read went past the end. Its value is unspecified, and nothing depends on it.
 #[derive(Clone, Copy, Debug, PartialEq, Eq)]
 pub struct ReaderOffsetId(pub u64);

@@ -40,19 +40,19 @@ pub const DW_OP_const8s: DwOp = DwOp(0x0f);
 pub const DW_OP_constu: DwOp = DwOp(0x10);
 /// A signed LEB128 number.
 pub const DW_OP_consts: DwOp = DwOp(0x11);
-/// The top once more.
+/// Pushes the top value again.
 pub const DW_OP_dup: DwOp = DwOp(0x12);
 /// Drops the top.
 pub const DW_OP_drop: DwOp = DwOp(0x13);
-/// The value below the top once more.
+/// Pushes the value below the top again.
 pub const DW_OP_over: DwOp = DwOp(0x14);
-/// A value of the stack once more, by its index from the top.
+/// Pushes a value of the stack again, by its index from the top.
 pub const DW_OP_pick: DwOp = DwOp(0x15);
 /// Exchanges the top two values.
 pub const DW_OP_swap: DwOp = DwOp(0x16);
 /// Moves the top below the two values under it.
 pub const DW_OP_rot: DwOp = DwOp(0x17);
-/// The memory at an address of an address space.
+/// The memory at an address in an address space.
 pub const DW_OP_xderef: DwOp = DwOp(0x18);
 /// The absolute value.
 pub const DW_OP_abs: DwOp = DwOp(0x19);
@@ -302,53 +302,53 @@ pub const DW_OP_bregx: DwOp = DwOp(0x92);
 pub const DW_OP_piece: DwOp = DwOp(0x93);
 /// This many bytes of the memory at an address.
 pub const DW_OP_deref_size: DwOp = DwOp(0x94);
-/// This many bytes of the memory at an address of an address space.
+/// This many bytes of the memory at an address in an address space.
 pub const DW_OP_xderef_size: DwOp = DwOp(0x95);
 /// Nothing.
 pub const DW_OP_nop: DwOp = DwOp(0x96);
 /// The address of the object.
 pub const DW_OP_push_object_address: DwOp = DwOp(0x97);
-/// A call of an entry of this unit, by an offset of 2 bytes.
+/// Calls the expression of an entry in this unit, by an offset of 2 bytes.
 pub const DW_OP_call2: DwOp = DwOp(0x98);
-/// A call of an entry of this unit, by an offset of 4 bytes.
+/// Calls the expression of an entry in this unit, by an offset of 4 bytes.
 pub const DW_OP_call4: DwOp = DwOp(0x99);
-/// A call of an entry of any unit.
+/// Calls the expression of an entry in any unit.
 pub const DW_OP_call_ref: DwOp = DwOp(0x9a);
 /// An address in thread-local storage.
 pub const DW_OP_form_tls_address: DwOp = DwOp(0x9b);
 /// The canonical frame address.
 pub const DW_OP_call_frame_cfa: DwOp = DwOp(0x9c);
-/// A piece of this many bits, from a bit on.
+/// A piece of this many bits, starting at a bit offset.
 pub const DW_OP_bit_piece: DwOp = DwOp(0x9d);
-/// The location is a block of bytes that has no place in memory.
+/// The object isn't in memory: its value is a block of bytes.
 pub const DW_OP_implicit_value: DwOp = DwOp(0x9e);
-/// The location is the top itself, which has no place in memory.
+/// The object isn't in memory: its value is the top of the stack.
 pub const DW_OP_stack_value: DwOp = DwOp(0x9f);
-/// The location is a pointer to what has no place in memory.
+/// The object is a pointer to one that isn't in memory.
 pub const DW_OP_implicit_pointer: DwOp = DwOp(0xa0);
 /// An address, by its index among the unit's addresses.
 pub const DW_OP_addrx: DwOp = DwOp(0xa1);
 /// A constant, by its index among the unit's addresses.
 pub const DW_OP_constx: DwOp = DwOp(0xa2);
-/// The value of an expression as its function was entered.
+/// The value that an expression had when its function was entered.
 pub const DW_OP_entry_value: DwOp = DwOp(0xa3);
 /// A constant of a base type.
 pub const DW_OP_const_type: DwOp = DwOp(0xa4);
-/// A register, as a value of a base type.
+/// The contents of a register, as a value of a base type.
 pub const DW_OP_regval_type: DwOp = DwOp(0xa5);
 /// The memory at an address, as a value of a base type.
 pub const DW_OP_deref_type: DwOp = DwOp(0xa6);
-/// The memory at an address of an address space, as a value of a base type.
+/// The memory at an address in an address space, as a value of a base type.
 pub const DW_OP_xderef_type: DwOp = DwOp(0xa7);
 /// The value, converted to a base type.
 pub const DW_OP_convert: DwOp = DwOp(0xa8);
-/// The bits of the value, as a value of a base type.
+/// The value's bits, reinterpreted as a value of a base type.
 pub const DW_OP_reinterpret: DwOp = DwOp(0xa9);
 /// GNU's form of `DW_OP_form_tls_address`.
 pub const DW_OP_GNU_push_tls_address: DwOp = DwOp(0xe0);
 /// A WebAssembly local, global or operand stack item.
 pub const DW_OP_WASM_location: DwOp = DwOp(0xed);
-/// What was computed isn't initialized.
+/// The variable at this location isn't initialized.
 pub const DW_OP_GNU_uninit: DwOp = DwOp(0xf0);
 /// GNU's form of `DW_OP_implicit_pointer`.
 pub const DW_OP_GNU_implicit_pointer: DwOp = DwOp(0xf2);

@@ -1,17 +1,17 @@
 use crate::common::ReaderOffsetId;
 use crate::constants::DwOp;
 
-/// Why a read, an operation on values or an evaluation met a fault.
+/// Why a read, an operation on values or an evaluation failed.
 #[derive(Clone, Copy, Debug, PartialEq, Eq)]
 pub enum Error {
-    /// A read goes past the end. What the identifier says is left open.
+    /// A read goes past the end. The value of the identifier is unspecified.
     UnexpectedEof(ReaderOffsetId),
     /// The tenth byte of an unsigned LEB128 number is neither `00` nor `01`, or the number has more bits than are
-    /// wanted. Nine bytes `80` and a `00` are zero, and no fault.
+    /// wanted. Padding is no fault: nine bytes `80` and a `00` are zero.
     BadUnsignedLeb128,
     /// The tenth byte of a signed LEB128 number is neither `00` nor `7f`.
     BadSignedLeb128,
-    /// An address is read at a size in bytes other than 1, 2, 4 or 8.
+    /// The size of an address is none of 1, 2, 4 and 8 bytes.
     UnsupportedAddressSize(u8),
     /// A number doesn't fit the reader's offsets.
     UnsupportedOffset,
@@ -19,11 +19,11 @@ pub enum Error {
     UnsupportedRegister(u64),
     /// An opcode is unknown, or the kind after `DW_OP_WASM_location` is.
     InvalidExpression(DwOp),
-    /// The size of a `DW_OP_piece`, here in bytes, has more than 64 bits when counted in bits.
+    /// The size of a `DW_OP_piece`, here in bytes, doesn't fit in 64 bits when it is counted in bits.
     InvalidPieceSize(u64),
     /// The operation isn't defined at the value's type.
     UnsupportedTypeOperation,
-    /// Two values differ in their types, or in their sizes if these have to be equal.
+    /// Two values have different types, or different sizes if only the sizes have to be equal.
     TypeMismatch,
     /// The divisor is zero.
     DivisionByZero,
@@ -37,11 +37,11 @@ pub enum Error {
     InvalidPushObjectAddress,
     /// The operation is decoded, and can't be evaluated.
     UnsupportedEvaluation,
-    /// A branch leads to this place, which is after the end of its expression.
+    /// A branch leads to this place, past the end of its expression.
     BadBranchTarget(u64),
     /// The maximum of operations is reached.
     TooManyIterations,
-    /// Pieces and a value or a location that is no piece are mixed.
+    /// An expression has pieces, and also a value or a location that is no piece.
     InvalidPiece,
     /// After a location comes an operation other than a piece; its last byte is at this place.
     InvalidExpressionTerminator(u64),
@@ -49,5 +49,5 @@ pub enum Error {
     StackFull,
 }
 
-/// What a call gives that may meet a fault.
+/// The result of a call that may fail.
 pub type Result<T> = std::result::Result<T, Error>;

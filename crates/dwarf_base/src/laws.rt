@@ -1,4 +1,4 @@
-//! Laws of the definitions that the contracts of `Reader` cite, of equality and of the constants.
+//! Laws of what `Reader`'s contracts say of reads, of equality, and of the constants.
 ghost use Rattle.std.specs.Prelude.{ℕ, Bool};
 ghost use Rattle.dwarf_base.specs.declared.common.Format.{Format};
 ghost use Rattle.dwarf_base.specs.Equality.{IsEquality, IsEqualityBy, IsSliceEquality};
@@ -15,16 +15,16 @@ use crate::constants::{DwAte, DwOp};
 use crate::errors::Error;
 use crate::slices::EndianSlice;
 
-/// What is read is what a front of the bytes spells, and nothing but that front is looked at.
+/// A read returns what a prefix of the bytes spells, and looks at no byte after that prefix.
 pub fn reader_laws()
-    // A value is read exactly if a front spells it, and a fault is met exactly if one is due.
+    // A read returns a value exactly if a prefix spells it, and a fault exactly if the bytes are malformed.
     ensures block { (n : ℕ) → ReadsExactly (SpellsBlock n) (MalformedBlock n) (split_at n) }
     ensures fixed { (big : Bool) (n : ℕ)
         → ReadsExactly (SpellsFixed big n) (MalformedBlock n) (fixed_at big n) }
     ensures unsigned { ReadsExactly (SpellsLeb unsigned_leb) (MalformedLeb unsigned_leb) uleb_at }
     ensures signed { ReadsExactly (SpellsLeb signed_leb) (MalformedLeb signed_leb) sleb_at }
 
-    // Bytes after that front change nothing, and each shorter front is `UnexpectedEof`.
+    // Bytes after that prefix change nothing. A shorter prefix gives `UnexpectedEof`.
     ensures byte_fronts { ReadsFronts u8_at }
     ensures block_fronts { (n : ℕ) → ReadsFronts (split_at n) }
     ensures fixed_fronts { (big : Bool) (n : ℕ) → ReadsFronts (fixed_at big n) }
@@ -37,7 +37,7 @@ pub fn reader_laws()
     ensures signed_fronts { ReadsFronts sleb_at }
 {}
 
-/// Two values are equal exactly if contracts see the same. It does nothing; its contract is the laws.
+/// Two values are equal exactly if contracts can't tell them apart. It does nothing; its contract states the laws.
 pub fn equality_laws()
     ensures little_endian { IsEquality ⟦<LittleEndian as PartialEq>⟧.eq }
     ensures big_endian { IsEquality ⟦<BigEndian as PartialEq>⟧.eq }

@@ -1,4 +1,4 @@
-//! What DWARF expressions are read with: bytes in a byte order, offsets, encodings and errors.
+//! What a reader of DWARF expressions needs: bytes in a byte order, offsets, encodings and errors.
 #![tactic(auto)]
 
 mod byte_order;

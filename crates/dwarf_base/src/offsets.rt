@@ -1,4 +1,4 @@
-//! Offsets: numbers that are as wide as a reader's.
+//! Offsets: the integers by which readers count bytes.
 
 ghost use Rattle.std.specs.Prelude.{◌≡◌, ℕ, ◌+◌, ◌%◌, ◌^◌, ◌<◌, ◌≤◌};
 ghost use Rattle.dwarf_base.specs.Faults.{Returns};
@@ -7,11 +7,11 @@ ghost use Rattle.dwarf_base.specs.Numbers.{residue, offset_of};
 use crate::errors::{Error, Result};
 use std::fmt::Debug;
 
-/// A number of bytes, as wide as a reader's texts are long.
+/// An integer that counts the bytes of a reader.
 pub trait ReaderOffset: Debug + Copy + Eq {
     ghost BITS: { ℕ };
 
-    // The number that it stands for.
+    // The offset as a number.
     ghost number: { Self → ℕ };
 
     /// How many bits it has.
@@ -25,7 +25,7 @@ pub trait ReaderOffset: Debug + Copy + Eq {
     fn from_u16(offset: u16) -> Self
         ensures { number result ≡ offset };
 
-    /// The number modulo two to the bits.
+    /// The number modulo 2^`BITS`.
     fn from_i16(offset: i16) -> Self
         ensures { number result ≡ residue BITS offset };
 
@@ -44,7 +44,7 @@ pub trait ReaderOffset: Debug + Copy + Eq {
         ensures low { 32 ≤ BITS }
         ensures high { BITS ≤ 64 };
 
-    /// The sum modulo two to the bits.
+    /// The sum modulo 2^`BITS`.
     fn wrapping_add(self, other: Self) -> Self
         ensures { number result ≡ (number self + number other) % 2 ^ BITS };
 }

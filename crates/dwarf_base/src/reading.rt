@@ -1,4 +1,4 @@
-//! Readers: a text, and the reads at its front (DWARF 5, sections 7.4 and 7.6).
+//! Readers: bytes that are read from the front, as numbers, blocks and offsets (DWARF 5, sections 7.4 and 7.6).
 
 ghost use Rattle.std.specs.Prelude.{◌≡◌, [], length, ◌-◌, ◌^◌, ◌<◌, ◌==◌, IfOk, IsTrue, pos, neg_ℤ, ◌≤ℤ◌, ◌<ℤ◌};
 ghost use Rattle.dwarf_base.specs.Leb.{uleb_at, uleb_u32_at, sleb_at, leb_from, sign_extension, unsigned_leb, signed_leb};
@@ -10,11 +10,11 @@ use crate::offsets::ReaderOffset;
 
 /// Bytes in a byte order, read from the front.
 ///
-/// What a read answers depends on the bytes that it takes, the byte order and its arguments alone, but for
-/// the identifier that `UnexpectedEof` carries. After an `Ok` the reader has the bytes that follow those, and after an
-/// `Err` some suffix of the bytes that it had. No call takes memory.
+/// The result of a read depends only on the bytes that it takes, the byte order and its arguments. Only the identifier
+/// in `UnexpectedEof` is free. After an `Ok` the reader has the bytes that follow those, and after an `Err` some suffix
+/// of the bytes that it had. No call allocates.
 pub trait Reader {
-    /// How it counts bytes.
+    /// The integer that counts its bytes.
     type Offset: ReaderOffset;
 
     // The bytes that are left to read, and their order.
@@ -33,7 +33,7 @@ pub trait Reader {
         ensures bytes { (text self.new).bytes ≡ [] }
         ensures order { (text self.new).is_big ≡ (text self.old).is_big };
 
-    /// How many bytes of `base` come before these, which are a suffix of its bytes.
+    /// The offset of these bytes in `base`. They have to be a suffix of its bytes.
     fn offset_from(&self, base: &Self) -> Self::Offset
         requires { IsSuffix (text self.now).bytes (text base.now).bytes }
         ensures { Self.Offset.number result
@@ -137,8 +137,8 @@ pub trait Reader {
         Ok(number.cast_signed())
     }
 
-    /// Reads an address of `size` bytes (DWARF 5, section 7.5.1). `UnsupportedAddressSize`, before a byte is
-    /// read, if that is none of 1, 2, 4 and 8. `UnexpectedEof` if there are fewer bytes.
+    /// Reads an address of `size` bytes (DWARF 5, section 7.5.1). `UnsupportedAddressSize` if `size` is none of 1, 2, 4
+    /// and 8; then no byte is read. `UnexpectedEof` if there are fewer bytes.
     #[inline]
     fn read_address(&mut self, size: u8) -> Result<u64>
         ensures { Reads (λ x. x) (text self.old) (text self.new) result
@@ -164,8 +164,8 @@ pub trait Reader {
         Self::Offset::from_u64(number)
     }
 
-    /// Reads an unsigned LEB128 number (DWARF 5, section 7.6). `BadUnsignedLeb128` if its tenth byte is
-    /// neither `00` nor `01`, so that nine `80` and a `00` are zero. `UnexpectedEof` if the bytes end before.
+    /// Reads an unsigned LEB128 number (DWARF 5, section 7.6). `BadUnsignedLeb128` if its tenth byte is neither `00`
+    /// nor `01`; so padding is allowed, and nine `80` and a `00` are zero. `UnexpectedEof` if the bytes end before.
     #[inline(always)]
     final fn read_uleb128(&mut self) -> Result<u64>
     where
@@ -185,8 +185,8 @@ pub trait Reader {
         rest_of_uleb128_on_copy(self, low)
     }
 
-    /// Reads an unsigned LEB128 number of 32 bits. The errors of `read_uleb128`, and `BadUnsignedLeb128` if
-    /// the number is above 4294967295.
+    /// Reads an unsigned LEB128 number of 32 bits. It fails as `read_uleb128` does, and with `BadUnsignedLeb128` if the
+    /// number is above 4294967295.
     #[inline(always)]
     final fn read_uleb128_u32(&mut self) -> Result<u32>
     where
@@ -223,7 +223,7 @@ pub trait Reader {
     }
 }
 
-/// A copy of what is there. No reader is copied in another way.
+/// Copies a value. Readers are copied by this function alone.
 #[inline(always)]
 pub fn copy_of<T: Copy>(it: &T) -> T
     ensures { result ≡ it.now }
@@ -231,7 +231,7 @@ pub fn copy_of<T: Copy>(it: &T) -> T
     *it
 }
 
-// What the last byte of a signed number adds at its place: its seven bits, whose highest is the sign.
+// The integer in the last byte of a signed number: the seven low bits, of which the highest is the sign.
 #[inline(always)]
 fn last_byte(byte: u8) -> i64
     requires { byte < 128 }
@@ -242,8 +242,9 @@ fn last_byte(byte: u8) -> i64
     i64::from((byte + 64) % 128) - 64
 }
 
-// The number of two bytes that go on, and the bytes after them. It is read on a copy, so that the reader itself needn't
-// stand in memory: that is worth 0.07 of gimli's time to decode libc and libm in Rust.
+// Reads the rest of a number whose first two bytes go on; `low` is the number in those two. It reads from a copy, so
+// that the compiler can keep the reader itself in registers. This saves 0.07 of gimli's time to decode libc and libm in
+// Rust.
 #[inline(always)]
 fn rest_of_uleb128_on_copy<R: Reader + Copy>(reader: &mut R, low: u64) -> Result<u64>
     requires { low < 128 ^ 2 }
@@ -279,7 +280,7 @@ fn rest_of_uleb128<R: Reader>(reader: &mut R, low: u64) -> Result<u64>
     }
 }
 
-// As `rest_of_uleb128_on_copy`, of a signed number.
+// Like `rest_of_uleb128_on_copy`, for a signed number.
 #[inline(always)]
 fn rest_of_sleb128_on_copy<R: Reader + Copy>(reader: &mut R, low: u64) -> Result<i64>
     requires { low < 128 ^ 2 }

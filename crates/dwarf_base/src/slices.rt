@@ -11,8 +11,8 @@ use crate::reading::Reader;
 
 /// The bytes of a slice, in a byte order.
 ///
-/// Two are equal if their bytes and their byte orders are. A refused `skip`, `split` or `read_fixed` leaves it
-/// as it was.
+/// Two are equal if their bytes and their byte orders are equal. A `skip`, `split` or `read_fixed` that fails leaves
+/// the reader as it was.
 #[derive(Clone, Copy, Debug, PartialEq, Eq, Hash)]
 pub struct EndianSlice<'input, E> {
     slice: &'input [u8],
@@ -20,7 +20,7 @@ pub struct EndianSlice<'input, E> {
 }
 
 impl<'input, E: Endianity> EndianSlice<'input, E> {
-    /// The bytes of the slice, in this order.
+    /// A reader over the bytes of `slice`, in the byte order `endian`.
     #[inline]
     pub fn new(slice: &'input [u8], endian: E) -> Self
         ensures bytes { slice_bytes result ≡ slice.now }
@@ -45,7 +45,7 @@ impl<'input, E: Endianity> EndianSlice<'input, E> {
         self.endian
     }
 
-    // Where a read goes past the end. It is left open, and nothing depends on it.
+    // Identifies the place where a read goes past the end. Its value is unspecified, and nothing depends on it.
     #[inline]
     fn offset_id(&self) -> ReaderOffsetId {
         ReaderOffsetId(0)

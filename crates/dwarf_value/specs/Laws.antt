@@ -13,7 +13,7 @@ pub record IsWidth (w : ℕ) : Type 0 where
   pub some_bit : 0 < w
   pub within_64 : w ≤ 64
 
--- a value's number is in the range of its type, as that of each value in a program is
+-- a value's number is in the range of its type; that of each value in a program is
 unfoldable pub InRange : Value → Type 0
 InRange (Generic n) = n < 2 ^ 64
 InRange (I8 x) = FitsSigned w8 x
@@ -39,7 +39,7 @@ Fails result = result ≡ Ok (Generic 0)
 abbrev pub OneHolds : (first second third : Result Value Error) → Type 0
 OneHolds a b c = (IsTrue a × Fails b × Fails c) ⊎ (Fails a × IsTrue b × Fails c) ⊎ (Fails a × Fails b × IsTrue c)
 
--- of two values of one type, the first is below, equal to or above the second
+-- of two values of one type, the first is below the second, equal to it or above it
 abbrev pub Trichotomy : Type 0
 Trichotomy =
     (w : ℕ) (x y : Value) → IsWidth w → type_of x ≡ type_of y
@@ -66,7 +66,7 @@ QuotientAndRemainder =
     → (quotient remainder product : Value) × (binary_of Div w x y ≡ Ok quotient) × (binary_of Mod w x y ≡ Ok remainder)
     × (binary_of Mul w quotient y ≡ Ok product) × (binary_of Plus w product remainder ≡ Ok x)
 
--- an operator that is done twice gives the value back
+-- applying the operator twice gives the value back
 abbrev pub GivesBack : (operator : ℕ → Value → Result Value Error) → (w : ℕ) → Value → Type 0
 GivesBack operator w x = (there : Value) × (operator w x ≡ Ok there) × (operator w there ≡ Ok x)
 
@@ -75,18 +75,18 @@ abbrev pub GivesBackSigned : (operator : ℕ → Value → Result Value Error) �
 GivesBackSigned operator =
     (w : ℕ) (x : Value) → IsWidth w → InRange x → is_signed false (type_of x) ≡ true → GivesBack operator w x
 
--- to negate twice, at a signed type
+-- negating twice gives back each value of a signed type
 abbrev pub NegateTwice : Type 0
 NegateTwice = GivesBackSigned (unary_of Neg)
 
--- to negate a generic value twice
+-- negating a generic value twice gives a value that agrees with it
 abbrev pub NegateTwiceGeneric : Type 0
 NegateTwiceGeneric =
     (w n : ℕ) → IsWidth w
     → (negated again : Value) × (unary_of Neg w (Generic n) ≡ Ok negated) × (unary_of Neg w negated ≡ Ok again)
     × Agree w (Generic n) again
 
--- to a type of the same size, and back
+-- reinterpreting a value as another type of the same size, and then as its own again, gives a value that agrees with it
 abbrev pub ReinterpretTwice : Type 0
 ReinterpretTwice =
     (w : ℕ) (t : ValueType) (x : Value) → IsWidth w → InRange x → bit_size_of w (type_of x) ≡ bit_size_of w t
@@ -95,7 +95,7 @@ ReinterpretTwice =
 
 -- ---- agreement
 
--- agreeing values, or the same error
+-- two results are agreeing values, or the same error
 pub data AgreeingResults (w : ℕ) : Result Value Error → Result Value Error → Type 0 where
   values : {x y : Value} → Agree w x y → AgreeingResults w (Ok x) (Ok y)
   errors : {e : Error} → AgreeingResults w (Err e) (Err e)
@@ -108,8 +108,8 @@ SameForOne result = (w : ℕ) (x x' : Value) → Agree w x x' → result w x ≡
 abbrev pub SameForTwo : (ℕ → Value → Value → Result Value Error) → Type 0
 SameForTwo result = (w : ℕ) (x x' y y' : Value) → Agree w x x' → Agree w y y' → result w x y ≡ result w x' y'
 
--- agreeing arguments give agreeing results, and equal ones but for `reinterpret`, which reads all bits of a generic
--- value
+-- agreeing arguments give equal results. Only those of `reinterpret`, which reads all bits of a generic value, need but
+-- agree
 pub record AgreementIsKept : Type 0 where
   pub to_u64 : (w : ℕ) (x x' : Value) → Agree w x x' → to_u64_of w x ≡ to_u64_of w x'
   pub convert : (t : ValueType) → SameForOne (λ w. convert_of w t)

@@ -15,7 +15,7 @@ use Rattle.dwarf_value.specs.declared.types.ValueType.{ValueType}
 use Rattle.dwarf_value.specs.contracts.types.ValueType.{the_type}
 use Rattle.dwarf_value.specs.declared.types.ValueType.TheVariants as kind
 
--- how many bits an address has: the one bits of its mask
+-- how many bits an address has: the number of ones in its mask
 unfoldable pub width_of : ℕ → ℕ
 width_of mask = count_ones mask
 
@@ -26,7 +26,7 @@ pub record IsAddressMask (mask : ℕ) : Type 0 where
 
 -- ---- types and integers
 
--- whether the integers of a type have a sign, and how many bits its values have; the generic type's are given
+-- whether a type is signed, and how many bits its values have; for the generic type the arguments say both
 abbrev pub shape_of : (signed : Bool) (w : ℕ) → ValueType → Bool × ℕ
 shape_of signed w kind.Generic = (signed, w)
 shape_of signed w kind.I8 = (true, 8)
@@ -38,7 +38,7 @@ shape_of signed w kind.U32 = (false, 32)
 shape_of signed w kind.I64 = (true, 64)
 shape_of signed w kind.U64 = (false, 64)
 
--- whether the integers of a type have a sign; those of the generic type have none of their own
+-- whether a type is signed; `generic` is the answer for the generic type
 unfoldable pub is_signed : (generic : Bool) → ValueType → Bool
 is_signed generic t = (shape_of generic 0 t).0
 
@@ -50,11 +50,11 @@ bit_size_of w t = (shape_of false w t).1
 unfoldable pub is_same : ValueType → ValueType → Bool
 is_same = sameb the_type
 
--- the integer of k bits: in two's complement, or from 0 up
+-- the integer that k bits spell: in two's complement, or from 0 up
 unfoldable pub word_integer : (signed : Bool) (k : ℕ) → ℕ → ℤ
 word_integer signed k n = if signed then signed_of k n else pos n
 
--- the type of a value, and its integer; a generic one's is that of its lowest w bits, with a sign or without
+-- the type of a value, and its integer; a generic value's integer is that of its lowest w bits, signed or not
 abbrev pub parts_of : (signed : Bool) (w : ℕ) → Value → ValueType × ℤ
 parts_of signed w (Generic n) = (kind.Generic, word_integer signed w (n % 2 ^ w))
 parts_of signed w (I8 x) = (kind.I8, x)
@@ -66,11 +66,11 @@ parts_of signed w (U32 n) = (kind.U32, pos n)
 parts_of signed w (I64 x) = (kind.I64, x)
 parts_of signed w (U64 n) = (kind.U64, pos n)
 
--- the type of a value, which does not depend on how a generic one is read
+-- the type of a value
 unfoldable pub type_of : Value → ValueType
 type_of x = (parts_of false 0 x).0
 
--- the integer that a value stands for
+-- the integer of a value; a generic value is signed or not, as the first argument says
 unfoldable pub integer_of : (signed : Bool) (w : ℕ) → Value → ℤ
 integer_of signed w x = (parts_of signed w x).1
 
@@ -82,12 +82,12 @@ unsigned_integer = integer_of false
 abbrev pub signed_integer : (w : ℕ) → Value → ℤ
 signed_integer = integer_of true
 
--- equal types and equal integers, which for generic values says that the contents are congruent modulo 2 ^ w
+-- two values have equal types and integers; generic ones agree if their contents are congruent modulo 2 ^ w
 pub record Agree (w : ℕ) (x y : Value) : Type 0 where
   pub types : type_of x ≡ type_of y
   pub integers : unsigned_integer w x ≡ unsigned_integer w y
 
--- the value of a type that an integer wraps to, modulo two to the type's size; a generic one keeps the lowest g bits
+-- the value of a type that an integer wraps to, modulo 2 ^ k for a type of k bits; a generic value keeps g bits
 unfoldable pub value_of : (g : ℕ) → ValueType → ℤ → Value
 value_of g kind.Generic z = Generic (residue g z)
 value_of g kind.I8 z = I8 (signed_of 8 (residue 8 z))
@@ -101,11 +101,11 @@ value_of g kind.U64 z = U64 (residue 64 z)
 
 -- ---- numbers of 64 bits, and other types
 
--- the integer modulo 2 ^ 64
+-- the value's integer modulo 2 ^ 64
 abbrev pub to_u64_of : (w : ℕ) → Value → ℕ
 to_u64_of w x = residue 64 (unsigned_integer w x)
 
--- the value that a number wraps to
+-- the number as a value of a type, wrapped to its size
 abbrev pub from_u64_of : ValueType → ℕ → Value
 from_u64_of t n = value_of 64 t (pos n)
 
@@ -126,17 +126,17 @@ from_encoding_of encoding byte_size =
     else if encoding == 0x07 then type_of_size kind.U8 kind.U16 kind.U32 kind.U64 byte_size
     else None
 
--- the number at the front of the bytes; the generic type has no size of its own
+-- the value of a type that the first bytes spell; the generic type is refused, as it has no size of its own
 abbrev pub parse_of : ValueType → (big : Bool) (bytes : List ℕ) → Result Value Fault
 parse_of t big bytes =
     if is_same t kind.Generic then Err UnsupportedTypeOperation
     else fixed_at big (bit_size_of 64 t / 8) bytes >>= λ number. Ok (from_u64_of t number.0)
 
--- by the number of 64 bits
+-- the value converted to a type, through its number of 64 bits
 abbrev pub convert_of : (w : ℕ) → ValueType → Value → Result Value Error
 convert_of w t x = Ok (from_u64_of t (to_u64_of w x))
 
--- between types of one size, with all 64 bits of a generic value
+-- the value's bits as a value of another type of the same size; of a generic value all 64 bits
 abbrev pub reinterpret_of : (w : ℕ) → ValueType → Value → Result Value Error
 reinterpret_of w t x =
     if bit_size_of w (type_of x) == bit_size_of w t then Ok (from_u64_of t (to_u64_of 64 x)) else Err TypeMismatch
@@ -151,19 +151,19 @@ pub data UnaryOperator : Type 0 where
 pub data BinaryOperator : Type 0 where
   Plus Minus Mul Div Mod And Or Xor Shl Shr Shra Eq Ne Lt Le Gt Ge : BinaryOperator
 
--- a result for two values of one type; two types don't fit
+-- the given result if two values have one type, else `TypeMismatch`
 abbrev pub of_one_type : Value → Value → Value → Result Value Error
 of_one_type x y result = if is_same (type_of x) (type_of y) then Ok result else Err TypeMismatch
 
--- the integers of two values of one type combined, and wrapped
+-- the integers of two values of one type, combined and wrapped
 abbrev pub combination : (ℤ → ℤ → ℤ) → (w : ℕ) → Value → Value → Result Value Error
 combination f w x y = of_one_type x y (value_of w (type_of x) (f (unsigned_integer w x) (unsigned_integer w y)))
 
--- a result for a dividend and a divisor; a zero divisor doesn't fit, of whatever type
+-- the given result of a division; `DivisionByZero` if the divisor is zero, and else `TypeMismatch` if the types differ
 abbrev pub division : (w : ℕ) → Value → Value → Value → Result Value Error
 division w x y result = if int_eq (unsigned_integer w y) (pos 0) then Err DivisionByZero else of_one_type x y result
 
--- a result for a shift's length, which may be of any type; a negative one doesn't fit
+-- the result for a shift's length, which may have any type; `InvalidShiftExpression` if it is negative
 abbrev pub shift : (w : ℕ) (length : Value) → (ℕ → Result Value Error) → Result Value Error
 shift w length result =
     if is_negative (unsigned_integer w length) then Err InvalidShiftExpression
@@ -178,8 +178,8 @@ floor_quotient (negsuc n) m = negsuc (n / m)
 abbrev pub comparison : (ℤ → ℤ → Bool) → (w : ℕ) → Value → Value → Result Value Error
 comparison passes w x y = of_one_type x y (Generic (if passes (signed_integer w x) (signed_integer w y) then 1 else 0))
 
--- What each operator on one value gives: the absolute value; the negated integer, or a fault for an unsigned type; each
--- binary digit turned, which is to negate the integer and take one off.
+-- The result of each operator on one value: the absolute value; the negated integer, or a fault at an unsigned type;
+-- the bitwise complement, which is the negated integer minus one.
 abbrev pub unary_of : UnaryOperator → (w : ℕ) → Value → Result Value Error
 unary_of Abs w x = Ok (value_of 64 (type_of x) (pos (unsigned_abs (signed_integer w x))))
 unary_of Neg w x =
@@ -187,10 +187,10 @@ unary_of Neg w x =
     else Err UnsupportedTypeOperation
 unary_of Not w x = Ok (value_of 64 (type_of x) (neg_ℤ (unsigned_integer w x) -ℤ pos 1))
 
--- What each operator on two values gives, of which `y` is the top. A quotient is rounded towards zero, and a remainder
--- has the dividend's sign. `And`, `Or` and `Xor` combine two numbers of 64 bits digit by digit. To shift is to multiply
--- by 2 ^ n, or to divide and round down: from the type's size on all bits are shifted out to the left, signed types
--- have no `Shr`, and unsigned ones no `Shra`.
+-- The result of each operator on two values; `y` is the top of the stack. A quotient is rounded towards zero, and a
+-- remainder has the dividend's sign. `And`, `Or` and `Xor` combine two numbers of 64 bits bit by bit. A shift
+-- multiplies by 2 ^ n, or divides by it and rounds down. If n is at least the type's size, `Shl` gives zero. Signed
+-- types have no `Shr`, and unsigned ones no `Shra`.
 abbrev pub binary_of : BinaryOperator → (w : ℕ) → Value → Value → Result Value Error
 binary_of Plus w x y = combination ◌+ℤ◌ w x y
 binary_of Minus w x y = combination ◌-ℤ◌ w x y

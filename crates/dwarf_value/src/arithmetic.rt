@@ -11,7 +11,7 @@ use dwarf_base::{Error, Result};
 impl Value {
     /// The sum, wrapped (`DW_OP_plus`). `TypeMismatch` if the types differ.
     ///
-    /// `addr_mask` has a one for each bit of an address: [`is_addr_mask`](crate::is_addr_mask) tells.
+    /// `addr_mask` has a one for each bit of an address; [`is_addr_mask`](crate::is_addr_mask) checks that.
     #[inline(always)]
     pub fn add(self, rhs: Value, addr_mask: u64) -> Result<Value>
         requires { IsAddressMask addr_mask }
@@ -23,7 +23,7 @@ impl Value {
 
     /// The difference, wrapped (`DW_OP_minus`). `TypeMismatch` if the types differ.
     ///
-    /// `addr_mask` has a one for each bit of an address: [`is_addr_mask`](crate::is_addr_mask) tells.
+    /// `addr_mask` has a one for each bit of an address; [`is_addr_mask`](crate::is_addr_mask) checks that.
     #[inline(always)]
     pub fn sub(self, rhs: Value, addr_mask: u64) -> Result<Value>
         requires { IsAddressMask addr_mask }
@@ -35,7 +35,7 @@ impl Value {
 
     /// The product, wrapped (`DW_OP_mul`). `TypeMismatch` if the types differ.
     ///
-    /// `addr_mask` has a one for each bit of an address: [`is_addr_mask`](crate::is_addr_mask) tells.
+    /// `addr_mask` has a one for each bit of an address; [`is_addr_mask`](crate::is_addr_mask) checks that.
     #[tactic(auto, using(crate::proofs::Congruences::low_bits_only))]
     #[inline(always)]
     pub fn mul(self, rhs: Value, addr_mask: u64) -> Result<Value>
@@ -51,7 +51,7 @@ impl Value {
     ///
     /// `DivisionByZero` if the divisor is zero, of whatever type; else `TypeMismatch` if the types differ.
     ///
-    /// `addr_mask` has a one for each bit of an address: [`is_addr_mask`](crate::is_addr_mask) tells.
+    /// `addr_mask` has a one for each bit of an address; [`is_addr_mask`](crate::is_addr_mask) checks that.
     #[inline(always)]
     pub fn div(self, rhs: Value, addr_mask: u64) -> Result<Value>
         requires { IsAddressMask addr_mask }
@@ -65,7 +65,7 @@ impl Value {
     ///
     /// `DivisionByZero` if the divisor is zero, of whatever type; else `TypeMismatch` if the types differ.
     ///
-    /// `addr_mask` has a one for each bit of an address: [`is_addr_mask`](crate::is_addr_mask) tells.
+    /// `addr_mask` has a one for each bit of an address; [`is_addr_mask`](crate::is_addr_mask) checks that.
     #[inline(always)]
     pub fn rem(self, rhs: Value, addr_mask: u64) -> Result<Value>
         requires { IsAddressMask addr_mask }
@@ -75,9 +75,9 @@ impl Value {
         Ok(Value::wrapped_to_64(value_type, remainder(x, y)))
     }
 
-    /// The absolute value, wrapped (`DW_OP_abs`). A generic value is a signed integer here. It is never refused.
+    /// The absolute value, wrapped (`DW_OP_abs`). A generic value is a signed integer here. It never fails.
     ///
-    /// `addr_mask` has a one for each bit of an address: [`is_addr_mask`](crate::is_addr_mask) tells.
+    /// `addr_mask` has a one for each bit of an address; [`is_addr_mask`](crate::is_addr_mask) checks that.
     #[inline(always)]
     pub fn abs(self, addr_mask: u64) -> Result<Value>
         requires { IsAddressMask addr_mask }
@@ -90,7 +90,7 @@ impl Value {
     /// The negated value, wrapped (`DW_OP_neg`). A generic value is a signed integer here.
     /// `UnsupportedTypeOperation` at an unsigned type.
     ///
-    /// `addr_mask` has a one for each bit of an address: [`is_addr_mask`](crate::is_addr_mask) tells.
+    /// `addr_mask` has a one for each bit of an address; [`is_addr_mask`](crate::is_addr_mask) checks that.
     #[inline(always)]
     pub fn neg(self, addr_mask: u64) -> Result<Value>
         requires { IsAddressMask addr_mask }
@@ -103,7 +103,8 @@ impl Value {
         Ok(Value::wrapped_to_64(value_type, -word.integer()))
     }
 
-    /// What `operands` gives, of a dividend and a divisor. A zero divisor is refused before two types are.
+    /// `operands` for a dividend and a divisor. `DivisionByZero` if the divisor is zero; else `TypeMismatch` if the
+    /// types differ.
     #[inline(always)]
     fn divided_by(self, rhs: Value, addr_mask: u64, signed: bool) -> Result<Operands>
         requires { IsAddressMask addr_mask }
@@ -129,7 +130,8 @@ fn magnitude(x: i128) -> u64
     x.unsigned_abs() as u64
 }
 
-/// The quotient of two integers of 64 bits, rounded towards zero: that of the absolute values, with the sign.
+/// The quotient of two integers of 64 bits, rounded towards zero. It divides the absolute values, and then sets the
+/// sign.
 #[inline(always)]
 fn quotient(x: i128, y: i128) -> i128
     requires x_least { neg_ℤ (pos (2 ^ 63)) ≤ℤ x }
@@ -147,7 +149,7 @@ fn quotient(x: i128, y: i128) -> i128
     }
 }
 
-/// The remainder of two integers of 64 bits: that of the absolute values, with the sign of the first.
+/// The remainder of two integers of 64 bits. It divides the absolute values; the sign is that of the first.
 #[inline(always)]
 fn remainder(x: i128, y: i128) -> i128
     requires x_least { neg_ℤ (pos (2 ^ 63)) ≤ℤ x }

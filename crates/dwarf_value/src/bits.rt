@@ -6,9 +6,9 @@ use crate::word::low_bits;
 use dwarf_base::Result;
 
 impl Value {
-    /// Each binary digit turned (`DW_OP_not`). It is never refused.
+    /// The bitwise complement (`DW_OP_not`). It never fails.
     ///
-    /// `addr_mask` has a one for each bit of an address: [`is_addr_mask`](crate::is_addr_mask) tells.
+    /// `addr_mask` has a one for each bit of an address; [`is_addr_mask`](crate::is_addr_mask) checks that.
     #[inline(always)]
     pub fn not(self, addr_mask: u64) -> Result<Value>
         requires { IsAddressMask addr_mask }
@@ -18,9 +18,9 @@ impl Value {
         Ok(Value::wrapped_to_64(value_type, -word.integer() - 1))
     }
 
-    /// The binary digits that are set in both (`DW_OP_and`). `TypeMismatch` if the types differ.
+    /// The bitwise and (`DW_OP_and`). `TypeMismatch` if the types differ.
     ///
-    /// `addr_mask` has a one for each bit of an address: [`is_addr_mask`](crate::is_addr_mask) tells.
+    /// `addr_mask` has a one for each bit of an address; [`is_addr_mask`](crate::is_addr_mask) checks that.
     #[inline(always)]
     pub fn and(self, rhs: Value, addr_mask: u64) -> Result<Value>
         requires { IsAddressMask addr_mask }
@@ -30,9 +30,9 @@ impl Value {
         Value::from_u64(value_type, low_bits(x) & low_bits(y))
     }
 
-    /// The binary digits that are set in one or both (`DW_OP_or`). `TypeMismatch` if the types differ.
+    /// The bitwise or (`DW_OP_or`). `TypeMismatch` if the types differ.
     ///
-    /// `addr_mask` has a one for each bit of an address: [`is_addr_mask`](crate::is_addr_mask) tells.
+    /// `addr_mask` has a one for each bit of an address; [`is_addr_mask`](crate::is_addr_mask) checks that.
     #[inline(always)]
     pub fn or(self, rhs: Value, addr_mask: u64) -> Result<Value>
         requires { IsAddressMask addr_mask }
@@ -42,9 +42,9 @@ impl Value {
         Value::from_u64(value_type, low_bits(x) | low_bits(y))
     }
 
-    /// The binary digits that are set in one of the two alone (`DW_OP_xor`). `TypeMismatch` if the types differ.
+    /// The bitwise exclusive or (`DW_OP_xor`). `TypeMismatch` if the types differ.
     ///
-    /// `addr_mask` has a one for each bit of an address: [`is_addr_mask`](crate::is_addr_mask) tells.
+    /// `addr_mask` has a one for each bit of an address; [`is_addr_mask`](crate::is_addr_mask) checks that.
     #[inline(always)]
     pub fn xor(self, rhs: Value, addr_mask: u64) -> Result<Value>
         requires { IsAddressMask addr_mask }

@@ -7,7 +7,7 @@ use crate::word::{Word, low_bits, same_type};
 use dwarf_base::{Error, Reader, Result};
 
 impl Value {
-    /// Reads a number of the type from the front of the bytes, in their order. The rest is ignored.
+    /// Reads a value of the type from the first bytes, in their byte order. Further bytes are ignored.
     ///
     /// `UnsupportedTypeOperation` at the generic type; else `UnexpectedEof` if there are too few bytes.
     #[inline(always)]
@@ -23,10 +23,10 @@ impl Value {
         Value::from_u64(value_type, number)
     }
 
-    /// The value as a number of 64 bits: a signed one with its sign extended, and of a generic one the bits of an
-    /// address. It is never refused.
+    /// The value as a number of 64 bits. A signed value is sign-extended; a generic value is cut to the bits of an
+    /// address. It never fails.
     ///
-    /// `addr_mask` has a one for each bit of an address: [`is_addr_mask`](crate::is_addr_mask) tells.
+    /// `addr_mask` has a one for each bit of an address; [`is_addr_mask`](crate::is_addr_mask) checks that.
     #[inline(always)]
     pub fn to_u64(self, addr_mask: u64) -> Result<u64>
         requires { IsAddressMask addr_mask }
@@ -36,7 +36,7 @@ impl Value {
         Ok(low_bits(word.integer()))
     }
 
-    /// The value of the type that a number wraps to. It is never refused.
+    /// The number as a value of the type, wrapped to its size. It never fails.
     #[tactic(auto, using(crate::proofs::MaskBits::all_bits))]
     #[inline(always)]
     pub fn from_u64(value_type: ValueType, value: u64) -> Result<Value>
@@ -45,9 +45,9 @@ impl Value {
         Ok(Value::make(value_type, Word::new(value, 64, false), u64::MAX))
     }
 
-    /// The value in another type, by `to_u64` and `from_u64` (`DW_OP_convert`). It is never refused.
+    /// Converts the value to another type, through `to_u64` and `from_u64` (`DW_OP_convert`). It never fails.
     ///
-    /// `addr_mask` has a one for each bit of an address: [`is_addr_mask`](crate::is_addr_mask) tells.
+    /// `addr_mask` has a one for each bit of an address; [`is_addr_mask`](crate::is_addr_mask) checks that.
     #[inline(always)]
     pub fn convert(self, value_type: ValueType, addr_mask: u64) -> Result<Value>
         requires { IsAddressMask addr_mask }
@@ -59,9 +59,9 @@ impl Value {
 
     /// The value's bits in another type of the same size (`DW_OP_reinterpret`). `TypeMismatch` if the sizes differ.
     ///
-    /// Of a generic value all 64 bits go into a generic one.
+    /// A generic value that stays generic keeps all 64 bits.
     ///
-    /// `addr_mask` has a one for each bit of an address: [`is_addr_mask`](crate::is_addr_mask) tells.
+    /// `addr_mask` has a one for each bit of an address; [`is_addr_mask`](crate::is_addr_mask) checks that.
     #[tactic(auto, using(crate::proofs::MaskBits::all_bits))]
     #[inline(always)]
     pub fn reinterpret(self, value_type: ValueType, addr_mask: u64) -> Result<Value>

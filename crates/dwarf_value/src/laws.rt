@@ -11,10 +11,10 @@ ghost use Rattle.dwarf_value.specs.Laws.{InRange, Trichotomy, Opposites, Quotien
 
 use crate::types::{Value, ValueType};
 
-/// Laws of what the calls on values answer, at every address mask, and worked rows of negation.
+/// Laws of the results of the calls on values, at every address mask, and worked rows of negation.
 ///
-/// It does nothing. Its contract is the laws. The rows say that the law of negation holds at the least value of each
-/// signed type, whatever the operator is; and what negation gives at the least byte and its neighbours.
+/// It does nothing. Its contract states the laws. The rows show that a law of all signed types covers the least value
+/// of each, and what negation gives at the least byte and its neighbours.
 pub fn value_laws()
     ensures trichotomy { Trichotomy }
     ensures opposites { Opposites }
@@ -33,8 +33,8 @@ pub fn value_laws()
     ensures unsigned_byte { unary_of Neg 32 (U8 128) ≡ Err UnsupportedTypeOperation }
 {}
 
-/// Types and values are equal exactly if contracts see the same: all 64 bits of a generic value count. It does
-/// nothing; its contract is the laws.
+/// Types and values are equal exactly if contracts can't tell them apart: all 64 bits of a generic value count. It does
+/// nothing; its contract states the laws.
 pub fn equality_laws()
     ensures types { IsEquality ⟦<ValueType as PartialEq>⟧.eq }
     ensures values { IsEquality ⟦<Value as PartialEq>⟧.eq }

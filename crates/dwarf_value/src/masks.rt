@@ -1,9 +1,9 @@
-//! The masks of addresses: which numbers are one, and how many bits it has.
+//! Address masks: which numbers are one, and how many bits an address has.
 
 ghost use Rattle.std.specs.Prelude.{◌≡◌, ◌<◌, ◌≤◌, ◌↔◌, IsTrue};
 ghost use Rattle.dwarf_value.specs.Values.{IsAddressMask, width_of};
 
-/// Whether the mask is that of an address of 1 to 64 bits: ones in its lowest bits, and nothing else.
+/// Whether this is the mask of an address of 1 to 64 bits: its lowest bits are ones, and all others zeros.
 #[inline(always)]
 pub fn is_addr_mask(addr_mask: u64) -> bool
     ensures { IsTrue result ↔ IsAddressMask addr_mask }

@@ -9,10 +9,10 @@ use crate::word::low_bits;
 use dwarf_base::{Error, Result};
 
 impl Value {
-    /// Shifted to the left by a length of any type, with zeros from the right (`DW_OP_shl`). It is zero once the
-    /// length is the type's size. `InvalidShiftExpression` if the length is negative.
+    /// Shifts to the left by a length of any type, and fills with zeros (`DW_OP_shl`). The result is zero if the length
+    /// is at least the type's size. `InvalidShiftExpression` if the length is negative.
     ///
-    /// `addr_mask` has a one for each bit of an address: [`is_addr_mask`](crate::is_addr_mask) tells.
+    /// `addr_mask` has a one for each bit of an address; [`is_addr_mask`](crate::is_addr_mask) checks that.
     #[tactic(auto, using(crate::proofs::Congruences::left_shifts))]
     #[inline(always)]
     pub fn shl(self, rhs: Value, addr_mask: u64) -> Result<Value>
@@ -27,12 +27,12 @@ impl Value {
         Value::from_u64(value_type, low_bits(word.integer()) << length)
     }
 
-    /// Shifted to the right by a length of any type, with zeros from the left (`DW_OP_shr`). A generic value is an
-    /// unsigned integer here.
+    /// Shifts to the right by a length of any type, and fills with zeros (`DW_OP_shr`). A generic value is an unsigned
+    /// integer here.
     ///
     /// `InvalidShiftExpression` if the length is negative; else `UnsupportedTypeOperation` at a signed type.
     ///
-    /// `addr_mask` has a one for each bit of an address: [`is_addr_mask`](crate::is_addr_mask) tells.
+    /// `addr_mask` has a one for each bit of an address; [`is_addr_mask`](crate::is_addr_mask) checks that.
     #[inline(always)]
     pub fn shr(self, rhs: Value, addr_mask: u64) -> Result<Value>
         requires { IsAddressMask addr_mask }
@@ -46,12 +46,12 @@ impl Value {
         Ok(Value::wrapped_to_64(value_type, shifted_right(word.integer(), length)))
     }
 
-    /// Shifted to the right by a length of any type, with copies of the sign from the left (`DW_OP_shra`). A generic
-    /// value is a signed integer here.
+    /// Shifts to the right by a length of any type, and fills with copies of the sign (`DW_OP_shra`). A generic value
+    /// is a signed integer here.
     ///
     /// `InvalidShiftExpression` if the length is negative; else `UnsupportedTypeOperation` at an unsigned type.
     ///
-    /// `addr_mask` has a one for each bit of an address: [`is_addr_mask`](crate::is_addr_mask) tells.
+    /// `addr_mask` has a one for each bit of an address; [`is_addr_mask`](crate::is_addr_mask) checks that.
     #[inline(always)]
     pub fn shra(self, rhs: Value, addr_mask: u64) -> Result<Value>
         requires { IsAddressMask addr_mask }
@@ -81,7 +81,7 @@ impl Value {
     }
 }
 
-/// An integer of 64 bits divided by two to the length, rounded down.
+/// Divides an integer of 64 bits by 2^`length`, and rounds down.
 #[inline(always)]
 fn shifted_right(integer: i128, length: u64) -> i128
     requires least { neg_ℤ (pos (2 ^ 64)) ≤ℤ integer }

@@ -34,8 +34,8 @@ pub enum ValueType {
 /// A value on the stack of a DWARF expression.
 #[derive(Clone, Copy, Debug, PartialEq, Eq)]
 pub enum Value {
-    /// A generic value. Operations on it count its bits up to the size of an address, but for `reinterpret`, which
-    /// takes all 64; if it is handed on it keeps them.
+    /// A generic value. Operations count only as many of its bits as an address has, but `reinterpret` takes all 64. A
+    /// value that is only passed on keeps all 64.
     Generic(u64),
     /// A signed integer of 8 bits.
     I8(i8),
@@ -70,7 +70,7 @@ impl Default for Value {
 impl ValueType {
     /// The size of the type's values in bits.
     ///
-    /// `addr_mask` has a one for each bit of an address: [`is_addr_mask`](crate::is_addr_mask) tells.
+    /// `addr_mask` has a one for each bit of an address; [`is_addr_mask`](crate::is_addr_mask) checks that.
     #[tactic(auto, unfolding(crate::specs::Values::bit_size_of))]
     #[inline(always)]
     pub fn bit_size(self, addr_mask: u64) -> u32
@@ -101,8 +101,8 @@ impl ValueType {
         }
     }
 
-    /// The type of a base type's values, by its encoding and its size in bytes: `DW_ATE_signed` or
-    /// `DW_ATE_unsigned` with 1, 2, 4 or 8 bytes, and none for all others (DWARF 5, sections 5.1 and 7.8).
+    /// The type of the values of a base type, by its encoding and its size in bytes. `DW_ATE_signed` and
+    /// `DW_ATE_unsigned` with 1, 2, 4 or 8 bytes have one, and all others none (DWARF 5, sections 5.1 and 7.8).
     pub fn from_encoding(encoding: DwAte, byte_size: u64) -> Option<ValueType>
         ensures { result ≡ from_encoding_of encoding.0 byte_size }
     {

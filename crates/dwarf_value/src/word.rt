@@ -9,8 +9,8 @@ use crate::masks::mask_width;
 use crate::types::{Value, ValueType};
 use dwarf_base::{Error, Result};
 
-/// A number of 64 bits, how many of them a value has, and whether the highest of these is a sign. The bits above are
-/// copies of the sign, or zeros.
+/// A value as a number of 64 bits. Its lowest `width` bits are the value's; if it is `signed`, the highest of those is
+/// the sign. The bits above are copies of the sign, or zeros.
 #[derive(Clone, Copy)]
 pub(crate) struct Word {
     pub bits: u64,
@@ -21,7 +21,7 @@ pub(crate) struct Word {
 }
 
 impl Word {
-    /// This number, of a value with this many bits, with a sign or without.
+    /// The word with these fields.
     #[inline(always)]
     pub(crate) fn new(bits: u64, width: u32, signed: bool) -> Word
         requires some_bit { 0 < width }
@@ -37,7 +37,7 @@ impl Word {
         }
     }
 
-    /// A number with a sign, of a value with this many bits.
+    /// The word of a signed number of this width.
     #[tactic(auto, unfolding(crate::specs::Values::word_integer))]
     #[inline(always)]
     fn with_sign(number: i64, width: u32) -> Word
@@ -50,7 +50,8 @@ impl Word {
         Word::new(number.cast_unsigned(), width, true)
     }
 
-    /// The lowest bits of a generic value, as many as an address has, with a sign or without.
+    /// The word of a generic value. It takes as many of the lowest bits as an address has, as a signed or an unsigned
+    /// number.
     #[inline(always)]
     fn of_address(content: u64, addr_mask: u64, signed: bool) -> Word
         requires { IsAddressMask addr_mask }
@@ -66,7 +67,7 @@ impl Word {
         Word::new(bits, mask_width(addr_mask), signed)
     }
 
-    /// The integer that the bits stand for.
+    /// The integer that the word stands for.
     #[tactic(auto, unfolding(crate::specs::Values::word_integer))]
     #[inline(always)]
     pub fn integer(self) -> i128
@@ -82,7 +83,7 @@ impl Word {
     }
 }
 
-/// The integer modulo two to the 64.
+/// The integer modulo 2^64.
 #[inline(always)]
 pub(crate) fn low_bits(integer: i128) -> u64
     ensures { result ≡ residue 64 integer }
@@ -113,7 +114,7 @@ pub(crate) fn same_type(first: ValueType, second: ValueType) -> bool
 pub(crate) type Operands = (ValueType, i128, i128);
 
 impl Value {
-    /// The type and the word of a value. The bits of a generic one are those of an address, `signed` or not.
+    /// The type and the word of a value. A generic value is cut to the bits of an address, and is `signed` or not.
     #[tactic(auto, unfolding(crate::specs::Values::type_of, crate::specs::Values::integer_of, crate::specs::Values::word_integer, crate::specs::Values::bit_size_of, crate::specs::Values::is_signed))]
     #[inline(always)]
     pub(crate) fn parts(self, addr_mask: u64, signed: bool) -> (ValueType, Word)
@@ -137,8 +138,8 @@ impl Value {
         }
     }
 
-    /// The type and the integers of two values of one type; `TypeMismatch` if the types differ. The bits of generic
-    /// ones are those of an address, `signed` or not.
+    /// The type of two values, and their integers. `TypeMismatch` if the types differ. A generic value is cut to the
+    /// bits of an address, and is `signed` or not.
     #[inline(always)]
     pub(crate) fn operands(self, rhs: Value, addr_mask: u64, signed: bool) -> Result<Operands>
         requires { IsAddressMask addr_mask }
@@ -154,7 +155,7 @@ impl Value {
         Ok((value_type, first.integer(), second.integer()))
     }
 
-    /// The value of a type that a word of 64 bits is cut to. A generic one keeps the bits of an address.
+    /// The value of this type in the lowest bits of a word. A generic value is cut to the bits of an address.
     #[tactic(auto, unfolding(crate::specs::Values::value_of))]
     #[inline(always)]
     pub(crate) fn make(value_type: ValueType, word: Word, addr_mask: u64) -> Value
@@ -175,7 +176,7 @@ impl Value {
         }
     }
 
-    /// The value of the type that an integer wraps to. A generic one keeps the bits of an address.
+    /// The value of this type that an integer wraps to. A generic value is cut to the bits of an address.
     #[tactic(auto, using(crate::proofs::Congruences::low_bits_only, crate::proofs::MaskBits::width_within_64))]
     #[inline(always)]
     pub(crate) fn wrapped(value_type: ValueType, integer: i128, addr_mask: u64) -> Value
@@ -189,7 +190,7 @@ impl Value {
         )
     }
 
-    /// The value of the type that an integer wraps to. A generic one keeps 64 bits.
+    /// The value of this type that an integer wraps to. A generic value keeps 64 bits.
     #[tactic(auto, using(crate::proofs::MaskBits::all_bits))]
     #[inline(always)]
     pub(crate) fn wrapped_to_64(value_type: ValueType, integer: i128) -> Value

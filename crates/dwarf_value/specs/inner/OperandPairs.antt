@@ -24,7 +24,7 @@ pub record UnfitOperands (x y : Value) (e : Error) : Type 0 where
   pub differ : is_same (type_of x) (type_of y) ≡ false
   pub fault : e ≡ TypeMismatch
 
--- the same of a dividend and a divisor
+-- the same for a dividend and a divisor that isn't zero
 pub record AreDivided (signed : Bool) (w : ℕ) (x y : Value) (t : ValueType) (a b : ℤ) : Type 0 where
   pub operands : AreOperands signed w x y t a b
   pub nonzero : int_eq (unsigned_integer w y) (pos 0) ≡ false

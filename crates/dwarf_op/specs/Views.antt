@@ -1,4 +1,4 @@
--- What operations and their operands stand for, once a reader is seen as a text and an offset as a number.
+-- Operations, references and locations as the definitions have them: a reader as a text, and an offset as a number.
 use Rattle.std.specs.Prelude.{ℕ}
 use Rattle.dwarf_base.specs.Reads.{Text}
 use Rattle.dwarf_meaning.specs.Locations as locations

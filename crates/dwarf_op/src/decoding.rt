@@ -1,4 +1,4 @@
-//! The operation at the front of a text: the table of opcodes, and what is made of their operands.
+//! Decodes the operation at the front of a text, by the table of opcodes.
 
 ghost use Rattle.std.specs.Prelude.{◌≡◌, ◌<◌, length, OnOk};
 ghost use Rattle.dwarf_base.specs.Reads.{Reads};
@@ -35,10 +35,10 @@ const BREG31: u8 = DW_OP_breg31.0;
 impl<R: Reader + Copy> Operation<R> {
     /// Reads the operation at the front of `bytes` (DWARF 5, sections 2.5 and 7.7.1).
     ///
-    /// `UnexpectedEof` if its bytes are cut off, `InvalidExpression` of an unknown opcode, and `BadUnsignedLeb128`,
-    /// `BadSignedLeb128`, `UnsupportedAddressSize`, `UnsupportedOffset`, `UnsupportedRegister` or `InvalidPieceSize`
-    /// of an operand; the first operand that isn't allowed decides. After an error `bytes` is at a suffix of what it
-    /// was. Which suffix is left open: a reader may have taken the opcode and operands, or nothing.
+    /// `UnexpectedEof` if its bytes are cut off. `InvalidExpression` if the opcode is unknown. `BadUnsignedLeb128`,
+    /// `BadSignedLeb128`, `UnsupportedAddressSize`, `UnsupportedOffset`, `UnsupportedRegister` or `InvalidPieceSize` if
+    /// an operand is malformed; the first one decides. After an error `bytes` is at a suffix of what it was. Which one
+    /// is unspecified: a reader may have taken the opcode and operands, or nothing.
     #[tactic(auto, using(dwarf_base::proofs::Suffixes::suffix_trans), unfolding(dwarf_meaning::specs::Decoding::operation_at))]
     #[inline(always)]
     pub fn parse(bytes: &mut R, encoding: Encoding) -> Result<Operation<R>>
@@ -52,12 +52,12 @@ impl<R: Reader + Copy> Operation<R> {
     }
 }
 
-/// The table of opcodes (DWARF 5, section 7.7.1): the operation of each, or the shapes of its operands, in order, and
-/// what is made of them.
+/// The table of opcodes (DWARF 5, section 7.7.1). A row is an operation, or the shapes of its operands in order and how
+/// they make the operation.
 ///
-/// Each row is a constant where it is read, so that the compiler knows its shapes. A row of two operands hands in what
-/// the read of the first gave: the kit keeps a function in line if it reads one operand, and not if it reads two, which
-/// is worth 0.1 of gimli's time to decode libc and libm.
+/// Each row is a constant where it is read, so that the compiler knows its shapes. A row with two operands reads the
+/// first one itself, and passes in the result. The kit inlines a function that reads one operand, but not one that
+/// reads two; this saves 0.1 of gimli's time to decode libc and libm.
 #[tactic(auto, unfolding(dwarf_meaning::specs::Opcodes::row_of))]
 #[inline(always)]
 fn read_row<R: Reader + Copy>(opcode: u8, bytes: &mut R, encoding: Encoding) -> Result<Operation<R>>
@@ -227,7 +227,7 @@ fn read_row<R: Reader + Copy>(opcode: u8, bytes: &mut R, encoding: Encoding) -> 
     }
 }
 
-/// Reads the only operand, of which the operation is made.
+/// Reads the only operand, and makes the operation from it.
 #[tactic(auto, using(dwarf_base::proofs::Suffixes::suffix_trans))]
 #[inline(always)]
 fn one<R: Reader + Copy>(
@@ -244,7 +244,7 @@ fn one<R: Reader + Copy>(
     Ok(make(maker, operand, Operand::none()))
 }
 
-/// Reads the second operand, after the first was read. The operation is made of both.
+/// Reads the second operand, and makes the operation from both.
 #[tactic(auto, using(dwarf_base::proofs::Suffixes::suffix_trans))]
 #[inline(always)]
 fn second<R: Reader + Copy>(
@@ -262,7 +262,8 @@ fn second<R: Reader + Copy>(
     Ok(make(maker, first, second))
 }
 
-/// Reads the size of a block and its bytes, after the operand before them was read, if there is one.
+/// Reads a block, its size first, and makes the operation from it. `before` is the operand before the block, if there
+/// is one.
 #[tactic(auto, using(dwarf_base::proofs::Suffixes::suffix_trans))]
 #[inline(always)]
 fn block<R: Reader + Copy>(
@@ -288,7 +289,7 @@ fn block<R: Reader + Copy>(
     })
 }
 
-/// What is made of one operand or two.
+/// How one operand or two make an operation.
 #[derive(Clone, Copy)]
 enum Maker {
     Deref { space: bool },
@@ -305,9 +306,9 @@ enum Maker {
     /// `RegisterOffset` of a base type.
     TypedRegister,
     FrameOffset,
-    /// `Call` of an entry of the unit.
+    /// `Call` of an entry in the unit.
     UnitCall,
-    /// `Call` of an entry of `.debug_info`.
+    /// `Call` of an entry in `.debug_info`.
     InfoCall,
     /// `Piece` that begins at the next byte boundary.
     Piece,
@@ -323,7 +324,7 @@ enum Maker {
     VariableValue,
 }
 
-/// What is made of a block.
+/// How a block makes an operation.
 #[derive(Clone, Copy)]
 enum BlockMaker {
     ImplicitValue,
@@ -339,7 +340,7 @@ fn generic_type<O: ReaderOffset>() -> UnitOffset<O>
     UnitOffset(O::from_u8(0))
 }
 
-/// Makes the operation of one operand or two.
+/// Makes the operation from one operand or two.
 #[inline(always)]
 fn make<R: Reader>(
     maker: Maker,

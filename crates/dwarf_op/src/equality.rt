@@ -7,15 +7,15 @@ ghost use Rattle.dwarf_op.specs.Views.{operation_of, reference_of};
 use crate::operations::{DieReference, Operation};
 use dwarf_base::Reader;
 
-/// References are equal exactly if they are seen as the same, as far as offsets are. It does nothing; its
-/// contract is the law.
+/// References are equal exactly if contracts can't tell them apart, provided that this holds of offsets. It does
+/// nothing; its contract states the law.
 pub fn reference_equality_laws<O: Eq>()
     ensures { (number : O → ℕ) → IsEqualityOf number O.PartialEq.eq
         → IsEqualityOf (reference_of number) ⟦<DieReference<O> as PartialEq>⟧.eq }
 {}
 
-/// Operations are equal exactly if they are seen as the same, as far as readers and offsets are. It does
-/// nothing; its contract is the law.
+/// Operations are equal exactly if contracts can't tell them apart, provided that this holds of readers and offsets. It
+/// does nothing; its contract states the law.
 pub fn operation_equality_laws<R: Reader + Eq, O: Eq>()
     ensures { (text : R → Text) (number : O → ℕ) → IsEqualityOf text R.PartialEq.eq
         → IsEqualityOf number O.PartialEq.eq

@@ -1,4 +1,4 @@
-//! Operations and how they are decoded, and the pieces that they describe.
+//! Operations, their decoding, and the pieces that they describe.
 #![tactic(auto)]
 
 mod decoding;

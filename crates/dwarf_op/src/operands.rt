@@ -5,7 +5,7 @@ ghost use Rattle.dwarf_op.specs.inner.Entries.{GoesOn, no_operand, operand_of, s
 
 use dwarf_base::{Encoding, Error, Reader, ReaderOffset, Register, Result, constants};
 
-/// How the bytes of an operand are laid out, and which numbers they may be.
+/// The layout of an operand's bytes, and the numbers that are allowed.
 #[derive(Clone, Copy)]
 pub(crate) enum Shape {
     /// There is no operand.
@@ -24,7 +24,7 @@ pub(crate) enum Shape {
     Offset,
     /// An unsigned LEB128 number that fits a register.
     RegisterNumber,
-    /// An unsigned LEB128 number of bytes, whose bits fit 64 bits.
+    /// An unsigned LEB128 number of bytes; counted in bits it fits in 64 bits.
     PieceSize,
     /// An offset into a section, as wide as the format says.
     SectionOffset,
@@ -43,8 +43,7 @@ pub(crate) enum WasmPlace {
     Stack,
 }
 
-/// An operand that was read, in each type that a field of an operation may have. Those that its shape doesn't give are
-/// zero.
+/// An operand, in each type that a field of an operation may have. A field that its shape doesn't give is zero.
 #[derive(Clone, Copy)]
 pub(crate) struct Operand<O> {
     pub(crate) byte: u8,
@@ -117,7 +116,7 @@ impl<O: ReaderOffset> Operand<O> {
     }
 }
 
-/// Reads an operand in its shape. `before` is the operand before it.
+/// Reads an operand of this shape. `before` is the operand before it.
 #[tactic(auto, using(dwarf_base::proofs::FixedNumbers::fixed_one))]
 #[inline(always)]
 pub(crate) fn read_operand<R: Reader + Copy>(

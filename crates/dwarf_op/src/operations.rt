@@ -20,12 +20,12 @@ pub enum DieReference<T = usize> {
 #[derive(Copy, Debug, PartialEq, Eq)]
 #[repr(u8)]
 pub enum Operation<R: Reader, O = <R as Reader>::Offset> {
-    /// Pop an address and push what memory holds there: `DW_OP_deref`, `DW_OP_deref_size`, `DW_OP_deref_type` and,
-    /// with an address space, `DW_OP_xderef`, `DW_OP_xderef_size`, `DW_OP_xderef_type`.
+    /// Pop an address and push the memory there: `DW_OP_deref`, `DW_OP_deref_size`, `DW_OP_deref_type` and, with an
+    /// address space, `DW_OP_xderef`, `DW_OP_xderef_size`, `DW_OP_xderef_type`.
     Deref {
         /// How many bytes are read.
         size: u8,
-        /// The type of what is pushed; 0 is the generic type.
+        /// The type of the value that is pushed; 0 is the generic type.
         base_type: UnitOffset<O>,
         /// Whether an address space is popped too, from below the address.
         space: bool,
@@ -112,8 +112,8 @@ pub enum Operation<R: Reader, O = <R as Reader>::Offset> {
         /// The register.
         register: Register,
     },
-    /// Push what a register holds, plus an offset: `DW_OP_breg0` to `DW_OP_breg31`, `DW_OP_bregx` and, of a base type
-    /// and without an offset, `DW_OP_regval_type`.
+    /// Push the contents of a register plus an offset: `DW_OP_breg0` to `DW_OP_breg31`, `DW_OP_bregx` and, with a base
+    /// type and no offset, `DW_OP_regval_type`.
     RegisterOffset {
         /// The register.
         register: Register,
@@ -129,7 +129,7 @@ pub enum Operation<R: Reader, O = <R as Reader>::Offset> {
     },
     /// Nothing: `DW_OP_nop`.
     Nop,
-    /// Push the address of the object that is described, which `set_object_address` of the evaluation has set:
+    /// Push the address of the described object, as `set_object_address` of the evaluation has set it:
     /// `DW_OP_push_object_address`.
     PushObjectAddress,
     /// Evaluate another expression, the `DW_AT_location` of an entry, in this one's place: `DW_OP_call2`,
@@ -148,39 +148,41 @@ pub enum Operation<R: Reader, O = <R as Reader>::Offset> {
     Piece {
         /// Its size, in bits.
         size_in_bits: u64,
-        /// Where it begins in its location, in bits; `None` for `DW_OP_piece`, which begins at the next byte boundary.
-        /// In a register or a value it counts from the least significant bit end.
+        /// The bit of its location at which it begins; `None` for `DW_OP_piece`, which begins at the next byte
+        /// boundary. In a register or a value, bits are counted from the least significant one.
         bit_offset: Option<u64>,
     },
-    /// The variable has no place, and these bytes: `DW_OP_implicit_value`. It completes the piece or the expression.
+    /// The variable isn't in memory; these are its bytes: `DW_OP_implicit_value`. It completes the piece or the
+    /// expression.
     ImplicitValue {
         /// The bytes.
         bytes: R,
     },
-    /// The variable has no place; pop its value: `DW_OP_stack_value`. It completes the piece or the expression.
+    /// The variable isn't in memory; pop its value: `DW_OP_stack_value`. It completes the piece or the expression.
     StackValue,
-    /// The variable is a pointer to an object that has no place: `DW_OP_implicit_pointer`,
+    /// The variable is a pointer to an object that isn't in memory: `DW_OP_implicit_pointer`,
     /// `DW_OP_GNU_implicit_pointer`. It completes the piece or the expression.
     ImplicitPointer {
-        /// Where the object is described.
+        /// The entry that describes the object.
         value: DebugInfoOffset<O>,
-        /// Where in the object it points to, in bytes.
+        /// The offset in the object to which it points, in bytes.
         byte_offset: i64,
     },
-    /// Push what an expression gave when the function was entered: `DW_OP_entry_value`, `DW_OP_GNU_entry_value`.
+    /// Push the value that an expression had when the function was entered: `DW_OP_entry_value`,
+    /// `DW_OP_GNU_entry_value`.
     EntryValue {
         /// The expression.
         expression: R,
     },
-    /// Push the value of a parameter that was optimized out, as a call site of the caller gives it:
+    /// Push the value of a parameter that was optimized out, as the caller's call site gives it:
     /// `DW_OP_GNU_parameter_ref`.
     ParameterRef {
-        /// Where the parameter is described; the call site's entry names the same place.
+        /// The entry that describes the parameter; the call site's entry names the same one.
         offset: UnitOffset<O>,
     },
-    /// Push an address, relocated: `DW_OP_addr`.
+    /// Push a relocated address: `DW_OP_addr`.
     Address {
-        /// The address, before that.
+        /// The address before relocation.
         address: u64,
     },
     /// Push an address of `.debug_addr`, relocated: `DW_OP_addrx`, `DW_OP_GNU_addr_index`.
@@ -205,7 +207,7 @@ pub enum Operation<R: Reader, O = <R as Reader>::Offset> {
         /// The type.
         base_type: UnitOffset<O>,
     },
-    /// Take the bits on top as a value of a base type: `DW_OP_reinterpret`, `DW_OP_GNU_reinterpret`.
+    /// Reinterpret the bits of the top as a value of a base type: `DW_OP_reinterpret`, `DW_OP_GNU_reinterpret`.
     Reinterpret {
         /// The type.
         base_type: UnitOffset<O>,
@@ -229,13 +231,13 @@ pub enum Operation<R: Reader, O = <R as Reader>::Offset> {
     },
     /// Push the value of a variable: `DW_OP_GNU_variable_value`. An evaluation answers `UnsupportedEvaluation`.
     VariableValue {
-        /// Where the variable is described.
+        /// The entry that describes the variable.
         offset: DebugInfoOffset<O>,
     },
 }
 
 impl<R: Reader + Copy, O: Copy> Clone for Operation<R, O> {
-    // A copy, and not a clone of each field, which takes long to prove.
+    // A clone is a copy. Cloning each field would take long to prove.
     ghost is_clone = { λ x y. y ≡ x };
 
     ghost is_infallible = { λ _. ⊤ };

@@ -1,4 +1,4 @@
--- What the decoder's operands and makers stand for: rows of the standard's table.
+-- The rows of the standard's table that the decoder's operands and makers stand for.
 use Rattle.std.specs.Prelude.{ℕ, ◌≡◌, ◌*◌, pos, List, [], ◌∷◌, Some, None, Result, Ok, Err}
 use Rattle.dwarf_base.specs.declared.errors.Error.{Error}
 use Rattle.dwarf_base.specs.Faults.{Fault, fault_of}
@@ -46,7 +46,7 @@ no_operand = record {
   index = 0;
 }
 
--- the index of a place of WebAssembly, and the row of what follows it
+-- the row of a WebAssembly index of this kind, and then of what follows it
 abbrev pub wasm_index_row : (kind : ℕ) → (Operand ℕ → Row) → Row
 wasm_index_row kind next =
     row_among (Invalid 0xed) kind
@@ -55,7 +55,7 @@ wasm_index_row kind next =
     ∷ one 2 (Unsigned (Leb128, U32) (λ n. next (record no_operand { place = place.Stack; index = n })))
     ∷ one 3 (Unsigned (Bytes 4, Any) (λ n. next (record no_operand { place = place.Global; index = n }))) ∷ [])
 
--- an operand in its shape, after the one before it, and the row of what follows it
+-- the row of an operand in its shape, and then of what follows it; `before` is the operand before it
 abbrev pub shape_row : Encoding → Shape → (before : Operand ℕ) → (Operand ℕ → Row) → Row
 shape_row encoding shape.Absent before next = next no_operand
 shape_row encoding shape.U8 before next =
@@ -84,7 +84,8 @@ shape_row encoding shape.Address before next =
     Unsigned (Bytes encoding.address_size, Any) (λ n. next (record no_operand { unsigned = n }))
 shape_row encoding shape.WasmIndex before next = wasm_index_row before.byte next
 
--- What a read of one operand gives, by its row and any row of what follows: that row is read on, or there is the fault.
+-- The result of reading one operand, by its row and any row that may follow: that row is read on, or there is the
+-- fault.
 abbrev pub Leads : {X Y : Type 0} → (offset_bits : ℕ) → (X → Y) → (old new : Text) → Result X Error
     → ((Y → Row) → Row) → Type 0
 Leads {X} {Y} offset_bits view old new (Ok x) row = (next : Y → Row)
@@ -93,21 +94,21 @@ Leads {X} {Y} offset_bits view old new (Ok x) row = (next : Y → Row)
 Leads {X} {Y} offset_bits view old new (Err e) row = (next : Y → Row)
     → operands_at offset_bits old.is_big (row next) old.bytes ≡ Err (fault_of e)
 
--- a read of one operand, from the text before to the text after it
+-- reads one operand, by its row; the new text is a suffix of the old one, in the same byte order
 pub record GoesOn {X Y : Type 0} (offset_bits : ℕ) (view : X → Y) (old new : Text) (result : Result X Error)
     (row : (Y → Row) → Row) : Type 0 where
   pub leads : Leads offset_bits view old new result row
   pub rest : IsSuffix new.bytes old.bytes
   pub order : new.is_big ≡ old.is_big
 
--- ---- what is made of them
+-- ---- operations
 
 abbrev pub wasm_operation : WasmPlace → (index : ℕ) → meaning.Operation
 wasm_operation place.Local index = meaning.WasmLocal index
 wasm_operation place.Global index = meaning.WasmGlobal index
 wasm_operation place.Stack index = meaning.WasmStack index
 
--- the operation that is made of one operand or two
+-- the operation that one operand or two make
 abbrev pub operation_by : Maker → (first second : Operand ℕ) → meaning.Operation
 operation_by (maker.Deref space) first second = meaning.Deref second.offset first.byte space
 operation_by maker.Pick first second = meaning.Pick first.byte
@@ -135,7 +136,7 @@ operation_by maker.Reinterpret first second = meaning.Reinterpret first.offset
 operation_by maker.Wasm first second = wasm_operation second.place second.index
 operation_by maker.VariableValue first second = meaning.VariableValue first.offset
 
--- the operation that is made of a block, and of the operand before its size
+-- the operation that a block makes, with the operand before its size
 abbrev pub block_operation : BlockMaker → (first : Operand ℕ) → Text → meaning.Operation
 block_operation block_maker.ImplicitValue first block = meaning.ImplicitValue block
 block_operation block_maker.EntryValue first block = meaning.EntryValue block
@@ -148,22 +149,22 @@ abbrev pub row_of_one : Encoding → Shape → Maker → Row
 row_of_one encoding shape make =
     shape_row encoding shape no_operand (λ a. Makes (operation_by make a no_operand))
 
--- what follows a first operand: the second
+-- the row after a first operand: the second operand
 abbrev pub row_of_second : Encoding → Shape → Maker → (first : Operand ℕ) → Row
 row_of_second encoding shape make first =
     shape_row encoding shape first (λ b. Makes (operation_by make first b))
 
--- what follows an operand, or none: the size of a block and the block
+-- the row after an operand, or after none: the size of a block, and the block
 abbrev pub row_of_block : Encoding → (size : Shape) → BlockMaker → (before : Operand ℕ) → Row
 row_of_block encoding size make before =
     shape_row encoding size before
     (λ b. Block b.offset (λ block. Makes (block_operation make before block)))
 
--- a row's operands at the front of a text
+-- reads the operands of a row at the front of a text
 abbrev pub operands_in : (offset_bits : ℕ) → Text → Row → Result (meaning.Operation × List ℕ) Fault
 operands_in offset_bits text row = operands_at offset_bits text.is_big row text.bytes
 
--- a read that follows the read of an operand: from the text before that, both read its row and what follows it
+-- a second read after the read of an operand: together they read the first operand's row and the row that follows it
 abbrev pub FollowsOn : {X Z : Type 0} → (offset_bits : ℕ) → (X → Operand ℕ) → (Z → meaning.Operation) → (mid new : Text)
     → (first : Result X Error) → Result Z Error → (next : Operand ℕ → Row) → Type 0
 FollowsOn offset_bits operand operation mid new first result next =

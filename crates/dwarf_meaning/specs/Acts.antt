@@ -14,7 +14,7 @@ use Rattle.dwarf_meaning.specs.Operations.{Operation, UnsignedConstant, SignedCo
 use Rattle.dwarf_meaning.specs.Locations.{Location, Empty, InRegister, AtAddress, HoldsValue, HoldsBytes, PointsInto, Piece, sized_piece}
 use Rattle.dwarf_meaning.specs.Requests.{Request, RequiresMemory, RequiresRegister, RequiresWasmLocal, RequiresWasmGlobal, RequiresWasmStack, RequiresFrameBase, RequiresTls, RequiresCallFrameCfa, RequiresAtLocation, RequiresEntryValue, RequiresParameterRef, RequiresRelocatedAddress, RequiresIndexedAddress, RequiresBaseType, OnAnswer, Push, Add, Parse, Convert, Reinterpret, Answer, ValueAnswer, NumberAnswer, LocationAnswer, BaseTypeAnswer}
 
--- What an operation does: `rest` are the values that it leaves of the stack, the top first.
+-- What an operation does. `rest` is the stack after the operation's pops, the top first.
 pub data Act : Type 0 where
   -- values are pushed, in this order
   Pushes : (rest pushed : List Value) → Act
@@ -30,17 +30,17 @@ pub data Act : Type 0 where
 
 -- ---- words for the tables below
 
--- the top of a stack and what is below it, or `none` of an empty one
+-- `go` of the top of a stack and the values below it; `none` if the stack is empty
 unfoldable pub on_top : {A : Type 0} → List Value → A → (Value → List Value → A) → A
 on_top [] none go = none
 on_top (x ∷ rest) none go = go x rest
 
--- the result of a call on values, or its error as a fault
+-- `go` of the result of a call on values; `faulted` of its error, as a fault
 unfoldable pub on_result : {X A : Type 0} → Result X Error → (Fault → A) → (X → A) → A
 on_result (Ok x) faulted go = go x
 on_result (Err error) faulted go = faulted (fault_of error)
 
--- no value is there to be popped
+-- there is no value to pop
 abbrev pub underflow : Act
 underflow = FaultAct NotEnoughStackItems
 
@@ -48,18 +48,18 @@ underflow = FaultAct NotEnoughStackItems
 abbrev pub push : List Value → Value → Act
 push rest value = Pushes rest (value ∷ [])
 
--- the top becomes the call's result
+-- the result of a call replaces the top
 abbrev pub unary : (Value → Result Value Error) → List Value → Act
 unary call values = on_top values underflow (λ x rest. on_result (call x) FaultAct (push rest))
 
--- the two on top become the call's result
+-- the result of a call replaces the two values on top
 abbrev pub binary : (Value → Value → Result Value Error) → List Value → Act
 binary call values =
     on_top values underflow (λ y below. on_top below underflow (λ x rest. on_result (call x y) FaultAct (push rest)))
 
 -- ---- operations that are done at once, and those that ask
 
--- An address has `bits` bits, and `object` is the address of the object that is described, if one is known.
+-- An address has `bits` bits. `object` is the address of the object that is described, if it is known.
 module _ (bits : ℕ) (object : Option ℕ) where
   -- what an operation does with the values on the stack
   unfoldable pub act : Operation → List Value → Act
@@ -113,23 +113,23 @@ module _ (bits : ℕ) (object : Option ℕ) where
   act (operation.Piece size offset) values = on_top values (EndsPiece [] (sized_piece size offset Empty))
       (λ x rest. EndsPiece rest (sized_piece size offset (AtAddress (to_u64_of bits x))))
 
--- ---- what is done with an answer
+-- ---- answers
 
--- what an answer is used for
+-- how an answer is used
 pub data Use : Type 0 where
   -- a value is pushed on the rest of the stack
   PushesAnswer : (rest : List Value) (value : Value) → Use
-  -- a text is run in the call's place
+  -- the text is run in place of the call
   Calls : (text : Text) → Use
   FaultUse : (fault : Fault) → Use
 
--- the top becomes the result of a call on it
+-- the result of a call on the top replaces it
 abbrev pub turn_top : (Value → Result Value Error) → List Value → Use
 turn_top call values = on_top values (FaultUse NotEnoughStackItems)
     (λ x rest. on_result (call x) FaultUse (PushesAnswer rest))
 
 module _ (bits : ℕ) where
-  -- what an answer is used for, by what is done with it; the values are those on the stack
+  -- how an answer is used, by the request's `OnAnswer` and the values on the stack
   unfoldable pub use_of : OnAnswer → Answer → List Value → Use
   use_of (Add offset) (ValueAnswer kind x) values =
       on_result (binary_of Plus bits x (from_u64_of (type_of x) (residue 64 offset))) FaultUse (PushesAnswer values)

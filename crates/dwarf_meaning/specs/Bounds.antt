@@ -1,5 +1,5 @@
--- How much an evaluation keeps, and how often it decodes, against the operations that it counted (DWARF 5, section
--- 2.5).
+-- Bounds on what an evaluation keeps and how often it decodes, by the number of operations that it counted (DWARF 5,
+-- section 2.5).
 use Rattle.std.specs.Prelude.{ℕ, ◌+◌, ◌-◌, ◌*◌, ◌≤◌, ◌≡◌, Bool, true, false, ◌&&◌, IsTrue, List, [], ◌∷◌, Some, is_some, length, count_by}
 use Rattle.std.specs.List.{list_all}
 use Rattle.dwarf_meaning.specs.Locations.{Location, Empty, AtAddress, Piece}
@@ -24,16 +24,16 @@ abbrev pub answer_due : Status → ℕ
 answer_due (RequestStatus request on_answer) = 1
 answer_due _ = 0
 
--- how many callers there are, with one that is due
+-- how many callers there are, and one more if an answer is still to come
 abbrev pub caller_count : State → ℕ
 caller_count x = length x.callers + answer_due x.status
 
--- how many items the three lists hold together, with those that are due
+-- how many items the three lists hold together, and those that are still to come
 abbrev pub item_count : State → ℕ
 item_count x = caller_count x + length x.store.values + initial_due x.status
     + length x.store.pieces + length (waiting x.store.last x.status)
 
--- how often it decoded, with a piece that is due
+-- how often the evaluation decoded, and once more if a piece is still to come
 abbrev pub decoding_count : State → ℕ
 decoding_count x = x.decodings + length (waiting x.store.last x.status)
 
@@ -43,7 +43,7 @@ is_given Empty = false
 is_given (AtAddress address) = false
 is_given _ = true
 
--- how many of the pieces ended a location: a piece without a size is the whole variable
+-- how many pieces ended a location; the piece without a size, the whole variable, ended none
 abbrev pub endings : List Piece → ℕ
 endings pieces = count_by (λ (piece : Piece). is_some piece.size_in_bits && is_given piece.location) pieces
 
@@ -52,22 +52,23 @@ abbrev pub faults_in : Status → ℕ
 faults_in (FaultStatus error) = 1
 faults_in _ = 0
 
--- Each operation that was counted was decoded once, and so was each piece that ended a location; nothing else
--- was, but for what stands in the piece's place if that is a fault. An operation gave the location that waits.
+-- Each counted operation was decoded once, and so was each piece that ended a location. Nothing else was decoded,
+-- except an operation that stands in place of such a piece, which is a fault. A location that waits came from an
+-- operation.
 pub record DecodesOnce (x : State) : Type 0 where
   pub each : x.store.count + endings x.store.pieces ≤ x.decodings
   pub no_other : x.decodings ≤ x.store.count + endings x.store.pieces + faults_in x.status
   pub given : IsTrue (list_all is_given (waiting x.store.last x.status))
 
--- From the one state to the other each operation that was counted added one item at most, one caller at most, and two
--- decodings at most; `more` is how many items may be added beside those. What was decoded once still is.
+-- From the old state to the new one, each counted operation added at most one item, one caller and two decodings. Up to
+-- `more` items may have been added besides. If the old state decoded once, so did the new one.
 pub record Spends (more : ℕ) (old new : State) : Type 0 where
   pub items : item_count new + old.store.count ≤ item_count old + new.store.count + more
   pub callers : caller_count new + old.store.count ≤ caller_count old + new.store.count
   pub decodings : decoding_count new + 2 * old.store.count ≤ decoding_count old + 2 * new.store.count
   pub once : DecodesOnce old → DecodesOnce new
 
--- Nothing is counted, kept or decoded, and nothing is due.
+-- Nothing is counted, kept or decoded, and nothing is still to come.
 pub record IsUnspent (x : State) : Type 0 where
   pub items : item_count x ≡ 0
   pub callers : caller_count x ≡ 0
@@ -75,7 +76,8 @@ pub record IsUnspent (x : State) : Type 0 where
   pub count : x.store.count ≡ 0
   pub once : DecodesOnce x
 
--- Each request is asked by an operation that is counted, so this falls from one request to the next, and at the end.
+-- How many more resumes there may be, by the status. It falls with each request, as only counted operations ask, and at
+-- the end.
 abbrev pub calls_left_by : State → Status → ℕ
 calls_left_by x (CompleteStatus value) = 0
 calls_left_by x (FaultStatus error) = 0

@@ -8,7 +8,7 @@ use Rattle.dwarf_meaning.specs.Operands.{Context, as_text}
 use Rattle.dwarf_meaning.specs.Spelling.{Spells, Malformed}
 use Rattle.dwarf_meaning.specs.Splitting.{Splitting, Joined, items_of, items_at}
 
--- one front spells, and one operation, or the bytes are malformed by one fault, and never both
+-- either exactly one prefix spells an operation, and only one, or the bytes are malformed by exactly one fault
 pub record IsDecided (context : Context) (bytes : List ℕ) : Type 0 where
   pub either : ((op : Operation) × ((rest : List ℕ) × Begins (Spells context) bytes op rest))
       ⊎ ((fault : Fault) × Malformed context bytes fault)
@@ -22,13 +22,14 @@ pub record IsDecided (context : Context) (bytes : List ℕ) : Type 0 where
   pub one_fault : (first second : Fault)
       → Malformed context bytes first → Malformed context bytes second → first ≡ second
 
--- a list of bytes has one splitting
+-- a list of bytes has exactly one splitting
 pub record SplitsOnce (context : Context) (bytes : List ℕ) : Type 0 where
   pub some : (ops : List Operation) × ((fault : Option Fault) × Splitting context bytes ops fault)
   pub same : (ops others : List Operation) (fault other : Option Fault)
       → Splitting context bytes ops fault → Splitting context bytes others other → (ops ≡ others) × (fault ≡ other)
 
--- A splitting has no more items than bytes, is what is read item by item, and is the longest list of operations.
+-- A splitting has no more items than there are bytes. It is what is read item by item. No prefix of the bytes spells a
+-- longer list of operations.
 pub record IsSplitting (context : Context) (bytes : List ℕ) (ops : List Operation) (fault : Option Fault) : Type 0 where
   pub items : items_at context.encoding context.offset_bits (as_text context bytes) ≡ items_of ops fault
   pub few : length (items_of ops fault) ≤ length bytes
@@ -61,7 +62,7 @@ pub record IsNear (target : ℤ) : Type 0 where
   pub low : negsuc 32767 ≤ℤ target
   pub high : target <ℤ pos 32768
 
--- an operation that is no branch, or a near one
+-- the operation is no branch, or a near one
 abbrev pub BranchesNear : Operation → Type 0
 BranchesNear (Bra target) = IsNear target
 BranchesNear (Skip target) = IsNear target

@@ -8,7 +8,7 @@ use Rattle.dwarf_meaning.specs.Operations.{Operation}
 use Rattle.dwarf_meaning.specs.Operands.{Context, as_text, Layout, Range, Bytes, Leb128, operand_value}
 use Rattle.dwarf_meaning.specs.Opcodes.{Row, Makes, Unsigned, Signed, Block, Invalid, row_of}
 
--- An unsigned number in its layout. Only an address can have another size than 1, 2, 4 or 8 bytes: a fault.
+-- An unsigned number in its layout. Only an address can have a size other than 1, 2, 4 or 8 bytes, which is a fault.
 abbrev pub number_at : (big : Bool) → Layout → List ℕ → Result (ℕ × List ℕ) Fault
 number_at big (Bytes size) bytes = address_at big size bytes
 number_at big Leb128 bytes = uleb_at bytes
@@ -24,7 +24,7 @@ module _ (offset_bits : ℕ) (big : Bool) where
   unsigned_at (layout, range) bytes =
       number_at big layout bytes >>= λ x. operand_value offset_bits range x.0 >>= λ value. Ok (value, x.1)
 
-  -- a row's operands, in order, and what they make
+  -- the operands of a row, in order, and the operation that they make
   abbrev pub operands_at : Row → List ℕ → Result (Operation × List ℕ) Fault
   operands_at (Makes op) bytes = Ok (op, bytes)
   operands_at (Unsigned form next) bytes = unsigned_at form bytes >>= λ x. operands_at (next x.0) x.1
@@ -37,6 +37,6 @@ module _ (offset_bits : ℕ) (big : Bool) where
 unfoldable pub operation_at : Encoding → (offset_bits : ℕ) → Text → Result (Operation × List ℕ) Fault
 operation_at encoding bits text = u8_at text.bytes >>= λ x. operands_at bits text.is_big (row_of encoding x.0) x.1
 
--- the same of bytes in a context
+-- the same for bytes in a context
 abbrev pub operation_in : Context → List ℕ → Result (Operation × List ℕ) Fault
 operation_in context bytes = operation_at context.encoding context.offset_bits (as_text context bytes)

@@ -8,7 +8,7 @@ use Rattle.dwarf_meaning.specs.Meaning.{fresh_store}
 use Rattle.dwarf_meaning.specs.Rest.{State, Status, Start}
 use Rattle.dwarf_meaning.specs.Steps.{empty_log}
 
--- an evaluation of a text, with nothing set and nothing done
+-- a fresh evaluation of a text: nothing is set, and nothing is done
 abbrev pub fresh_state : Setup → Text → State
 fresh_state setup text = record {
   status = Start None;
@@ -20,7 +20,7 @@ fresh_state setup text = record {
   decodings = 0;
 }
 
--- an answer, with the settings as they stand
+-- an answer, with the current settings
 abbrev pub input_of : State → Answer → Input
 input_of x answer = record { settings = x.store.settings; answer = answer }
 
@@ -29,18 +29,18 @@ pub record Keeps (old new : State) : Type 0 where
   pub setup : new.setup ≡ old.setup
   pub settings : new.store.settings ≡ old.store.settings
 
--- the same state, but for the status
+-- the same state with this status
 abbrev pub with_status : Status → State → State
 with_status status x = record x { status = status }
 
--- the same state, with these settings in force
+-- the same state with these settings
 abbrev pub with_settings : Settings → State → State
 with_settings settings x = record x { store = record x.store { settings = settings } }
 
--- the same state, with this object address in force
+-- the same state with this object address
 abbrev pub with_object : Option ℕ → State → State
 with_object address x = with_settings (record x.store.settings { object_address = address }) x
 
--- the same state, with this maximum in force
+-- the same state with this maximum
 abbrev pub with_maximum : ℕ → State → State
 with_maximum maximum x = with_settings (record x.store.settings { maximum = maximum }) x

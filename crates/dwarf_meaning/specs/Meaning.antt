@@ -1,4 +1,4 @@
--- The meaning of an expression, for the settings and the answers of its caller (DWARF 5, sections 2.5, 2.6.1.1 and
+-- The meaning of an expression, given the settings and the answers of its caller (DWARF 5, sections 2.5, 2.6.1.1 and
 -- 2.6.1.2).
 use Rattle.std.specs.Prelude.{Bool, true, false, ℕ, List, [], ◌∷◌, Option, Some, None, Result, Ok, Err, if◌then◌else◌}
 use Rattle.dwarf_base.specs.Faults.{Fault}
@@ -16,17 +16,17 @@ use Rattle.dwarf_meaning.specs.Refusals.{Refusal}
 
 -- the outcome of an evaluation
 pub data Outcome : Type 0 where
-  -- a request, with the texts that are open, the innermost first, each at the place after what was begun last
+  -- a request, with the open texts, the innermost first, each at the place after the last operation begun in it
   RequestOutcome : Request → List Position → Outcome
   FaultOutcome : Fault → Outcome
   CompleteOutcome : List Piece → Option Value → Outcome
 
--- it asks nothing more
+-- the evaluation asks nothing more
 abbrev pub IsOver : Outcome → Type 0
 IsOver (RequestOutcome request positions) = ⊥
 IsOver _ = Unit {0}
 
--- completion with this value, if the last push found room
+-- completion with this value; a fault if the last push was refused
 abbrev pub completion_of : Option Value → Result Store Fault → Outcome
 completion_of value (Ok s) = CompleteOutcome s.pieces value
 completion_of value (Err fault) = FaultOutcome fault
@@ -49,7 +49,8 @@ module _ (setup : Setup) where
       on_top s.values (FaultOutcome NotEnoughStackItems) (λ x rest. completion_of (Some x)
       (push_piece setup (whole_piece (AtAddress (to_u64_of (address_bits setup) x))) (record s { values = rest })))
 
-  -- the end, by the last operation: a location is the whole variable; neither it nor a value may follow pieces
+  -- the end, by the last operation: a location describes the whole variable; after pieces neither a location nor a
+  -- value may be left
   abbrev pub finish_by : Store → Last → Outcome
   finish_by s (Located location) = if has_pieces s.pieces then FaultOutcome InvalidPiece
       else completion_of None (push_piece setup (whole_piece location) s)
@@ -61,7 +62,7 @@ module _ (setup : Setup) where
   abbrev pub finish : Store → Outcome
   finish s = finish_by s s.last
 
--- ---- the whole
+-- ---- the meaning
 
 -- the outcome, by how the outermost text ends
 abbrev pub outcome_of_end : Setup → End → Outcome
@@ -69,12 +70,12 @@ outcome_of_end setup (CompleteEnd s inputs) = finish setup s
 outcome_of_end setup (RequestEnd request positions inputs) = RequestOutcome request positions
 outcome_of_end setup (FaultEnd fault) = FaultOutcome fault
 
--- the initial value, if there is one, and the settings, when an evaluation starts
+-- the initial value, if there is one, and the settings at the start of an evaluation
 pub record First : Type 0 where
   pub initial_value : Option ℕ
   pub settings : Settings
 
--- what is kept at the start: nothing but the settings
+-- the store at the start: it has nothing but the settings
 abbrev pub fresh_store : First → Refusal → Store
 fresh_store first r =
     record { values = []; pieces = []; count = 0; settings = first.settings; last = Nothing; refusal = r }
@@ -84,12 +85,13 @@ abbrev pub with_initial : Setup → Option ℕ → Store → Result Store Fault
 with_initial setup None s = Ok s
 with_initial setup (Some number) s = push_value setup (Generic number) s
 
--- the run of a text from its beginning, by its settings and the inputs after them, if the initial value found room
+-- the run of a text from its beginning, given the first settings and the inputs; a fault if the push of the initial
+-- value is refused
 abbrev pub course_of : Setup → Refusal → Text → First → List Input → Course
 course_of setup refusal text first inputs =
     after_push (run setup) (record { text = text; place = 0 }) 0 inputs
     (with_initial setup first.initial_value (fresh_store first refusal))
 
--- the outcome of a text; its path and its requests are those of the course
+-- the outcome of a text
 unfoldable pub meaning : Setup → Refusal → Text → First → List Input → Outcome
 meaning setup refusal text first inputs = outcome_of_end setup (course_of setup refusal text first inputs).end

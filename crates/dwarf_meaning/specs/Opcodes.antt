@@ -40,7 +40,7 @@ one opcode row = record { has = λ n. n == opcode; row = λ n. row }
 abbrev pub both : (standard gnu : ℕ) → Row → Line
 both standard gnu row = record { has = λ n. n == standard || n == gnu; row = λ n. row }
 
--- opcodes from one to another, which differ by a number
+-- a range of opcodes; the row of each is made from its distance to the first
 abbrev pub range : (from to : ℕ) → (ℕ → Row) → Line
 range from to row = record { has = λ n. nat_le from n && nat_le n to; row = λ n. row (n - from) }
 
@@ -49,7 +49,7 @@ abbrev pub nullary : (from : ℕ) → List Operation → List Line
 nullary from [] = []
 nullary from (op ∷ ops) = one from (Makes op) ∷ nullary (from + 1) ops
 
--- the row of the line that has the opcode, or this one if none has
+-- the row of the line that has the opcode, or `none` if no line has it
 abbrev pub row_among : (none : Row) → (opcode : ℕ) → List Line → Row
 row_among none opcode [] = none
 row_among none opcode (line ∷ more) = if line.has opcode then line.row opcode else row_among none opcode more

@@ -7,13 +7,13 @@ use Rattle.dwarf_base.specs.Leb.{within_u32}
 use Rattle.dwarf_base.specs.Numbers.{offset_of, register_of}
 use Rattle.dwarf_base.specs.Reads.{offset_size, Text}
 
--- what an operation depends on besides its bytes
+-- what decoding depends on besides the bytes
 pub record Context : Type 0 where
   pub encoding : Encoding
   pub offset_bits : ℕ
   pub is_big : Bool
 
--- the three together
+-- the context with these three fields
 abbrev pub context_of : Encoding → (offset_bits : ℕ) → (is_big : Bool) → Context
 context_of encoding offset_bits is_big = record { encoding = encoding; offset_bits = offset_bits; is_big = is_big }
 

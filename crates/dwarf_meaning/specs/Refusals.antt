@@ -1,16 +1,16 @@
--- The limits of the lists, and which push is refused without one.
+-- The limits of the lists, and which push on a list without a limit is refused.
 use Rattle.std.specs.Prelude.{ℕ, zero, suc, ◌≡◌, ◌⊎◌, nat_lt, Option, None, Some, Result, Ok, Err, if◌then◌else◌}
 use Rattle.dwarf_base.specs.Faults.{Fault}
 use Rattle.dwarf_base.specs.declared.errors.Error.TheVariants.{StackFull}
 
--- how many items each list holds at most, if there is such a number
+-- the most items that each list holds, if it has a limit
 pub record Limits : Type 0 where
   pub values : Option ℕ
   pub callers : Option ℕ
   pub pieces : Option ℕ
 
--- Which push on a list without a limit is refused: none, or the one that comes after this many more inputs
--- were taken, and then after this many more of such pushes.
+-- Which push on a list without a limit is refused: none, or one that is still to come. `After inputs pushes` refuses
+-- the push that comes after this many more inputs, and then after this many more pushes on such lists.
 pub data Refusal : Type 0 where
   Never : Refusal
   After : (inputs pushes : ℕ) → Refusal
@@ -24,7 +24,7 @@ refusal_after_push (After zero zero) = Err StackFull
 refusal_after_push (After zero (suc pushes)) = Ok (After zero pushes)
 refusal_after_push (After (suc inputs) pushes) = Ok (After (suc inputs) pushes)
 
--- the refusal after a push on a list with this limit, of n items
+-- the refusal after a push on a list of n items with this limit
 abbrev pub push_with_room : Option ℕ → (n : ℕ) → Refusal → Result Refusal Fault
 push_with_room None n refusal = refusal_after_push refusal
 push_with_room (Some limit) n refusal = if nat_lt n limit then Ok refusal else Err StackFull
@@ -41,17 +41,17 @@ refusal_after_input (After (suc inputs) pushes) = After inputs pushes
 abbrev pub HasFreeList : Limits → Type 0
 HasFreeList limits = (limits.values ≡ None) ⊎ (limits.callers ≡ None) ⊎ (limits.pieces ≡ None)
 
--- only a push on a list without a limit may be refused before a limit is met
+-- a refusal other than `Never` needs a list without a limit
 abbrev pub MayPick : Limits → Refusal → Type 0
 MayPick limits Never = Unit {0}
 MayPick limits (After inputs pushes) = HasFreeList limits
 
--- the refusal before an input is taken
+-- the refusal as it was one input before
 abbrev pub before_input : Refusal → Refusal
 before_input Never = Never
 before_input (After inputs pushes) = After (suc inputs) pushes
 
--- the refusal, this many inputs before
+-- the refusal as it was this many inputs before
 abbrev pub before_inputs : ℕ → Refusal → Refusal
 before_inputs zero refusal = refusal
 before_inputs (suc n) refusal = before_inputs n (before_input refusal)

@@ -27,7 +27,7 @@ pub data OnAnswer : Type 0 where
   Add : (offset : ℤ) → OnAnswer
   -- these bytes are pushed as a value of the type
   Parse : (literal : Text) → OnAnswer
-  -- the top becomes a value of the type: by its number, or by its bits
+  -- the top is converted to the type: by its number, or by its bits
   Convert Reinterpret : OnAnswer
 
 -- an answer: a value or a number of the kind that was asked for, a text, or a type
@@ -37,7 +37,7 @@ pub data Answer : Type 0 where
   LocationAnswer : (text : Text) → Answer
   BaseTypeAnswer : (value_type : ValueType) → Answer
 
--- the settings in force: the address of the object that is described, if one is known, and the maximum of operations
+-- the settings in force: the address of the described object, if it is known, and the maximum of operations
 pub record Settings : Type 0 where
   pub object_address : Option ℕ
   pub maximum : ℕ

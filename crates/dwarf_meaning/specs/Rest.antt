@@ -1,4 +1,4 @@
--- What is left to do of an evaluation that has come to some state (DWARF 5, sections 2.5 and 2.5.1.5).
+-- The rest of an evaluation, from any state on (DWARF 5, sections 2.5 and 2.5.1.5).
 use Rattle.std.specs.Prelude.{ℕ, ◌+◌, List, [], ◌∷◌, Option, length}
 use Rattle.dwarf_base.specs.declared.errors.Error.{Error}
 use Rattle.dwarf_base.specs.Faults.{fault_of}
@@ -31,26 +31,27 @@ pub record State : Type 0 where
   -- how often an operation was decoded; nothing depends on it
   pub decodings : ℕ
 
--- the same store, with this refusal to come
+-- the same store with this refusal
 abbrev pub with_refusal : Refusal → Store → Store
 with_refusal refusal s = record s { refusal = refusal }
 
--- the outcome of an evaluation, and how many operations are counted by then
+-- the outcome of an evaluation, and how many operations it counts in all
 pub record Total : Type 0 where
   pub outcome : Outcome
   pub count : ℕ
 
--- the total of a course and of the rest of its callers, if n operations were counted before
+-- the total of a course and the rest of its callers, if n operations were counted before
 abbrev pub total_of_course : (n : ℕ) → Setup → (callers : List Position) → Course → Total
 total_of_course n setup callers course =
     let whole = return_to_callers setup callers course in
     record { outcome = outcome_of_end setup whole.end; count = n + length whole.path }
 
--- the settings as they stand when the evaluation starts
+-- the settings at the start of the evaluation
 abbrev pub first_of : State → Option ℕ → First
 first_of x initial_value = record { initial_value = initial_value; settings = x.store.settings }
 
--- the total, by the status: at the start that of the meaning; else the run goes on, or takes the first input
+-- the total, by the status: at the start it is that of the meaning; a running evaluation goes on; one in a request
+-- takes the first input; one that is over stays as it is
 abbrev pub total_by : State → Store → List Input → Status → Total
 total_by x s inputs (Start initial_value) =
     total_of_course x.store.count x.setup [] (course_of x.setup s.refusal x.text (first_of x initial_value) inputs)
@@ -63,10 +64,10 @@ total_by x s inputs (RequestStatus request on_answer) =
 total_by x s inputs (CompleteStatus value) = record { outcome = CompleteOutcome s.pieces value; count = x.store.count }
 total_by x s inputs (FaultStatus error) = record { outcome = FaultOutcome (fault_of error); count = x.store.count }
 
--- the total of a state with these inputs, if this push is refused
+-- the total of a state, given the refusal and the inputs
 unfoldable pub total : State → Refusal → List Input → Total
 total x refusal inputs = total_by x (with_refusal refusal x.store) inputs x.status
 
--- the total of a state and its next input
+-- the total of a state that takes this input before the others
 abbrev pub total_after : State → Input → Refusal → List Input → Total
 total_after x input refusal inputs = total x (before_input refusal) (input ∷ inputs)

@@ -1,4 +1,4 @@
--- Words that shorten the worked rows: expressions whose meaning is computed (DWARF 5, sections 2.5 and 2.6).
+-- Abbreviations for the worked rows, in which the meaning of expressions is computed (DWARF 5, sections 2.5 and 2.6).
 use Rattle.std.specs.Prelude.{ℕ, false, List, [], ◌∷◌, Some, None}
 use Rattle.dwarf_base.specs.declared.common.Format.TheVariants.{Dwarf32}
 use Rattle.dwarf_base.specs.Reads.{Text}
@@ -40,7 +40,7 @@ abbrev pub inputs_of : First → List Answer → List Input
 inputs_of first [] = []
 inputs_of first (answer ∷ answers) = record { settings = first.settings; answer = answer } ∷ inputs_of first answers
 
--- the answer of a called text's bytes
+-- an answer to a call: the text with these bytes
 abbrev pub callee : List ℕ → Answer
 callee bytes = LocationAnswer (text bytes)
 
@@ -52,7 +52,7 @@ open_at bytes place = record { text = text bytes; place = place }
 abbrev pub word_at : Location → Piece
 word_at location = sized_piece 32 None location
 
--- a generic value, and the whole variable at this address
+-- completion with a generic value, and one piece: the whole variable at this address
 abbrev pub value_at : (number address : ℕ) → Outcome
 value_at number address = CompleteOutcome (whole_piece (AtAddress address) ∷ []) (Some (Generic number))
 

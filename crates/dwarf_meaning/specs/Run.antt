@@ -1,4 +1,4 @@
--- A run of an expression, in which a called expression is run in its call's place (DWARF 5, section 2.5).
+-- A run of an expression. A called expression is run in place of its call (DWARF 5, section 2.5).
 use Rattle.std.specs.Prelude.{Bool, ℕ, zero, suc, ◌+◌, ◌-◌, ◌*◌, List, [], ◌∷◌, ◌++◌, Result, Ok, Err, length, drop, nat_lt, ◌&&◌, ◌==◌, if◌then◌else◌}
 use Rattle.dwarf_base.specs.Faults.{Fault}
 use Rattle.dwarf_base.specs.declared.errors.Error.TheVariants.{InvalidExpressionTerminator, TooManyIterations}
@@ -18,14 +18,14 @@ pub record Position : Type 0 where
   pub text : Text
   pub place : ℕ
 
--- How a run ends: at the end of its text, with what it kept and the inputs that are left; in a request, with
--- the texts that are open, the innermost first, and the inputs that are left; or in a fault.
+-- How a run ends: at the end of its text, with the store and the inputs that are left; in a request, with the open
+-- texts, the innermost first, and the inputs that are left; or in a fault.
 pub data End : Type 0 where
   CompleteEnd : Store → List Input → End
   RequestEnd : Request → List Position → List Input → End
   FaultEnd : Fault → End
 
--- A run: where the operations stand that were counted, what was asked, and how it ends.
+-- A run: the positions of the counted operations, the requests, and the end.
 pub record Course : Type 0 where
   pub path : List Position
   pub requests : List Request
@@ -35,15 +35,15 @@ pub record Course : Type 0 where
 abbrev pub only_end : End → Course
 only_end end = record { path = []; requests = []; end = end }
 
--- these positions and requests, and then the course
+-- the course, with these positions and requests before its own
 abbrev pub prepend : List Position → List Request → Course → Course
 prepend path requests course = record course { path = path ++ course.path; requests = requests ++ course.requests }
 
--- how a run goes on: in a text, at a place, at a depth of calls, with what is kept and the inputs to come
+-- the rest of a run, from a place of a text and a depth of calls, given the store and the inputs to come
 abbrev pub Continues : Type 0
 Continues = (text : Text) (place depth : ℕ) → Store → List Input → Course
 
--- what is kept once an input is taken
+-- the store after an input is taken
 abbrev pub with_input : Input → Store → Store
 with_input input s = record s { settings = input.settings; refusal = refusal_after_input s.refusal }
 
@@ -52,7 +52,7 @@ abbrev pub read : Setup → Text → (place : ℕ) → Result (Operation × List
 read setup text place =
     operation_at setup.encoding setup.offset_bits (record { bytes = drop place text.bytes; is_big = text.is_big })
 
--- the maximum that holds if none is set; no run counts more
+-- the maximum if none is set; no run counts more
 unfoldable pub most_operations : ℕ
 most_operations = 4294967295
 
@@ -64,18 +64,18 @@ can_count s = nat_lt s.count s.settings.maximum && nat_lt s.count most_operation
 abbrev pub count_one : Store → Store
 count_one s = record s { count = s.count + 1 }
 
--- what an operation that is counted does; `place` is the one after it
+-- what a counted operation does; `place` is the place after it
 abbrev pub counted_act : Setup → Store → (place : ℕ) → Operation → Act
 counted_act setup s place op = act (address_bits setup) s.settings.object_address op s.values
 
--- what the operation after a location does: it ends the piece there, and none else may follow
+-- what the operation after a location does: a piece ends the location there, and any other operation is a fault
 abbrev pub located_act : Location → Store → (place : ℕ) → Operation → Act
 located_act location s place (operation.Piece size offset) = EndsPiece s.values (sized_piece size offset location)
 located_act location s place _ = FaultAct (InvalidExpressionTerminator (place - 1))
 
 module _ (go : Continues) where
   module _ (position : Position) (depth : ℕ) where
-    -- the caller's rest, after its callee's course
+    -- the callee's course, and then the rest of the caller
     abbrev pub return_to_caller : Course → End → Course
     return_to_caller course (CompleteEnd s inputs) = prepend course.path course.requests
         (go position.text position.place depth s inputs)
@@ -83,12 +83,12 @@ module _ (go : Continues) where
         record course { end = RequestEnd request (positions ++ position ∷ []) inputs }
     return_to_caller course (FaultEnd fault) = record course { end = FaultEnd fault }
 
-    -- on from the position, if the push found room
+    -- the run goes on at the position; a refused push is a fault
     abbrev pub after_push : List Input → Result Store Fault → Course
     after_push inputs (Ok s) = go position.text position.place depth s inputs
     after_push inputs (Err fault) = only_end (FaultEnd fault)
 
-    -- a callee is run from its beginning, if its caller found room, and then the caller's rest
+    -- the callee is run from its beginning, and then the rest of the caller; a refused push of the caller is a fault
     abbrev pub enter_callee : Text → List Input → Result Store Fault → Course
     enter_callee callee inputs (Ok s) =
         let course = go callee 0 (suc depth) s inputs in return_to_caller course course.end
@@ -96,12 +96,12 @@ module _ (go : Continues) where
 
   module _ (setup : Setup) where
     module _ (position : Position) (depth : ℕ) where
-      -- a call goes on at once if it was answered by no bytes
+      -- the answer to a call is run; if it has no bytes, the run goes on after the call at once
       abbrev pub run_callee : Text → List ℕ → Store → List Input → Course
       run_callee callee [] s inputs = go position.text position.place depth (record s { last = Called }) inputs
       run_callee callee (byte ∷ bytes) s inputs = enter_callee position depth callee inputs (push_caller setup depth s)
 
-      -- what an answer is used for
+      -- the run goes on, and uses an answer
       abbrev pub after_answer : Use → Store → List Input → Course
       after_answer (PushesAnswer rest value) s inputs =
           after_push position depth inputs (push_value setup value (record s { values = rest; last = Pushed }))
@@ -117,7 +117,7 @@ module _ (go : Continues) where
           else only_end (RequestEnd request (position ∷ []) (input ∷ inputs))
 
     module _ (text : Text) where
-      -- on at the place that an operation led to, or by the answer to its request
+      -- the run goes on at the place to which an operation led, or with the answer to its request
       abbrev pub after_operation : (depth place : ℕ) → List Input → Next → Course
       after_operation depth place inputs (Goes to s) = go text to depth s inputs
       after_operation depth place inputs (RequestNext request on_answer s) =
@@ -125,7 +125,7 @@ module _ (go : Continues) where
           (await_answer (record { text = text; place = place }) depth request on_answer s inputs)
       after_operation depth place inputs (FaultNext fault) = only_end (FaultEnd fault)
 
-      -- the operation that was read is done
+      -- does the operation that was read
       abbrev pub do_operation : (depth : ℕ) → Store → List Input → (ℕ → Operation → Act)
           → Result (Operation × List ℕ) Fault → Course
       do_operation depth s inputs act_at (Ok x) =
@@ -133,7 +133,7 @@ module _ (go : Continues) where
           after_operation depth place inputs (do_act setup place (length text.bytes) (act_at place x.0) s)
       do_operation depth s inputs act_at (Err fault) = only_end (FaultEnd fault)
 
-      -- one more operation is counted, and done
+      -- counts one more operation, and does it
       abbrev pub turn_counted : (place depth : ℕ) → Store → List Input → Course
       turn_counted place depth s inputs =
           if can_count s
@@ -141,7 +141,7 @@ module _ (go : Continues) where
           (do_operation depth (count_one s) inputs (counted_act setup s) (read setup text place))
           else only_end (FaultEnd TooManyIterations)
 
-      -- a turn by the last operation: after a location, with nothing counted, or one that is counted
+      -- a turn, by the last operation: after a location nothing is counted
       abbrev pub turn_by : (place depth : ℕ) → Store → List Input → Last → Course
       turn_by place depth s inputs (Located location) =
           do_operation depth s inputs (located_act location s) (read setup text place)
@@ -161,7 +161,7 @@ unfoldable pub run_for : (turns : ℕ) → Setup → Continues
 run_for zero setup = turn out_of_turns setup
 run_for (suc turns) setup = turn (run_for turns setup) setup
 
--- Turns enough for every run, as each turn counts an operation or reads the one piece after a counted location.
+-- Enough turns for every run: each turn counts an operation, or reads the one piece after a counted location.
 unfoldable pub enough_turns : ℕ
 enough_turns = 2 * most_operations + 1
 
@@ -169,7 +169,7 @@ enough_turns = 2 * most_operations + 1
 abbrev pub run : Setup → Continues
 run setup = run_for enough_turns setup
 
--- a course, and then the rest of its callers, inside out
+-- a course, and then the rest of its callers, the innermost first
 abbrev pub return_to_callers : Setup → (callers : List Position) → Course → Course
 return_to_callers setup [] course = course
 return_to_callers setup (caller ∷ callers) course =

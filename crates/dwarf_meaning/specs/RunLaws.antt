@@ -14,13 +14,13 @@ abbrev pub waits_of : Last → ℕ
 waits_of (Located location) = 1
 waits_of _ = 0
 
--- how many more turns there can be that read an operation
+-- how many more turns can read an operation
 abbrev pub turns_left : Store → ℕ
 turns_left s = 2 * (most_operations - s.count) + waits_of s.last
 
 -- ---- inputs
 
--- it doesn't wait for an input that is still to come
+-- the run doesn't wait for another input
 abbrev pub IsSettled : End → Type 0
 IsSettled (RequestEnd request positions []) = ⊥
 IsSettled _ = Unit {0}
@@ -47,7 +47,7 @@ pub record IsAskedLast (inputs left : List Input) (request : Request) (requests 
   pub last : requests ≡ answered ++ request ∷ []
   pub took : Took inputs left answered
 
--- each request took one input, but the one that is open
+-- each request took one input, except the request that is open
 abbrev pub EndTook : List Input → List Request → End → Type 0
 EndTook inputs requests (CompleteEnd s left) = Took inputs left requests
 EndTook inputs requests (RequestEnd request positions left) = IsAskedLast inputs left request requests
@@ -59,12 +59,12 @@ EndTook inputs requests (FaultEnd fault) = length requests ≤ length inputs
 abbrev pub MaximaWithin : (bound : ℕ) → List Input → Type 0
 MaximaWithin bound inputs = All (λ (input : Input). input.settings.maximum ≤ bound) inputs
 
--- if it ends at the end of the text, P holds of what is kept there
+-- P holds of the store, if the run ends at the end of its text
 abbrev pub AtEnd : (Store → Type 0) → End → Type 0
 AtEnd P (CompleteEnd s left) = P s
 AtEnd P _ = Unit {0}
 
--- If `start` operations were counted before, no more are counted in all than the bound.
+-- If `start` operations were counted before, at most `bound` are counted in all.
 pub record CountsWithin (bound start : ℕ) (course : Course) : Type 0 where
   pub few : length course.path ≤ bound - start
   pub count : AtEnd (λ s. s.count ≤ bound) course.end
@@ -76,8 +76,8 @@ pub record ListsWithin (limits : Limits) (s : Store) : Type 0 where
   pub values : IsWithin limits.values (length s.values)
   pub pieces : IsWithin limits.pieces (length s.pieces)
 
--- the texts that are open in a run of a text at a depth of calls: callees, within the limit of callers, and one more,
--- the text itself
+-- the open texts of a run of a text, at a depth of calls: callees, within the limit of callers, and then the text
+-- itself
 pub record OpenTexts (limit : Option ℕ) (text : Text) (depth : ℕ) (positions : List Position) : Type 0 where
   pub callees : List Position
   pub place : ℕ
@@ -85,7 +85,7 @@ pub record OpenTexts (limit : Option ℕ) (text : Text) (depth : ℕ) (positions
   pub one_more : length positions ≡ length callees + 1
   pub within : IsWithin limit (depth + length callees)
 
--- at the end of the text its lists are within the limits, and in a request the open texts are
+-- the lists are within their limits at the end of the text, and the open texts are in a request
 abbrev pub EndWithin : Limits → Text → (depth : ℕ) → End → Type 0
 EndWithin limits text depth (CompleteEnd s left) = ListsWithin limits s
 EndWithin limits text depth (RequestEnd request positions left) = OpenTexts limits.callers text depth positions
@@ -97,26 +97,26 @@ OutcomeWithin limits text (RequestOutcome request positions) = OpenTexts limits.
 OutcomeWithin limits text (FaultOutcome fault) = Unit {0}
 OutcomeWithin limits text (CompleteOutcome pieces value) = IsWithin limits.pieces (length pieces)
 
--- the outermost text, with a text's callers, the innermost first
+-- the outermost text: that of the last caller, or the text itself if there is none
 abbrev pub outermost : Text → (callers : List Position) → Text
 outermost text [] = text
 outermost text (caller ∷ callers) = outermost caller.text callers
 
 -- ---- calls
 
--- a text that is run in a call's place, which answers the call with some bytes
+-- a text of at least one byte that answers a call, and so is run in its place
 pub record IsCallee (inputs : List Input) (text : Text) : Type 0 where
   pub answered : Any (λ (input : Input). input.answer ≡ LocationAnswer text) inputs
   pub some_bytes : 0 < length text.bytes
 
--- the texts that are open in a run of a text: the text alone, or those that are open in its callee and then the text
+-- the open texts of a run of a text: the text alone, or the open texts of its callee and then the text
 pub data Open (inputs : List Input) : Text → List Position → Type 0 where
   alone : (position : Position) → Open inputs position.text (position ∷ [])
   calling : (position : Position) (callee : Text) (positions : List Position) → IsCallee inputs callee
       → Open inputs callee positions
       → Open inputs position.text (positions ++ position ∷ [])
 
--- in a request that comes of a text the open texts are the text and callees
+-- if the evaluation of a text is in a request, the open texts are the text and callees
 abbrev pub OutcomeOpen : List Input → Text → Outcome → Type 0
 OutcomeOpen inputs text (RequestOutcome request positions) = Open inputs text positions
 OutcomeOpen inputs text _ = Unit {0}

@@ -17,7 +17,7 @@ pub data SpellsNumber (big : Bool) : Layout → List ℕ → ℕ → Type 0 wher
   in_leb128 : (bytes : List ℕ) (number : ℕ) → SpellsLeb unsigned_leb bytes number
       → SpellsNumber big Leb128 bytes number
 
--- no front of the bytes spells an unsigned number, for this fault
+-- no prefix of the bytes spells an unsigned number, for this fault
 pub data MalformedNumber : Layout → List ℕ → Fault → Type 0 where
   few_bytes : (size : ℕ) (bytes : List ℕ) → is_fixed_size size ≡ true → length bytes < size
       → MalformedNumber (Bytes size) bytes past_the_end
@@ -33,7 +33,7 @@ pub data SpellsInteger (big : Bool) : Layout → List ℕ → ℤ → Type 0 whe
   in_signed_leb128 : (bytes : List ℕ) (number : ℤ) → SpellsLeb signed_leb bytes number
       → SpellsInteger big Leb128 bytes number
 
--- no front of the bytes spells a signed number, for this fault
+-- no prefix of the bytes spells a signed number, for this fault
 pub data MalformedInteger : Layout → List ℕ → Fault → Type 0 where
   few_signed_bytes : (size : ℕ) (bytes : List ℕ) → length bytes < size
       → MalformedInteger (Bytes size) bytes past_the_end
@@ -46,7 +46,7 @@ pub data SpellsUnsigned (context : Context) (form : Layout × Range) : List ℕ 
       → SpellsNumber context.is_big form.0 bytes number → operand_value context.offset_bits form.1 number ≡ Ok value
       → SpellsUnsigned context form bytes value
 
--- no front of the bytes spells a number, or one does that is out of the operand's range
+-- no prefix of the bytes spells a number, or it spells one that is out of the operand's range
 pub data MalformedUnsigned (context : Context) (form : Layout × Range) : List ℕ → Fault → Type 0 where
   no_number : (bytes : List ℕ) (fault : Fault) → MalformedNumber form.0 bytes fault
       → MalformedUnsigned context form bytes fault
@@ -54,7 +54,7 @@ pub data MalformedUnsigned (context : Context) (form : Layout × Range) : List �
       → SpellsNumber context.is_big form.0 front number → operand_value context.offset_bits form.1 number ≡ Err fault
       → MalformedUnsigned context form (front ++ rest) fault
 
--- the bytes are the spellings of a row's operands, joined in order, which make the operation
+-- the bytes spell the operands of a row, one after another, and those make the operation
 pub data SpellsOperands (context : Context) : Row → List ℕ → Operation → Type 0 where
   makes : (op : Operation) → SpellsOperands context (Makes op) [] op
   unsigned : (form : Layout × Range) (next : ℕ → Row) (front rest : List ℕ) (value : ℕ) (op : Operation)
@@ -67,7 +67,7 @@ pub data SpellsOperands (context : Context) : Row → List ℕ → Operation →
       → SpellsOperands context (next (as_text context front)) rest op
       → SpellsOperands context (Block (length front) next) (front ++ rest) op
 
--- The first of a row's operands that isn't allowed has this fault: those before it are spelled, and it is malformed.
+-- The first malformed operand of a row has this fault; those before it are spelled.
 pub data MalformedOperands (context : Context) : Row → List ℕ → Fault → Type 0 where
   invalid : (opcode : ℕ) (bytes : List ℕ) → MalformedOperands context (Invalid opcode) bytes (invalid_expression opcode)
   unsigned_here : (form : Layout × Range) (next : ℕ → Row) (bytes : List ℕ) (fault : Fault)
@@ -86,12 +86,12 @@ pub data MalformedOperands (context : Context) : Row → List ℕ → Fault → 
       → MalformedOperands context (next (as_text context front)) rest fault
       → MalformedOperands context (Block (length front) next) (front ++ rest) fault
 
--- the bytes are an opcode and the spellings of its operands, and the operation is the one of its row
+-- the bytes are an opcode and the operands of its row, and these make the operation
 pub data Spells (context : Context) : List ℕ → Operation → Type 0 where
   spelled : (opcode : ℕ) (operands : List ℕ) (op : Operation)
       → SpellsOperands context (row_of context.encoding opcode) operands op → Spells context (opcode ∷ operands) op
 
--- no front of the bytes spells an operation, for this fault
+-- no prefix of the bytes spells an operation, for this fault
 pub data Malformed (context : Context) : List ℕ → Fault → Type 0 where
   no_opcode : Malformed context [] past_the_end
   bad_operands : (opcode : ℕ) (bytes : List ℕ) (fault : Fault)

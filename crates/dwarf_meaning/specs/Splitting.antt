@@ -8,7 +8,8 @@ use Rattle.dwarf_meaning.specs.Operands.{Context, context_of}
 use Rattle.dwarf_meaning.specs.Decoding.{operation_in}
 use Rattle.dwarf_meaning.specs.Spelling.{Spells, Malformed}
 
--- Operations whose spellings, joined, are the bytes; or, with a fault, a front of them, after which they are malformed.
+-- The operations that the bytes spell, one after another. If there is a fault, a prefix spells them, and the bytes
+-- after it are malformed.
 pub data Splitting (context : Context) : List ℕ → List Operation → Option Fault → Type 0 where
   ends : Splitting context [] [] None
   faults : (byte : ℕ) (bytes : List ℕ) (fault : Fault) → Malformed context (byte ∷ bytes) fault
@@ -16,7 +17,7 @@ pub data Splitting (context : Context) : List ℕ → List Operation → Option 
   goes_on : (front rest : List ℕ) (op : Operation) (ops : List Operation) (fault : Option Fault)
       → Spells context front op → Splitting context rest ops fault → Splitting context (front ++ rest) (op ∷ ops) fault
 
--- spellings of the operations, joined
+-- the bytes spell the operations, one after another
 pub data Joined (context : Context) : List ℕ → List Operation → Type 0 where
   none : Joined context [] []
   one_more : (front rest : List ℕ) (op : Operation) (ops : List Operation)
@@ -28,20 +29,20 @@ items_of [] None = []
 items_of [] (Some fault) = Err fault ∷ []
 items_of (op ∷ ops) fault = Ok op ∷ items_of ops fault
 
--- what is read at the front, and then what is read after it
+-- the item that is read at the front, and then the items after it
 abbrev pub item_then : Result (Operation × List ℕ) Fault → (List ℕ → List (Result Operation Fault))
     → List (Result Operation Fault)
 item_then (Ok x) items = Ok x.0 ∷ items x.1
 item_then (Err fault) items = Err fault ∷ []
 
--- the same items as they are read, up to this many
+-- the items as they are read, up to this many
 abbrev pub items_within : (most : ℕ) → Context → List ℕ → List (Result Operation Fault)
 items_within zero context bytes = []
 items_within (suc most) context [] = []
 items_within (suc most) context (byte ∷ bytes) =
     item_then (operation_in context (byte ∷ bytes)) (items_within most context)
 
--- all of them: no more than there are bytes
+-- all items; there are no more than there are bytes
 unfoldable pub items_at : Encoding → (offset_bits : ℕ) → Text → List (Result Operation Fault)
 items_at encoding offset_bits text =
     items_within (length text.bytes) (context_of encoding offset_bits text.is_big) text.bytes

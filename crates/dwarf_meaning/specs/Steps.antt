@@ -17,7 +17,7 @@ pub data Step : Type 0 where
   Evaluate : Step
   Resume : (answer : Answer) → Step
 
--- The log of an evaluation: what is set now, what was set at the start, if there was one, and the inputs since.
+-- The log of an evaluation: the current settings, the settings at the start, if it was started, and the inputs since.
 pub record Log : Type 0 where
   pub now : First
   pub first : Option First
@@ -31,7 +31,7 @@ empty_log = record {
   inputs = [];
 }
 
--- the outcome by a log, once it was started
+-- the outcome that a log leads to, if the evaluation was started
 abbrev pub outcome_of : Setup → Refusal → Text → Log → Option Outcome
 outcome_of setup refusal text log = option_map (λ first. meaning setup refusal text first log.inputs) log.first
 
@@ -53,13 +53,13 @@ Allows log outcome (Resume answer) = Awaits answer outcome
 
 -- ---- the log after a step
 
--- the inputs after an answer, which comes with the settings that hold now; after a fault it isn't added
+-- the inputs and one more: the answer, with the current settings; after a fault it isn't added
 abbrev pub inputs_after : First → List Input → Answer → Option Outcome → List Input
 inputs_after now inputs answer (Some (RequestOutcome request positions)) =
     inputs ++ record { settings = now.settings; answer = answer } ∷ []
 inputs_after now inputs answer _ = inputs
 
--- the log once a step is done; the settings at the start are those of the first start
+-- the log after a step; the settings at the start are those of the first start
 abbrev pub after : Log → Option Outcome → Step → Log
 after log outcome (InitialValue number) = record log { now = record log.now { initial_value = Some number } }
 after log outcome (ObjectAddress address) =
@@ -69,9 +69,9 @@ after log outcome (MaxIterations maximum) =
 after log outcome Evaluate = record log { first = Some (unwrap_or log.first log.now) }
 after log outcome (Resume answer) = record log { inputs = inputs_after log.now log.inputs answer outcome }
 
--- ---- what the steps reply
+-- ---- the replies
 
--- what a call replies: it is complete, it requests something, or it met a fault
+-- the reply of a call: completion, a request or a fault
 pub data Reply : Type 0 where
   CompleteReply : Reply
   RequestReply : Request → Reply
@@ -83,41 +83,41 @@ reply (RequestOutcome request positions) = RequestReply request
 reply (CompleteOutcome pieces value) = CompleteReply
 reply (FaultOutcome fault) = FaultReply fault
 
--- the reply, if it was started
+-- the reply, if the evaluation was started
 abbrev pub replies : Option Outcome → List Reply
 replies None = []
 replies (Some outcome) = reply outcome ∷ []
 
--- a setting has no reply; `outcome` is that by the log, the step included
+-- the replies of a step: a setting has none; `outcome` is the outcome after the step
 abbrev pub step_replies : Step → Option Outcome → List Reply
 step_replies Evaluate outcome = replies outcome
 step_replies (Resume answer) outcome = replies outcome
 step_replies _ outcome = []
 
 module _ (setup : Setup) (refusal : Refusal) (text : Text) where
-  -- the log once a step is done, by the outcome of the steps before
+  -- the log after a step; the outcome of the steps before decides
   abbrev pub after_step : Log → Step → Log
   after_step log step = after log (outcome_of setup refusal text log) step
 
-  -- the log once these steps are done
+  -- the log after these steps
   abbrev pub after_steps : Log → List Step → Log
   after_steps log [] = log
   after_steps log (step ∷ steps) = after_steps (after_step log step) steps
 
-  -- each step is allowed when it comes
+  -- each step is allowed in its turn
   abbrev pub AllAllowed : Log → List Step → Type 0
   AllAllowed log [] = Unit {0}
   AllAllowed log (step ∷ steps) =
       Allows log (outcome_of setup refusal text log) step × AllAllowed (after_step log step) steps
 
-  -- the replies to the steps, one after another: each by the outcome of the log up to it
+  -- the replies to the steps, each by the outcome of the log up to it
   abbrev pub replies_of : Log → List Step → List Reply
   replies_of log [] = []
   replies_of log (step ∷ steps) =
       let log_now = after_step log step
       in step_replies step (outcome_of setup refusal text log_now) ++ replies_of log_now steps
 
--- With this refusal each step is allowed when it comes, the replies are theirs, and this is the log after them.
+-- With this refusal each step is allowed in its turn, `given` are the replies, and `now` is the log after the steps.
 pub record AreDone (setup : Setup) (refusal : Refusal) (text : Text) (log : Log) (steps : List Step)
     (given : List Reply) (now : Log) : Type 0 where
   pub allowed : AllAllowed setup refusal text log steps

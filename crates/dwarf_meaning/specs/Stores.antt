@@ -1,5 +1,5 @@
--- What a run keeps beside texts and places, and the rule by which its lists take one more item (DWARF 5, sections
--- 2.5.1, 2.5.1.5 and 2.6.1.2).
+-- What a run keeps besides texts and places, and when its lists take one more item (DWARF 5, sections 2.5.1, 2.5.1.5
+-- and 2.6.1.2).
 use Rattle.std.specs.Prelude.{ℕ, ◌*◌, ◌≤◌, ℤ, pos, ◌+ℤ◌, List, [], ◌∷◌, ◌++◌, Option, Some, None, Result, Ok, Err, length, nat_lt, if◌then◌else◌}
 use Rattle.dwarf_base.specs.declared.common.Encoding.{Encoding}
 use Rattle.dwarf_base.specs.Faults.{Fault, ◌>>=◌}
@@ -22,7 +22,7 @@ pub record Setup : Type 0 where
   pub offset_bits : ℕ
   pub limits : Limits
 
--- the setup: an encoding, the bits of an offset, and a limit for each list
+-- the setup with this encoding, the bits of an offset, and a limit for each list
 abbrev pub setup_of : Encoding → ℕ → Option ℕ → Option ℕ → Option ℕ → Setup
 setup_of encoding offset_bits values callers pieces = record {
   encoding = encoding;
@@ -34,9 +34,9 @@ setup_of encoding offset_bits values callers pieces = record {
 abbrev pub address_bits : Setup → ℕ
 address_bits setup = 8 * setup.encoding.address_size
 
--- Of what sort the last operation was: there is none yet; it was plain, that is, it asked nothing, gave no location and
--- ended no piece; it ended a piece; its answer was pushed; it is a call that was answered by an empty text; or its
--- location waits for a piece.
+-- The kind of the last operation. `Nothing`: there is none yet. `Plain`: it asked nothing, gave no location and ended
+-- no piece. `Pieced`: it ended a piece. `Pushed`: its answer was pushed. `Called`: it is a call that was answered by an
+-- empty text. `Located`: its location waits for a piece.
 pub data Last : Type 0 where
   Nothing Plain Pieced Pushed Called : Last
   Located : (location : Location) → Last
@@ -66,7 +66,7 @@ module _ (setup : Setup) where
   push_piece piece s = push_with_room setup.limits.pieces (length s.pieces) s.refusal
       >>= λ left. Ok (record s { pieces = s.pieces ++ piece ∷ []; refusal = left })
 
-  -- a caller, if `depth` callers wait
+  -- a caller, above `depth` others
   unfoldable pub push_caller : (depth : ℕ) → Store → Result Store Fault
   push_caller depth s = push_with_room setup.limits.callers depth s.refusal >>= λ left. Ok (record s { refusal = left })
 
@@ -83,21 +83,21 @@ pub data Next : Type 0 where
   RequestNext : Request → OnAnswer → Store → Next
   FaultNext : Fault → Next
 
--- on at this place, if the pushes found room
+-- the run goes on at this place; a refused push is a fault
 abbrev pub next_at : (place : ℕ) → Result Store Fault → Next
 next_at place (Ok s) = Goes place s
 next_at place (Err fault) = FaultNext fault
 
--- where a branch leads to, from the place after it: offsets wrap
+-- the target of a branch, relative to the place after the branch; offsets wrap
 abbrev pub branch_target : Setup → (place : ℕ) → ℤ → ℕ
 branch_target setup place target = residue setup.offset_bits (pos place +ℤ target)
 
--- a place of a text of this length, or its end
+-- a branch to a place of a text of this length, or to its end; any other place is a fault
 abbrev pub branch : (len place : ℕ) → Store → Next
 branch len place s = if nat_lt len place then FaultNext (BadBranchTarget place) else Goes place s
 
 module _ (setup : Setup) (place len : ℕ) where
-  -- What an operation does to what is kept; `place` is the one after it, in a text of length `len`.
+  -- What an operation does to the store. `place` is the place after it, in a text of length `len`.
   abbrev pub do_act : Act → Store → Next
   do_act (Pushes rest pushed) s = next_at place (push_values setup pushed (record s { values = rest; last = Plain }))
   do_act (Branches rest target) s =

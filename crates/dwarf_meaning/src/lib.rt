@@ -1,4 +1,4 @@
-//! What DWARF expressions mean: the definitions that the evaluator is proved against, and laws over them.
+//! The meaning of DWARF expressions: the definitions that the evaluator is proved against, and laws over them.
 #![tactic(auto)]
 
 mod kinds;

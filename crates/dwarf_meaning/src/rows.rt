@@ -12,10 +12,10 @@ ghost use Rattle.dwarf_meaning.specs.Refusals.{Never, After};
 ghost use Rattle.dwarf_meaning.specs.Meaning.{RequestOutcome, FaultOutcome, meaning};
 ghost use Rattle.dwarf_meaning.specs.RowWords.{text, no_limits, with_limits, dwarf4, at_most, unset, inputs_of, callee, open_at, word_at, value_at, pieces_only};
 
-/// Worked rows: what the definitions compute for single expressions, with nothing assumed.
+/// Worked rows: the outcomes of single expressions, computed from the definitions, with nothing assumed.
 ///
-/// It does nothing. Each clause of its contract gives a text's bytes, the settings and answers, and what comes
-/// of it: a request with the open texts and places, a fault, pieces, or a value too.
+/// It does nothing. Each clause of its contract gives the bytes of a text, the settings, the answers and the outcome: a
+/// request with the open texts and places, a fault, or pieces and perhaps a value.
 pub fn worked_rows()
     ensures sum { meaning dwarf4 Never (text (0x33 ∷ 0x35 ∷ 0x22 ∷ [])) unset [] ≡ value_at 8 8 }
     ensures nothing { meaning dwarf4 Never (text []) unset [] ≡ FaultOutcome NotEnoughStackItems }

@@ -1,4 +1,5 @@
--- What two callers hand in, and what they get, but for the bits above an address (DWARF 5, sections 2.5.1 and 2.6.1).
+-- What agrees in two evaluations, up to the bits above an address: inputs and outcomes (DWARF 5, sections 2.5.1 and
+-- 2.6.1).
 use Rattle.std.specs.Prelude.{ℕ, ◌%◌, ◌^◌, ◌≡◌, List, Option, Some, None}
 use Rattle.std.specs.List.{AllZip}
 use Rattle.dwarf_base.specs.Faults.{Fault}
@@ -13,18 +14,18 @@ use Rattle.dwarf_meaning.specs.Run.{Position}
 use Rattle.dwarf_meaning.specs.Meaning.{Outcome, RequestOutcome, FaultOutcome, CompleteOutcome, First}
 use Rattle.dwarf_meaning.specs.Steps.{Step, InitialValue, ObjectAddress, MaxIterations, Evaluate, Resume, Log}
 
--- nothing twice, or two that are related
+-- both are absent, or both are there and related
 pub data Both {A : Type 0} (R : A → A → Type 0) : Option A → Option A → Type 0 where
   nothing : Both R None None
   something : {x y : A} → R x y → Both R (Some x) (Some y)
 
--- ---- what is handed in; an address has w bits
+-- ---- inputs; an address has w bits
 
--- two numbers are the same modulo two to w
+-- two numbers are congruent modulo 2 ^ w
 abbrev pub AgreeingNumbers : (w : ℕ) → (first second : ℕ) → Type 0
 AgreeingNumbers w first second = first % 2 ^ w ≡ second % 2 ^ w
 
--- answers of one kind, whose numbers or values agree, and whose texts and types are the same
+-- answers of one kind: numbers and values agree, and texts and types are the same
 pub data AgreeingAnswers (w : ℕ) : Answer → Answer → Type 0 where
   value : {kind : WaitingKind} {x y : Value} → Agree w x y → AgreeingAnswers w (ValueAnswer kind x) (ValueAnswer kind y)
   number : {kind : WaitingKind} {m n : ℕ} → AgreeingNumbers w m n
@@ -40,41 +41,41 @@ pub data AgreeingSteps (w : ℕ) : Step → Step → Type 0 where
   evaluate : AgreeingSteps w Evaluate Evaluate
   resume : {first second : Answer} → AgreeingAnswers w first second → AgreeingSteps w (Resume first) (Resume second)
 
--- the same maximum, and object addresses that agree, set on both sides or on neither
+-- the same maximum, and agreeing object addresses, set on both sides or on neither
 pub record AgreeingSettings (w : ℕ) (first second : Settings) : Type 0 where
   pub object_address : Both (AgreeingNumbers w) first.object_address second.object_address
   pub maximum : first.maximum ≡ second.maximum
 
--- settings that agree, and initial values that agree, set on both sides or on neither
+-- agreeing settings, and agreeing initial values, set on both sides or on neither
 pub record AgreeingFirsts (w : ℕ) (first second : First) : Type 0 where
   pub initial_value : Both (AgreeingNumbers w) first.initial_value second.initial_value
   pub settings : AgreeingSettings w first.settings second.settings
 
--- answers that agree, with settings that agree
+-- agreeing answers, with agreeing settings
 pub record AgreeingInputs (w : ℕ) (first second : Input) : Type 0 where
   pub settings : AgreeingSettings w first.settings second.settings
   pub answer : AgreeingAnswers w first.answer second.answer
 
--- Logs whose settings and answers agree, started on both sides or on neither.
+-- Logs with agreeing settings and answers, started on both sides or on neither.
 pub record AgreeingLogs (w : ℕ) (log other : Log) : Type 0 where
   pub now : AgreeingFirsts w log.now other.now
   pub first : Both (AgreeingFirsts w) log.first other.first
   pub inputs : AllZip (AgreeingInputs w) log.inputs other.inputs
 
--- ---- its outcome
+-- ---- outcomes
 
--- the same location, or two values that agree
+-- the same location, or two agreeing values
 pub data AgreeingLocations (w : ℕ) : Location → Location → Type 0 where
   same : {location : Location} → AgreeingLocations w location location
   values : {x y : Value} → Agree w x y → AgreeingLocations w (HoldsValue x) (HoldsValue y)
 
--- the same size and the same offset, in bits
+-- the same size and offset in bits, and agreeing locations
 pub record AgreeingPieces (w : ℕ) (first second : Piece) : Type 0 where
   pub sizes : first.size_in_bits ≡ second.size_in_bits
   pub offsets : first.bit_offset ≡ second.bit_offset
   pub locations : AgreeingLocations w first.location second.location
 
--- the same request with the same open texts and places, the same fault, or pieces and values that agree
+-- the same request with the same open texts and places, the same fault, or agreeing pieces and values
 pub data AgreeingOutcomes (w : ℕ) : Outcome → Outcome → Type 0 where
   requests : {request : Request} {positions : List Position}
       → AgreeingOutcomes w (RequestOutcome request positions) (RequestOutcome request positions)

@@ -1,4 +1,4 @@
--- A called text may be written in its call's place (DWARF 5, section 2.5.1.5).
+-- A called text may be written in place of its call (DWARF 5, section 2.5.1.5).
 use Rattle.std.specs.Prelude.{ℕ, ◌+◌, ◌^◌, ◌<◌, ◌≡◌, ◌≢◌, Bool, List, [], ◌∷◌, ◌++◌, Option, length}
 use Rattle.std.specs.List.{AllByRecursion}
 use Rattle.dwarf_base.specs.Faults.{Fault}
@@ -19,7 +19,7 @@ use Rattle.dwarf_meaning.specs.RowWords.{no_limits}
 
 -- ---- the texts
 
--- The bytes before a call, those of the call and those after it, and the bytes that it is answered by, in one order.
+-- The bytes before a call, its own and those after it, and the bytes that answer it, in one byte order.
 pub record CallSite : Type 0 where
   pub before : List ℕ
   pub call : List ℕ
@@ -31,29 +31,30 @@ pub record CallSite : Type 0 where
 abbrev pub outer_text : CallSite → Text
 outer_text site = record { bytes = site.before ++ (site.call ++ site.beyond); is_big = site.is_big }
 
--- the text that the call is answered by
+-- the text that answers the call
 abbrev pub callee_text : CallSite → Text
 callee_text site = record { bytes = site.callee; is_big = site.is_big }
 
--- the text with the called bytes in the place of the call's
+-- the text with the called bytes in place of the call
 abbrev pub inlined_text : CallSite → Text
 inlined_text site = record { bytes = site.before ++ (site.callee ++ site.beyond); is_big = site.is_big }
 
 -- ---- the inputs
 
--- the settings in force once these inputs are taken
+-- the settings in force after these inputs
 abbrev pub in_force : Settings → List Input → Settings
 in_force settings [] = settings
 in_force settings (input ∷ inputs) = in_force input.settings inputs
 
--- the inputs of the outer text: the earlier ones, the called text as an answer that changes no setting, the later ones
+-- the inputs of the outer text: the earlier ones, the called text as an answer that changes no setting, and the later
+-- ones
 abbrev pub with_answer : CallSite → First → (earlier later : List Input) → List Input
 with_answer site first earlier later =
     earlier ++ record { settings = in_force first.settings earlier; answer = LocationAnswer (callee_text site) } ∷ later
 
 -- ---- the premises
 
--- it is no branch
+-- the operation is no branch
 abbrev pub IsStraight : Operation → Type 0
 IsStraight (Bra target) = ⊥
 IsStraight (Skip target) = ⊥
@@ -70,13 +71,14 @@ pub record StandsIn (setup : Setup) (site : CallSite) (offset : DieReference) : 
       (outer_text site).bytes operations fault
   pub straight : AllByRecursion IsStraight operations
 
--- The callee has bytes, and no branch of 16 bits wraps in the inlined text.
+-- The callee has bytes, and no 16-bit branch wraps in the inlined text.
 pub record IsInlinable (setup : Setup) (site : CallSite) : Type 0 where
   pub some : 0 < length site.callee
   pub bytes : AreBytes site.callee
   pub short : length (inlined_text site).bytes + 32768 < 2 ^ setup.offset_bits
 
--- The earlier inputs, all of them, lead to the call, in the outer text alone; `requests` were asked before it.
+-- The earlier inputs lead to the call, are all taken by then, and no text but the outer one is open. `requests` were
+-- asked before the call.
 pub record LeadsToCall (setup : Setup) (site : CallSite) (offset : DieReference) (first : First)
     (earlier : List Input) (requests : List Request) : Type 0 where
   pub end : (course_of setup Never (outer_text site) first earlier).end
@@ -85,7 +87,7 @@ pub record LeadsToCall (setup : Setup) (site : CallSite) (offset : DieReference)
   pub asked : (course_of setup Never (outer_text site) first earlier).requests
       ≡ requests ++ (RequiresAtLocation offset ∷ [])
 
--- ---- what is said
+-- ---- the law
 
 -- the same pieces and value, or the same open request
 pub data EndAlike : Outcome → Outcome → Type 0 where
@@ -94,7 +96,8 @@ pub data EndAlike : Outcome → Outcome → Type 0 where
   requests : {request : Request} {positions others : List Position}
       → EndAlike (RequestOutcome request positions) (RequestOutcome request others)
 
--- The inlined text ends as the outer one does, without the answer of that call, and asks the same but for its request.
+-- The inlined text, without the answer to that call, ends as the outer one does, and asks the same, except for the
+-- call's request.
 pub record IsInlined (setup : Setup) (site : CallSite) (offset : DieReference) (first : First)
     (earlier later : List Input) (requests : List Request) : Type 0 where
   pub ends : EndAlike (meaning setup Never (outer_text site) first (with_answer site first earlier later))
@@ -104,7 +107,7 @@ pub record IsInlined (setup : Setup) (site : CallSite) (offset : DieReference) (
       ≡ requests ++ (RequiresAtLocation offset ∷ after)
   pub inlined_asks : (course_of setup Never (inlined_text site) first (earlier ++ later)).requests ≡ requests ++ after
 
--- without limits and refusals, if the outer run meets no fault
+-- the law, without limits and refusals, if the outer run meets no fault
 abbrev pub Inlining : Type 0
 Inlining =
     (setup : Setup) (site : CallSite) (offset : DieReference) (first : First) (earlier later : List Input)

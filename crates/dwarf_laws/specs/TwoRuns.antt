@@ -15,12 +15,12 @@ use Rattle.dwarf_laws.specs.Agreement.{Both, AgreeingSteps, AgreeingLogs, Agreei
 abbrev pub NoneIsFull : List Reply → Type 0
 NoneIsFull replies = AllByRecursion (λ (reply : Reply). reply ≢ FaultReply StackFull) replies
 
--- where the operations stand that were counted so far, once it was started
+-- the positions of the operations that were counted so far, if the evaluation was started
 abbrev pub path_of : Setup → Refusal → Text → Log → Option (List Position)
 path_of setup refusal text log =
     option_map (λ (first : First). (course_of setup refusal text first log.inputs).path) log.first
 
--- Two evaluations of one text stand alike, by their logs.
+-- Two evaluations of one text are alike after these logs.
 pub record StandAlike (setup other : Setup) (refusal another : Refusal) (text : Text)
     (log second : Log) : Type 0 where
   pub agreeing : AgreeingLogs (address_bits setup) log second
@@ -28,12 +28,12 @@ pub record StandAlike (setup other : Setup) (refusal another : Refusal) (text : 
   pub outcomes : Both (AgreeingOutcomes (address_bits setup)) (outcome_of setup refusal text log)
       (outcome_of other another text second)
   pub paths : path_of setup refusal text log ≡ path_of other another text second
-  -- of agreeing next steps, one is allowed exactly when the other is
+  -- of two agreeing next steps, one is allowed exactly if the other is
   pub next : (step following : Step) → AgreeingSteps (address_bits setup) step following
       → Allows log (outcome_of setup refusal text log) step
       ↔ Allows second (outcome_of other another text second) following
 
--- Two evaluations of one text, each by its own steps, from its log before them.
+-- Two evaluations of one text are alike after further steps, each by its own.
 pub record AreAlike (setup other : Setup) (refusal another : Refusal) (text : Text) (log second : Log)
     (steps others : List Step) : Type 0 where
   pub allowed : AllAllowed setup refusal text log steps ↔ AllAllowed other another text second others
@@ -42,7 +42,7 @@ pub record AreAlike (setup other : Setup) (refusal another : Refusal) (text : Te
   pub stand : StandAlike setup other refusal another text
       (after_steps setup refusal text log steps) (after_steps other another text second others)
 
--- the same limits and the same refusal, or no push that was refused, so far or by the steps
+-- the limits and the refusal are the same, or no push was refused, before these steps or by them
 abbrev pub AreComparable : (setup other : Setup) (refusal another : Refusal) (text : Text) (log second : Log)
     (steps others : List Step) → Type 0
 AreComparable setup other refusal another text log second steps others =
@@ -50,8 +50,8 @@ AreComparable setup other refusal another text log second steps others =
     ⊎ (NoneIsFull (replies (outcome_of setup refusal text log) ++ replies_of setup refusal text log steps)
     × NoneIsFull (replies (outcome_of other another text second) ++ replies_of other another text second others))
 
--- Agreeing steps, from logs before them, under any limits and refusals. With `empty_log` on either side it speaks of
--- whole evaluations.
+-- Agreeing steps, after agreeing logs, under any limits and refusals. With `empty_log` on both sides it covers whole
+-- evaluations.
 abbrev pub TwoRuns : Type 0
 TwoRuns =
     (setup : Setup) (limits : Limits) (refusal another : Refusal) (text : Text) (log second : Log)

@@ -17,8 +17,8 @@ ghost use Rattle.dwarf_laws.specs.LawRows.{IsTight, byte_at, course_over, in_fau
 
 /// Worked rows of the bounds on lists and decodings.
 ///
-/// It does nothing. Each clause of its contract gives a state after one operation that a bound holds of, and one with a
-/// value, a caller or a decoding more or less, that it doesn't hold of.
+/// It does nothing. Each clause of its contract gives a state after one operation for which a bound holds, and one with
+/// a value, a caller or a decoding more or less for which it doesn't.
 pub fn tight_bounds()
     ensures values { IsTight (sample 1 1 (Generic 5 ∷ []) [] [])
         (sample 1 1 (Generic 5 ∷ Generic 6 ∷ []) [] []) }
@@ -37,8 +37,8 @@ pub fn tight_bounds()
 /// Worked rows of the other bounds: on decodings at a fault and at a location, on callers and decodings alone, on
 /// calls, turns, counts and limits, on what may be refused, and on the length of an inlined text.
 ///
-/// It does nothing. Each clause of its contract gives what a bound still holds of, or what is next to that and it
-/// doesn't hold of.
+/// It does nothing. Each clause of its contract gives a case for which a bound still holds, or its neighbour for which
+/// it doesn't.
 #[tactic(auto, unfolding(dwarf_meaning::specs::Run::most_operations))]
 pub fn bound_rows()
     ensures fault { DecodesOnce (in_fault (sample 1 2 [] [] [])) }

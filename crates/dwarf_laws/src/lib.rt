@@ -15,16 +15,16 @@ pub use rows::{called_rows, premises_of_high_bits, premises_of_inlining, twin_ro
 
 /// Bits above an address change nothing that matters.
 ///
-/// It does nothing. Its contract is the law, from all logs before; and that it speaks of evaluations from their
+/// It does nothing. Its contract states the law, from any logs on; and that the law covers evaluations from their
 /// beginning, as empty logs agree.
 pub fn high_bits()
     ensures onwards { TwoRuns }
     ensures from_the_beginning { (bits : ℕ) → AgreeingLogs bits empty_log empty_log }
 {}
 
-/// A called text may be written in its call's place.
+/// A called text may be written in place of its call.
 ///
-/// It does nothing. Its contract is the law.
+/// It does nothing. Its contract states the law.
 pub fn inlining()
     ensures { Inlining }
 {}

@@ -1,4 +1,4 @@
-//! Rows of the two laws over whole evaluations, and evaluations that meet their premises.
+//! Worked rows of the two laws over whole evaluations, and why the laws have their premises.
 
 #![tactic(auto, using(dwarf_meaning::proofs::Turns::few_turns, crate::proofs::Premises::stands_in, crate::proofs::Premises::agree_alike, crate::proofs::Premises::end_ended, crate::proofs::Premises::agreeing_steps), unfolding(dwarf_base::specs::Leb::uleb_at, dwarf_base::specs::Leb::sleb_at, dwarf_base::specs::Reads::fixed_at, dwarf_value::specs::Values::type_of, dwarf_value::specs::Values::bit_size_of, dwarf_value::specs::Values::is_signed, dwarf_value::specs::Values::is_same, dwarf_value::specs::Values::word_integer, dwarf_value::specs::Values::integer_of, dwarf_value::specs::Values::value_of, dwarf_meaning::specs::Acts::on_top, dwarf_meaning::specs::Acts::on_result, dwarf_meaning::specs::Acts::act, dwarf_meaning::specs::Acts::use_of, dwarf_meaning::specs::Kinds::is_same_kind, dwarf_meaning::specs::Decoding::operation_at, dwarf_meaning::specs::Opcodes::row_of, dwarf_meaning::specs::Splitting::items_at, dwarf_meaning::specs::Stores::push_value, dwarf_meaning::specs::Stores::push_piece, dwarf_meaning::specs::Stores::push_caller, dwarf_meaning::specs::Run::most_operations, dwarf_meaning::specs::Run::run_for, dwarf_meaning::specs::Meaning::meaning))]
 
@@ -18,8 +18,8 @@ ghost use Rattle.dwarf_laws.specs.LawRows.{started_steps, ComeAlike, call_site, 
 
 /// Worked rows of `high_bits`: two runs of one text whose answers differ above the 32 bits of an address.
 ///
-/// It does nothing. Each clause of its contract gives the limits, the text's bytes, and the steps of both runs, which
-/// agree; then what both reply, and the outcome of each.
+/// It does nothing. Each clause of its contract gives the limits, the bytes of the text, and the steps of both runs,
+/// which agree; then the replies to both, and the outcome of each.
 pub fn twin_rows()
     ensures frame_address { ComeAlike dwarf4 (0x9c ∷ [])
         (started_steps (NumberAnswer kind.CallFrameCfa 0x10 ∷ []))
@@ -132,11 +132,11 @@ pub fn twin_rows()
         (CompleteReply ∷ []) (value_at 0x10 0x10) (value_at 0x100000010 0x10) }
 {}
 
-/// Worked rows of `inlining`: calls and the texts that they are answered by.
+/// Worked rows of `inlining`: calls, and the texts that answer them.
 ///
-/// It does nothing. Each clause of its contract gives the bytes before a call and those after it, and the bytes that
-/// it is answered by; the answers before that one and those after it; what is asked before the call and after it; and
-/// the outcome of the outer text and of the inlined one. It says that every premise of the law holds.
+/// It does nothing. Each clause of its contract gives the bytes before and after a call, and the bytes that answer it;
+/// the answers before and after that one; the requests before and after the call; and the outcomes of the outer text
+/// and the inlined one. It states that every premise of the law holds.
 pub fn called_rows()
     ensures sum { IsWorked (call_site (0x31 ∷ []) (0x22 ∷ []) (0x32 ∷ []))
         [] []
@@ -158,10 +158,10 @@ pub fn called_rows()
         (RequiresCallFrameCfa ∷ []) (RequiresCallFrameCfa ∷ []) (value_at 5 5) }
 {}
 
-/// Why premises of `high_bits` stand: the smallest two runs whose outcomes disagree if one doesn't hold.
+/// Why `high_bits` has its premises: the smallest two runs whose outcomes disagree if one premise doesn't hold.
 ///
-/// It does nothing. Each clause of its contract gives the limits and the refusal of both runs, the text's bytes, the
-/// settings and the answers of both, and the outcome of each.
+/// It does nothing. Each clause of its contract gives the limits and the refusal of both runs, the bytes of the text,
+/// the settings and the answers of both, and the outcome of each.
 pub fn premises_of_high_bits()
     ensures limits_differ { Disagree dwarf4 (with_limits (record no_limits { values = Some 0 }))
         Never Never (0x31 ∷ []) unset unset
@@ -202,10 +202,10 @@ pub fn premises_of_high_bits()
         (CompleteOutcome (whole_piece (AtAddress 0) ∷ []) (Some (U16 0))) }
 {}
 
-/// Why premises of `inlining` stand: the smallest call whose inlined text ends otherwise if one doesn't hold.
+/// Why `inlining` has its premises: the smallest call whose inlined text ends differently if one premise doesn't hold.
 ///
-/// It does nothing. Each clause of its contract gives the limits, the bytes of the outer text and those of the inlined
-/// one, the settings, the answers to each, and the outcome of each.
+/// It does nothing. Each clause of its contract gives the limits, the bytes of the outer text and of the inlined one,
+/// the settings, the answers to each, and the outcome of each.
 pub fn premises_of_inlining()
     ensures callers_have_a_limit { EndUnlike (with_limits (record no_limits { callers = Some 0 }))
         (0x98 ∷ 0x05 ∷ 0x00 ∷ []) (0x31 ∷ [])

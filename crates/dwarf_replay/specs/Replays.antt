@@ -1,4 +1,4 @@
--- What a list of steps of an evaluation comes to, one step after another (DWARF 5, section 2.5).
+-- What the steps of an evaluation lead to, one after another (DWARF 5, section 2.5).
 use Rattle.std.specs.Prelude.{ℕ, suc, ◌≡◌, List, [], ◌∷◌, ◌++◌, Option, Some, None, map, take, length, slice_get}
 use Rattle.dwarf_base.specs.Faults.{Fault, fault_of}
 use Rattle.dwarf_base.specs.Reads.{Text}
@@ -22,21 +22,21 @@ abbrev pub steps_of : {R : Type 0} → (R → Text) → List (Step R) → List m
 steps_of text steps = map (step_of text) steps
 
 module _ {R O P : Type 0} (text : R → Text) (number : O → ℕ) where
-  -- the reply that an item of the list says
+  -- the reply in an item of the list
   abbrev pub reply_in : Answer R O P → Reply
   reply_in answer = reply_of text number answer.0
 
-  -- the replies that the list says
+  -- the replies in the list
   abbrev pub replies_in : List (Answer R O P) → List Reply
   replies_in given = map reply_in given
 
--- the log of the settings alone
+-- the log before any step, with the settings of a state
 abbrev pub log_at : State → Log
 log_at x = record { now = first_of x None; first = None; inputs = [] }
 
 -- ---- where an evaluation stands
 
--- it waits in this request, with these texts open
+-- it waits in this request, with these open texts
 abbrev pub IsInRequest : Request → List Position → State → Status → Type 0
 IsInRequest request positions x (RequestStatus open_request on_answer) =
     (open_request ≡ request) × (positions ≡ record { text = x.text; place = x.place } ∷ x.callers)
@@ -47,8 +47,8 @@ abbrev pub IsInFault : Fault → Status → Type 0
 IsInFault fault (FaultStatus error) = fault_of error ≡ fault
 IsInFault fault _ = ⊥
 
--- It is where the steps lead: not started yet, in a request, at a fault, or complete with pieces and a value. Until it
--- is over, the settings are the last that were set.
+-- The evaluation is where the steps lead: not started yet, in a request, at a fault, or complete with pieces and a
+-- value. Until it is over, its settings are those that were set last.
 abbrev pub StandsAt : Log → State → Option Outcome → Type 0
 StandsAt log x None = (x.status ≡ Start log.now.initial_value) × (x.store.settings ≡ log.now.settings)
 StandsAt log x (Some (RequestOutcome request positions)) =
@@ -56,14 +56,14 @@ StandsAt log x (Some (RequestOutcome request positions)) =
 StandsAt log x (Some (FaultOutcome fault)) = IsInFault fault x.status
 StandsAt log x (Some (CompleteOutcome pieces value)) = (x.status ≡ CompleteStatus value) × (x.store.pieces ≡ pieces)
 
--- the steps are done from a state on, with this refusal
+-- the steps are done from this state on, with this refusal
 abbrev pub AreDoneFrom : State → List meaning.Step → List Reply → Log → Refusal → Type 0
 AreDoneFrom old steps replies log refusal = AreDone old.setup refusal old.text (log_at old) steps replies log
 
 -- ---- replay
 
--- Steps that are all allowed were done, for some refusal or for none: the replies are theirs, and the evaluation stands
--- where they lead.
+-- All steps were allowed and done, with some refusal or none. These are their replies, and the evaluation stands where
+-- they lead.
 pub record DoesAll (old : State) (steps : List meaning.Step) (replies : List Reply) (new : State) : Type 0 where
   pub refusal : Refusal
   pub may : MayPick old.setup.limits refusal
@@ -71,7 +71,7 @@ pub record DoesAll (old : State) (steps : List meaning.Step) (replies : List Rep
   pub are_done : AreDoneFrom old steps replies log refusal
   pub stands : StandsAt log new (outcome_of old.setup refusal old.text log)
 
--- the steps before this one were done, and it isn't allowed
+-- the steps before this one were done, and this one isn't allowed
 pub record StopsAt (index : ℕ) (old : State) (steps : List meaning.Step) (replies : List Reply)
     (new : State) : Type 0 where
   pub does_all : DoesAll old (take index steps) replies new
@@ -79,7 +79,7 @@ pub record StopsAt (index : ℕ) (old : State) (steps : List meaning.Step) (repl
   pub is_next : slice_get steps index ≡ Some step
   pub misplaced : Allows does_all.log (outcome_of old.setup does_all.refusal old.text does_all.log) step → ⊥
 
--- the steps up to this one were done, and its reply found no room
+-- the steps up to this one were done, and the list had no room for its reply
 pub record OverflowsAt (index : ℕ) (answer : Reply) (limit : Option ℕ) (old : State) (steps : List meaning.Step)
     (replies : List Reply) (new : State) : Type 0 where
   pub does_all : DoesAll old (take (suc index) steps) (replies ++ answer ∷ []) new
@@ -88,7 +88,7 @@ pub record OverflowsAt (index : ℕ) (answer : Reply) (limit : Option ℕ) (old 
   pub full : MayRefuse limit (length replies)
 
 module _ {R O P : Type 0} (text : R → Text) (number : O → ℕ) where
-  -- by how it ended: all steps were done, one isn't allowed, or a reply found no room
+  -- what holds by the end of a replay: all steps were done, one isn't allowed, or a reply had no room
   abbrev pub Replays : Option ℕ → State → List (Step R) → List (Answer R O P) → State → Replayed R O P → Type 0
   Replays limit old steps given new replayed.Done =
       DoesAll old (steps_of text steps) (replies_in text number given) new

@@ -1,5 +1,4 @@
--- What equality sees of steps and of what they gave: all of an error, and of readers and offsets what `text` and
--- `number` see.
+-- What equality sees of steps and their results: errors whole, readers by `text` and offsets by `number`.
 use Rattle.std.specs.Prelude.{ℕ, Result, Ok, Err}
 use Rattle.dwarf_base.specs.declared.errors.Error.{Error}
 use Rattle.dwarf_base.specs.Reads.{Text}
@@ -12,7 +11,7 @@ use Rattle.dwarf_replay.specs.declared.steps.Stepped.TheVariants as stepped
 use Rattle.dwarf_eval.specs.declared.op.results.EvaluationResult.{EvaluationResult}
 
 module _ {R O P : Type 0} (text : R → Text) (number : O → ℕ) where
-  -- what a call gave
+  -- the result of a call
   abbrev pub reply_or_error : Result (EvaluationResult R O P) Error → Result Reply Error
   reply_or_error (Ok result) = Ok (ok_reply text number result)
   reply_or_error (Err error) = Err error
@@ -23,7 +22,7 @@ pub data StepOutcome : Type 0 where
   Set : StepOutcome
   Answered : Result Reply Error → StepOutcome
 
--- what a step of the code came to
+-- the outcome of a step of the code, as the definitions have it
 abbrev pub outcome_of_step : {R O P : Type 0} → (R → Text) → (O → ℕ) → Stepped R O P → StepOutcome
 outcome_of_step text number stepped.Misplaced = Misplaced
 outcome_of_step text number stepped.Set = Set
@@ -35,7 +34,7 @@ pub data ReplayEnd : Type 0 where
   MisplacedAt : (index : ℕ) → ReplayEnd
   NoRoom : (index : ℕ) → Result Reply Error → ReplayEnd
 
--- how a replay of the code ended
+-- the end of a replay of the code, as the definitions have it
 abbrev pub end_of_replay : {R O P : Type 0} → (R → Text) → (O → ℕ) → Replayed R O P → ReplayEnd
 end_of_replay text number replayed.Done = Done
 end_of_replay text number (replayed.Misplaced index) = MisplacedAt index

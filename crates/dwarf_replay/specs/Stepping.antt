@@ -43,7 +43,7 @@ MayTake (MaxIterations maximum) status = Unit {0}
 MayTake Evaluate status = IsClosed status
 MayTake (Resume answer) status = IsOpenFor (kind_of_answer answer) status
 
--- a setting
+-- the step was a setting
 abbrev pub IsSet : meaning.Step → State → State → Type 0
 IsSet (InitialValue number) old new = (old.status ≡ Start None) × (new ≡ with_status (Start (Some number)) old)
 IsSet (ObjectAddress address) old new = new ≡ with_object (Some address) old
@@ -51,7 +51,7 @@ IsSet (MaxIterations maximum) old new = new ≡ with_maximum maximum old
 IsSet _ old new = ⊥
 
 module _ {R O P : Type 0} (text : R → Text) (number : O → ℕ) where
-  -- the evaluation replied
+  -- the step was a call, with this result
   abbrev pub HasReplied : meaning.Step → State → State → Result (EvaluationResult R O P) Error → Type 0
   HasReplied Evaluate old new replied = IsClosed old.status × Evaluates text number old new replied old.status
   HasReplied (Resume answer) old new replied =

@@ -8,14 +8,14 @@ ghost use Rattle.dwarf_replay.specs.Stepping.{step_of};
 use crate::steps::{Answer, Replayed, Step, Stepped};
 use dwarf_base::Reader;
 
-/// Steps are equal exactly if they are seen as the same, as far as readers are. It does nothing; its contract is
-/// the law.
+/// Steps are equal exactly if contracts can't tell them apart, provided that this holds of readers. It does nothing;
+/// its contract states the law.
 pub fn step_equality_laws<R: Reader + Eq>()
     ensures { (text : R → Text) → IsEqualityOf text R.PartialEq.eq
         → IsEqualityOf (step_of text) ⟦<Step<R> as PartialEq>⟧.eq }
 {}
 
-/// The same of what calls, steps and replays gave, as far as readers and offsets are.
+/// The same law for the results of calls, steps and replays, provided that it holds of readers and offsets.
 pub fn answer_equality_laws<R: Reader + Eq, O: Eq>()
     ensures answer { (text : R → Text) (number : O → ℕ) → IsEqualityOf text R.PartialEq.eq
         → IsEqualityOf number O.PartialEq.eq

@@ -10,12 +10,14 @@ use dwarf_base::Reader;
 use dwarf_eval::eval::Evaluation;
 use dwarf_eval::store::{ArrayLike, EvaluationStorage};
 
-/// Does the steps in order, and keeps what each `Evaluate` and each answer gives (DWARF 5, section 2.5).
+/// Does the steps in order, and appends the result of each `Evaluate` and each answer to `answers` (DWARF 5, section
+/// 2.5).
 ///
-/// The evaluation is fresh, though an object address or a maximum may be set, and `answers` is empty. `Done`: all
-/// steps were done. `Misplaced`: the step at that index isn't allowed after those before it, which were done.
-/// `NoRoom`: the push of that step's answer was refused, and the answer is handed back. The caller may go on with the
-/// evaluation in all three.
+/// The evaluation has to be fresh, though an object address or a maximum may be set. `answers` has to be empty. In all
+/// three cases the caller may go on with the evaluation.
+///
+/// `Done`: all steps were done. `Misplaced`: the step at this index isn't allowed after those before it, which were
+/// done. `NoRoom`: the step at this index was done, but `answers` had no room for its result, which is handed back.
 pub fn replay<R: Reader + Copy, S: EvaluationStorage<R>, L: ArrayLike<Item = Answer<R>>>(
     eval: &mut Evaluation<R, S>,
     steps: &[Step<R>],

@@ -40,8 +40,8 @@ fn try_evaluate<R: Reader + Copy, S: EvaluationStorage<R>>(
 
 /// Takes one step of an evaluation, if it is allowed (DWARF 5, section 2.5).
 ///
-/// `Misplaced`: it isn't allowed where the evaluation stands, and nothing is changed. `Set`: the setting holds from now
-/// on. `Answered`: what `evaluate` or the resume of its kind gave, a fault too.
+/// `Misplaced`: the evaluation doesn't allow the step now, and nothing is changed. `Set`: the setting is in force.
+/// `Answered`: the result of `evaluate` or of the step's resume, which may be a fault.
 pub fn take_step<R: Reader + Copy, S: EvaluationStorage<R>>(
     eval: &mut Evaluation<R, S>,
     step: Step<R>,

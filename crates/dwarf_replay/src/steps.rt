@@ -1,4 +1,4 @@
-//! Steps, and what they come to.
+//! Steps, and their outcomes.
 
 ghost use Rattle.std.specs.Prelude.{◌≡◌, Ok};
 
@@ -43,7 +43,7 @@ pub enum Step<R> {
     BaseType(ValueType),
 }
 
-/// What one call of an evaluation gave.
+/// The result of one call of an evaluation.
 #[derive(Clone, Copy, Debug, PartialEq, Eq)]
 pub struct Answer<R: Reader, O = <R as Reader>::Offset>(pub Result<EvaluationResult<R, O>>);
 
@@ -59,11 +59,11 @@ impl<R: Reader, O> Default for Answer<R, O> {
 /// The outcome of a step.
 #[derive(Clone, Copy, Debug, PartialEq, Eq)]
 pub enum Stepped<R: Reader, O = <R as Reader>::Offset> {
-    /// It isn't allowed, and nothing was done.
+    /// The step isn't allowed, and nothing was done.
     Misplaced,
-    /// It was a setting, and is set.
+    /// The step was a setting, which is now in force.
     Set,
-    /// It was a call, which gave this.
+    /// The step was a call, with this result.
     Answered(Answer<R, O>),
 }
 
@@ -72,13 +72,13 @@ pub enum Stepped<R: Reader, O = <R as Reader>::Offset> {
 pub enum Replayed<R: Reader, O = <R as Reader>::Offset> {
     /// All steps were done.
     Done,
-    /// The step at this index, from 0, isn't allowed: those before it were done, and nothing of it.
+    /// The step at this index, from 0, isn't allowed. All steps before it were done, and nothing of it was.
     Misplaced(usize),
-    /// The step at this index was done, and there was no room for its answer; no later step is done.
+    /// The step at this index was done, but the list of answers had no room for its result. No later step was done.
     NoRoom {
-        /// The step's index, from 0.
+        /// The index of the step, from 0.
         index: usize,
-        /// Its answer.
+        /// The result.
         answer: Answer<R, O>,
     },
 }

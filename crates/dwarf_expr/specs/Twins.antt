@@ -21,33 +21,33 @@ use Rattle.dwarf_replay.specs.Replays.{DoesAll, StopsAt, OverflowsAt}
 
 -- ---- the premises
 
--- one text and one encoding, the same maximum, and object addresses that agree
+-- one text and one encoding, the same maximum, and agreeing object addresses
 pub record AreTwins (x y : State) : Type 0 where
   pub text : x.text ≡ y.text
   pub encoding : x.setup.encoding ≡ y.setup.encoding
   pub offset_bits : x.setup.offset_bits ≡ y.setup.offset_bits
   pub settings : AgreeingSettings (address_bits x.setup) x.store.settings y.store.settings
 
--- twins, with addresses of 1 to 64 bits, and steps that agree
+-- twins, with addresses of 1 to 64 bits, and agreeing steps
 pub record MayReplay (x y : State) (steps others : List Step) : Type 0 where
   pub width : IsWidth (address_bits x.setup)
   pub twins : AreTwins x y
   pub agreeing : AllZip (AgreeingSteps (address_bits x.setup)) steps others
 
--- the same limits, and the same refusal if a list has no limit; or no push that was refused
+-- the limits are the same, and so is the refusal if a list has no limit; or no push was refused
 abbrev pub AreComparableReplays : (x y : State) → (refusal another : Refusal) → (replies given : List Reply) → Type 0
 AreComparableReplays x y refusal another replies given =
     ((x.setup.limits ≡ y.setup.limits) × (HasFreeList x.setup.limits → refusal ≡ another))
     ⊎ (NoneIsFull replies × NoneIsFull given)
 
--- ---- what is said
+-- ---- the law
 
--- the texts that are open, the innermost first, each with its place
+-- the open texts, the innermost first, each with its place
 abbrev pub open_texts : State → List Position
 open_texts x = record { text = x.text; place = x.place } ∷ x.callers
 
--- Both wait in the same request with the same open texts and places, met the same fault, are complete with agreeing
--- pieces and values, or weren't started, with agreeing initial values.
+-- Both wait in the same request with the same open texts and places, or met the same fault, or are complete with
+-- agreeing pieces and values, or weren't started and have agreeing initial values.
 pub data StatesStandAlike (bits : ℕ) (x y : State) : Type 0 where
   unstarted : (number other : Option ℕ) → x.status ≡ Start number → y.status ≡ Start other
       → Both (AgreeingNumbers bits) number other → StatesStandAlike bits x y
@@ -59,7 +59,7 @@ pub data StatesStandAlike (bits : ℕ) (x y : State) : Type 0 where
       → Both (Agree bits) value other → AllZip (AgreeingPieces bits) x.store.pieces y.store.pieces
       → StatesStandAlike bits x y
 
--- the first list is a front of the second
+-- the first list is a prefix of the second
 abbrev pub IsFront : List Reply → List Reply → Type 0
 IsFront replies all = (more : List Reply) × (replies ++ more ≡ all)
 
@@ -67,44 +67,45 @@ IsFront replies all = (more : List Reply) × (replies ++ more ≡ all)
 abbrev pub DoesAllWith : Refusal → State → List Step → List Reply → State → Type 0
 DoesAllWith refusal old steps replies new = (does_all : DoesAll old steps replies new) × (does_all.refusal ≡ refusal)
 
--- the steps before this one were done, with this refusal, and it isn't allowed
+-- with this refusal, the steps before this one were done, and this one isn't allowed
 abbrev pub FindsMisplaced : (index : ℕ) → Refusal → State → List Step → List Reply → State → Type 0
 FindsMisplaced index refusal old steps replies new =
     (stops_at : StopsAt index old steps replies new) × (stops_at.does_all.refusal ≡ refusal)
 
--- the steps up to this one were done, with this refusal, and its reply, which is the last of these, found no room
+-- with this refusal, the steps up to this one were done, and its reply, the last of these, had no room
 abbrev pub FindsNoRoom : (index : ℕ) → Refusal → State → List Step → List Reply → State → Type 0
 FindsNoRoom index refusal old steps replies new =
     (before : List Reply) × (last : Reply) × (limit : Option ℕ)
     × (overflows_at : OverflowsAt index last limit old steps before new)
     × (overflows_at.does_all.refusal ≡ refusal) × (replies ≡ before ++ last ∷ [])
 
--- What two replays have in common, by how each ended: the same replies, as far as both go, and where both stand.
+-- What two replays have in common, by how each ended: the replies are the same as far as both go, and both evaluations
+-- stand alike.
 pub record ReplayAlike (x y new other : State) (steps others : List Step) (refusal another : Refusal)
     (replies given : List Reply) : Type 0 where
   -- all steps were done on both sides: the replies are the same
   pub done : DoesAllWith refusal x steps replies new → DoesAllWith another y others given other
       → (replies ≡ given) × StatesStandAlike (address_bits x.setup) new other
-  -- a step was misplaced on both sides: it is the same step, and the replies before it are the same
+  -- on both sides a step wasn't allowed: it is the same step, and the replies before it are the same
   pub misplaced : (index second : ℕ) → FindsMisplaced index refusal x steps replies new
       → FindsMisplaced second another y others given other
       → (index ≡ second) × (replies ≡ given) × StatesStandAlike (address_bits x.setup) new other
-  -- no step is misplaced on one side if all were done on the other
+  -- if all steps were done on one side, each was allowed on the other
   pub not_alone : (index : ℕ)
       → (FindsMisplaced index refusal x steps replies new → DoesAllWith another y others given other → ⊥)
       × (DoesAllWith refusal x steps replies new → FindsMisplaced index another y others given other → ⊥)
-  -- A reply found no room on the second side, and all steps were done on the first: the replies of the second, with
-  -- that one, are a front of the first's.
+  -- All steps were done on the first side, and a reply had no room on the second: the replies of the second side, with
+  -- that one, are a prefix of those of the first.
   pub no_room : (second : ℕ) → DoesAllWith refusal x steps replies new → FindsNoRoom second another y others given other
       → IsFront given replies
-  -- The same if a step was misplaced on the first, which then comes later.
+  -- The same if a later step on the first side wasn't allowed.
   pub no_room_before : (index second : ℕ) → FindsMisplaced index refusal x steps replies new
       → FindsNoRoom second another y others given other → (second < index) × IsFront given replies
-  -- The same if a reply found no room on the first either, at that step or later.
+  -- The same if a reply had no room on the first side either, at that step or a later one.
   pub no_room_twice : (index second : ℕ) → FindsNoRoom index refusal x steps replies new
       → FindsNoRoom second another y others given other → second ≤ index → IsFront given replies
 
--- Twins whose replays are comparable replay alike, each with its refusal.
+-- The replays of twins are alike if they are comparable, each with its refusal.
 abbrev pub TwoReplays : Type 0
 TwoReplays =
     (x y new other : State) (steps others : List Step) (refusal another : Refusal) (replies given : List Reply)
@@ -113,8 +114,8 @@ TwoReplays =
 
 -- ---- a worked row
 
--- Steps that agree, of fresh evaluations of one text without limits: both evaluations do all steps with this refusal
--- and give these replies.
+-- Agreeing steps, in fresh evaluations of one text without limits: both do all steps, with this refusal, and give these
+-- replies.
 pub record MeetRefusal (refusal : Refusal) (bytes : List ℕ) (steps others : List Step)
     (replied : List Reply) : Type 0 where
   pub agree : AllZip (AgreeingSteps 32) steps others

@@ -1,4 +1,4 @@
-//! Expressions evaluated on the heap and over lent slices, in three loops that a user may write.
+//! Evaluates expressions on the heap and over lent slices, by three loops that a user may write.
 #![tactic(auto)]
 
 ghost use Rattle.dwarf_expr.specs.Evaluation.{IsClosed};
@@ -30,18 +30,18 @@ const ENCODING: Encoding = Encoding {
     version: 4,
 };
 
-/// A process that stands still, in one function.
+/// A stopped process with one function.
 #[derive(Clone, Copy)]
 struct Stopped<'a> {
     registers: [u64; 2],
     frame_base: u64,
     cfa: u64,
-    /// The location of every entry that is called.
+    /// The location of each entry that an expression calls.
     called: Bytes<'a>,
 }
 
 impl<'a> Process<Bytes<'a>> for Stopped<'a> {
-    /// Each byte of memory is 7. An address space holds its own number.
+    /// Each byte of memory is 7. In an address space every value is the number of the space.
     fn memory(&self, _address: u64, size: u8, space: Option<u64>) -> Result<Value> {
         match (space, size) {
             (Some(number), _) => Ok(Value::Generic(number)),
@@ -99,7 +99,7 @@ impl<'a> Process<Bytes<'a>> for Stopped<'a> {
     }
 }
 
-/// Prints what a debugger's loop makes of an evaluation.
+/// Prints the outcome of an evaluation in a debugger's loop.
 fn show_complete<'a, S: EvaluationStorage<Bytes<'a>>>(
     rt: &HostRuntime,
     lists: &str,
@@ -118,14 +118,14 @@ fn show_complete<'a, S: EvaluationStorage<Bytes<'a>>>(
     }
 }
 
-/// Prints what it makes of the bytes, on the heap.
+/// Prints the outcome of the bytes, evaluated on the heap.
 fn show_on_heap<'a>(rt: &HostRuntime, bytes: Bytes<'a>, process: &Stopped<'a>) -> io::Result<()> {
     let mut evaluation = Evaluation::new(rt.alloc(), bytes, ENCODING);
     show_complete(rt, "heap", &mut evaluation, process)
 }
 
-/// Prints what it makes of each expression, by a new evaluation over slices that all of them use. None takes memory,
-/// and none sets a list to zero.
+/// Prints the outcome of each expression. A new evaluation for each uses the same slices: none allocates, and none sets
+/// a list to zero.
 fn show_lent<'a>(
     rt: &HostRuntime,
     expressions: &[&'a [u8]],
@@ -148,7 +148,7 @@ fn show_lent<'a>(
     Ok(())
 }
 
-/// Prints what it makes of each expression. One evaluation serves for all of them, so only the first few take memory.
+/// Prints the outcome of each expression. One evaluation is restarted for each, so only the first few allocate.
 fn show_restarted<'a>(
     rt: &HostRuntime,
     expressions: &[&'a [u8]],
@@ -164,7 +164,7 @@ fn show_restarted<'a>(
     Ok(())
 }
 
-/// Prints what registers alone make of the bytes, with at most `step` operations more for each.
+/// Prints the outcome of the bytes with registers alone, and at most `step` more operations for each of them.
 fn show_registers<'a>(
     rt: &HostRuntime,
     bytes: Bytes<'a>,
@@ -178,7 +178,7 @@ fn show_registers<'a>(
     }
 }
 
-/// Prints how often the bytes ask.
+/// Prints how many requests the bytes make.
 fn show_requests(rt: &HostRuntime, bytes: Bytes<'_>) -> io::Result<()> {
     let mut evaluation = Evaluation::new(rt.alloc(), bytes, ENCODING);
     let nothing = EndianSlice::new(&[], RunTimeEndian::Little);
@@ -188,7 +188,7 @@ fn show_requests(rt: &HostRuntime, bytes: Bytes<'_>) -> io::Result<()> {
     }
 }
 
-/// Prints what each call gives if all answers are known before the first.
+/// Prints the result of each call if all answers are known before the first.
 fn show_replayed<'a>(
     rt: &HostRuntime,
     bytes: Bytes<'a>,
@@ -200,7 +200,7 @@ fn show_replayed<'a>(
     println!(rt; "replayed: {replayed:?} {:?}", answers.as_slice())
 }
 
-/// Prints the outcome of some expressions.
+/// Prints the outcomes of some expressions.
 fn show_all(rt: &HostRuntime) -> io::Result<()> {
     let process = Stopped {
         registers: [0x1000, 0x2000],

@@ -1,4 +1,4 @@
-//! An evaluation that answers some requests alone, and allows itself more operations at each.
+//! An evaluation that answers only requests for registers, and raises its maximum of operations at each.
 
 ghost use Rattle.std.specs.Prelude.{◌≡◌, IfOk, true};
 ghost use Rattle.dwarf_expr.specs.Evaluation.{IsClosed, IsComplete};
@@ -9,8 +9,8 @@ use dwarf_expr::op::EvaluationResult;
 use dwarf_expr::store::EvaluationStorage;
 use dwarf_expr::value::Value;
 
-/// Evaluates with the values of registers, and at most `step` operations more for each; `false` if anything else is
-/// asked, which is left open.
+/// Evaluates with the values of registers, and at most `step` more operations for each of them. `false` if the
+/// expression asks for anything else; that request stays open.
 pub fn complete_with_registers<R: Reader + Copy + PartialEq, S: EvaluationStorage<R>>(
     evaluation: &mut Evaluation<R, S>,
     registers: &[u64],

@@ -1,4 +1,4 @@
-//! Two evaluations that answer every request: the loop of a debugger, and one that is driven by the status.
+//! Two evaluations that answer every request: a debugger's loop, and a loop over the evaluation's status.
 
 ghost use Rattle.std.specs.Prelude.{◌≢◌, ◌<◌, IfOk, OnOk};
 ghost use Rattle.dwarf_expr.specs.Bounds.{calls_left};
@@ -12,46 +12,46 @@ use dwarf_expr::op::{DieReference, EvaluationResult, Expression};
 use dwarf_expr::store::EvaluationStorage;
 use dwarf_expr::value::{Value, ValueType};
 
-/// What a debugger knows of the process that it looks into.
+/// What a debugger knows of the process that it examines.
 pub trait Process<R: Reader> {
-    /// What stands in `size` bytes of memory.
+    /// The contents of `size` bytes of memory.
     fn memory(&self, address: u64, size: u8, space: Option<u64>) -> Result<Value>;
 
-    /// What a register holds.
+    /// The contents of a register.
     fn register(&self, register: Register, base_type: UnitOffset<R::Offset>) -> Result<Value>;
 
     /// A local, a global or a value on the stack of a WebAssembly machine.
     fn wasm_value(&self, index: u32) -> Result<Value>;
 
-    /// What `DW_AT_frame_base` of the function gives.
+    /// The value of the function's `DW_AT_frame_base`.
     fn frame_base(&self) -> Result<u64>;
 
     /// The canonical frame address.
     fn call_frame_cfa(&self) -> Result<u64>;
 
-    /// Where a variable of the thread stands.
+    /// The address of a thread-local variable.
     fn thread_local(&self, offset: u64) -> Result<u64>;
 
     /// The `DW_AT_location` of an entry, or no bytes if it has none.
     fn expression_at(&self, entry: DieReference<R::Offset>) -> Result<R>;
 
-    /// What the expression gave when the function was entered.
+    /// The value that the expression had when the function was entered.
     fn entry_value(&self, expression: Expression<R>) -> Result<Value>;
 
     /// The value of a parameter, as its call site says.
     fn parameter(&self, entry: UnitOffset<R::Offset>) -> Result<u64>;
 
-    /// Where an address of the file was loaded.
+    /// The address at which an address of the file was loaded.
     fn relocated(&self, address: u64) -> Result<u64>;
 
-    /// What stands in `.debug_addr`.
+    /// The entry of `.debug_addr` with this index.
     fn indexed_address(&self, index: DebugAddrIndex<R::Offset>, relocate: bool) -> Result<u64>;
 
     /// The type that an entry describes.
     fn base_type(&self, entry: UnitOffset<R::Offset>) -> Result<ValueType>;
 }
 
-/// Evaluates to the end, with the process's answer to each request.
+/// Evaluates to the end, with answers from the process.
 pub fn complete<R: Reader + Copy, S: EvaluationStorage<R>, P: Process<R>>(
     evaluation: &mut Evaluation<R, S>,
     process: &P,
@@ -69,7 +69,7 @@ pub fn complete<R: Reader + Copy, S: EvaluationStorage<R>, P: Process<R>>(
     Ok(())
 }
 
-/// Goes on with the process's answer to the request.
+/// Resumes with the process's answer to the request.
 fn answer<R: Reader + Copy, S: EvaluationStorage<R>, P: Process<R>>(
     evaluation: &mut Evaluation<R, S>,
     request: EvaluationResult<R>,
@@ -127,7 +127,7 @@ fn answer<R: Reader + Copy, S: EvaluationStorage<R>, P: Process<R>>(
     }
 }
 
-/// Evaluates with 0 for every answer, and `nothing` for every expression; how many requests that makes.
+/// Evaluates with 0 as every answer, and `nothing` as every expression. Returns the number of requests.
 pub fn count_requests<R: Reader + Copy, S: EvaluationStorage<R>>(
     evaluation: &mut Evaluation<R, S>,
     nothing: R,
@@ -143,7 +143,7 @@ pub fn count_requests<R: Reader + Copy, S: EvaluationStorage<R>>(
     Ok(asked)
 }
 
-/// Goes on with 0, or with `nothing`.
+/// Resumes with 0, or with `nothing`.
 fn answer_zero<R: Reader + Copy, S: EvaluationStorage<R>>(
     evaluation: &mut Evaluation<R, S>,
     kind: WaitingKind,

@@ -1,12 +1,12 @@
-//! An allocator that refuses memory in turn.
+//! An allocator that refuses one growth.
 
 use std::alloc::{AllocError, Allocator};
 use std::cell::Cell;
 
-/// More growths than any of these evaluations meets.
+/// More growths than any of these evaluations needs.
 pub(crate) const NEVER: u64 = u64::MAX / 2;
 
-/// Hands each call on to another allocator, but for one growth, which it refuses.
+/// Passes each call on to another allocator, except for one growth, which it refuses.
 #[derive(Drop)]
 pub(crate) struct RefusesGrowth<B: Allocator> {
     inner: B,
@@ -15,7 +15,7 @@ pub(crate) struct RefusesGrowth<B: Allocator> {
 }
 
 impl<B: Allocator> RefusesGrowth<B> {
-    /// One that refuses the growth that this many others come before.
+    /// An allocator that refuses one growth, after this many others.
     pub(crate) fn new(inner: B, before: u64) -> Self {
         RefusesGrowth {
             inner,
@@ -23,12 +23,12 @@ impl<B: Allocator> RefusesGrowth<B> {
         }
     }
 
-    /// How many growths are to come before the refused one.
+    /// How many growths are left before the refused one.
     pub(crate) fn left(&self) -> u64 {
         self.before.get()
     }
 
-    /// Whether a growth was refused, and none came after it.
+    /// Whether a growth was refused, and none was asked for after it.
     pub(crate) fn has_refused_last(&self) -> bool {
         self.before.get() == u64::MAX
     }
@@ -39,7 +39,7 @@ impl<B: Allocator> RefusesGrowth<B> {
     }
 }
 
-// Whether this growth is the refused one. No later one is.
+// Whether this growth is the refused one. No later growth is.
 fn is_due(before: &Cell<u64>) -> bool {
     let growths = before.get();
     before.set(growths.wrapping_sub(1));

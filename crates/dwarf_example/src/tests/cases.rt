@@ -1,4 +1,4 @@
-//! Evaluations as data, and what runs them over lists of each kind.
+//! Evaluations as data, and functions that run them over lists of each kind.
 
 ghost use Rattle.std.specs.Prelude.{◌≡◌, ◌<◌, ◌≤◌, [], None};
 ghost use Rattle.dwarf_expr.specs.Rest.{Start};
@@ -18,12 +18,12 @@ use std::process::Abort;
 /// More values, callers, pieces and answers than any case has.
 pub(crate) const MANY: usize = 16;
 
-/// A text and steps, what the calls give, how a replay ends, and where the evaluation then stands.
+/// A text and steps, the results of the calls, the end of a replay, and where the evaluation stands after it.
 #[derive(Clone, Copy)]
 pub(crate) struct Case<'a> {
     pub(crate) text: &'a [u8],
     pub(crate) encoding: Encoding,
-    /// The most values, callers, pieces and answers that are kept, if there is a limit.
+    /// The limits of the lists of values, callers, pieces and answers, if they have one.
     pub(crate) limits: [Option<usize>; 4],
     pub(crate) steps: &'a [Step<&'a [u8]>],
     pub(crate) answers: &'a [Answer<Bytes<'a>>],
@@ -33,7 +33,7 @@ pub(crate) struct Case<'a> {
     pub(crate) value: Option<Value>,
 }
 
-/// All that may be called after a fault.
+/// All calls that are allowed after a fault.
 pub(crate) const LATER: &[Step<&[u8]>] = &[
     Step::Evaluate,
     Step::Evaluate,
@@ -52,7 +52,7 @@ pub(crate) const LATER: &[Step<&[u8]>] = &[
     Step::Evaluate,
 ];
 
-// Lists of fixed capacities.
+// Storage in arrays of fixed capacities.
 struct Arrays<const STACK: usize, const CALLERS: usize, const PIECES: usize>;
 
 impl<
@@ -68,7 +68,7 @@ impl<
     type Result = ArrayVec<Piece<R>, PIECES>;
 }
 
-// Lists on the heap, of which that of the pieces holds an only one itself.
+// Storage on the heap; the list of pieces keeps a single piece in line.
 struct PieceInLine;
 
 impl<R: Reader + Copy> EvaluationStorage<R> for PieceInLine {
@@ -110,7 +110,7 @@ fn steps_of<'a>(alloc: Global, case: &Case<'a>) -> Result<Vec<Step<Bytes<'a>>>, 
     Ok(steps)
 }
 
-// The evaluation stands where the case says.
+// Expects the evaluation to stand where the case says.
 fn expect_rest<'a, S: EvaluationStorage<Bytes<'a>>>(
     rt: &impl Abort,
     eval: &Evaluation<Bytes<'a>, S>,
@@ -125,7 +125,7 @@ fn expect_rest<'a, S: EvaluationStorage<Bytes<'a>>>(
     }
 }
 
-// Takes the steps of the case one by one, up to where a replay of them ends.
+// Takes the steps of the case one by one, up to the one at which a replay of them ends.
 fn expect_steps<'a, S: EvaluationStorage<Bytes<'a>>>(
     rt: &impl Abort,
     eval: &mut Evaluation<Bytes<'a>, S>,
@@ -169,7 +169,7 @@ fn expect_replay<'a, S: EvaluationStorage<Bytes<'a>>, L: ArrayLike<Item = Answer
     expect_rest(rt, eval, case, row);
 }
 
-// Takes the steps of the case one by one, and once more, on the same evaluation, through a replay.
+// Takes the steps of the case one by one, and then replays them on the same evaluation.
 fn expect<'a, S: EvaluationStorage<Bytes<'a>>, L: ArrayLike<Item = Answer<Bytes<'a>>>>(
     rt: &impl Abort,
     mut eval: Evaluation<Bytes<'a>, S>,
@@ -187,7 +187,7 @@ fn expect<'a, S: EvaluationStorage<Bytes<'a>>, L: ArrayLike<Item = Answer<Bytes<
     expect_replay(rt, &mut eval, answers, steps, case, row);
 }
 
-// Over lists of these capacities.
+// Runs the case over lists of these capacities.
 fn expect_over_arrays<
     'a,
     const STACK: usize,
@@ -213,7 +213,7 @@ fn expect_over_arrays<
     expect(rt, eval, answers, steps, case, row);
 }
 
-// Over arrays of the capacities of the case, where each is a constant.
+// Runs the case over arrays of its capacities, each of which is a constant.
 fn expect_over_fixed<'a>(rt: &impl Abort, steps: &[Step<Bytes<'a>>], case: &Case<'a>, row: usize)
     requires some { 0 < case.now.encoding.address_size }
     requires fits { case.now.encoding.address_size ≤ 8 }
@@ -246,7 +246,7 @@ fn capacities(case: &Case<'_>) -> [usize; 4] {
     case.limits.map(|limit| limit.unwrap_or(MANY).min(MANY))
 }
 
-// Over prefixes of slices.
+// Runs the case over prefixes of slices.
 fn expect_over_slices(
     rt: &impl Abort,
     steps: &[Step<Bytes<'static>>],
@@ -273,7 +273,7 @@ fn expect_over_slices(
     expect(rt, eval, answers, steps, case, row);
 }
 
-// With the answers on the heap, or in a slice if the case has a limit for them.
+// Runs the case with the answers on the heap, or in a slice if the case limits them.
 fn expect_with_answers<'a, S: EvaluationStorage<Bytes<'a>>>(
     rt: &impl Abort,
     alloc: Global,
@@ -295,7 +295,7 @@ fn expect_with_answers<'a, S: EvaluationStorage<Bytes<'a>>>(
     }
 }
 
-// On the heap, and so that an only piece takes no memory.
+// Runs the case on the heap, and with storage in which a single piece takes no memory.
 fn expect_on_heap<'a>(
     rt: &impl Abort,
     alloc: Global,

@@ -1,4 +1,4 @@
-//! What tests of evaluations share.
+//! What the tests of evaluations share.
 
 ghost use Rattle.std.specs.Prelude.{◌≡◌, [], None};
 ghost use Rattle.dwarf_expr.specs.Rest.{Start};
@@ -19,18 +19,18 @@ pub(crate) const SMALL: Encoding = Encoding {
     version: 4,
 };
 
-/// A call that is complete.
+/// The result of a call that is complete.
 pub(crate) const COMPLETE: Answer<Bytes<'static>> = Answer(Ok(EvaluationResult::Complete));
 
-/// A list refused an item.
+/// The result of a call in which a list refused an item.
 pub(crate) const FULL: Answer<Bytes<'static>> = Answer(Err(Error::StackFull));
 
-/// The bytes, the lowest of a number first.
+/// The bytes, in little-endian order.
 pub(crate) fn little(text: &[u8]) -> Bytes<'_> {
     EndianSlice::new(text, RunTimeEndian::Little)
 }
 
-/// Replays the steps. What it gives has no contract, since the tests look at it.
+/// Replays the steps. It has no contract, since the tests look at its result.
 pub(crate) fn replayed<R: Reader + Copy, S: EvaluationStorage<R>, L: ArrayLike<Item = Answer<R>>>(
     eval: &mut Evaluation<R, S>,
     steps: &[Step<R>],

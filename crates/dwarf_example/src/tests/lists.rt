@@ -1,4 +1,4 @@
-//! Lists without a limit: those of an evaluation that refuse a push, and those on the heap.
+//! Lists without a limit: one that refuses a push of an evaluation, and those on the heap.
 
 ghost use Rattle.std.specs.Prelude.{◌≡◌, [], None};
 
@@ -10,16 +10,16 @@ use dwarf_expr::value::Value;
 use std::alloc::{Allocator, Global};
 use std::process::Abort;
 
-/// A list without a limit, one push of which is refused.
+/// A list without a limit that refuses one push.
 #[derive(Drop)]
 pub(crate) struct RefusesOne<T> {
     items: Vec<T>,
-    // How many pushes come before the refused one.
+    // How many pushes are left before the refused one.
     before: u64,
 }
 
 impl<T> RefusesOne<T> {
-    /// A new list, which takes this many pushes before the refused one.
+    /// A new list that refuses one push, after this many others.
     pub(crate) fn new(alloc: Global, before: u64) -> Self
         ensures { result.items.items ≡ [] }
     {
@@ -69,8 +69,8 @@ impl<R: Reader + Copy> EvaluationStorage<R> for ListsOfTests {
     type Result = RefusesOne<Piece<R>>;
 }
 
-// Takes 5,000 items, but for one that is handed back if a growth is refused. Emptied, it takes as many in the memory
-// that it has.
+// Pushes 5,000 items. If a growth is refused, that item is handed back. After the list is emptied, it takes as many
+// items without growing.
 fn expect_list<L: ArrayLike<Item = u64>>(
     rt: &impl Abort,
     list: &mut L,
@@ -111,7 +111,7 @@ fn lists_on_the_heap(rt: HostRuntime) {
     assert!(rt; 8 < refused && refused < 18);
 }
 
-// The only item takes no memory until it is handed over. If that is refused, it is still there.
+// The only item takes no memory until the list is handed over. If that is refused, the item is still there.
 #[test]
 fn one_item_in_line(rt: HostRuntime) {
     let memory = RefusesGrowth::new(rt.alloc(), 0);

@@ -10,7 +10,7 @@ use dwarf_expr::base::{
 use dwarf_expr::op::{Expression, Operation};
 use std::process::Abort;
 
-// A literal of two bytes with one to spare.
+// A literal of two bytes, and a third byte after it.
 #[test]
 fn operation_with_a_byte_to_spare(rt: HostRuntime) {
     let mut bytes = little(&[0xa4, 0x07, 0x02, 0xff, 0x7f, 0x9f]);
@@ -22,7 +22,7 @@ fn operation_with_a_byte_to_spare(rt: HostRuntime) {
     assert!(rt; bytes == little(&[0x9f]));
 }
 
-// The vectors have all else that is refused.
+// The refusals that the vectors don't have.
 #[test]
 fn refused_operations(rt: HostRuntime) {
     let cut_off = Operation::parse(&mut little(&[]), SMALL);
@@ -36,7 +36,7 @@ fn refused_operations(rt: HostRuntime) {
     );
 }
 
-// An operation, one that is cut off, and the end; and how far the iterator is after each.
+// An operation, one that is cut off, and the end; and the iterator's offset after each.
 #[test]
 fn iteration(rt: HostRuntime) {
     let expression = Expression(little(&[0x31, 0x93]));
@@ -50,7 +50,7 @@ fn iteration(rt: HostRuntime) {
     assert!(rt; operations.offset_from(&expression) == 2);
 }
 
-// Of the items of an expression there are at most as many as bytes, and the last alone may be a fault.
+// An expression has at most as many items as bytes, and only the last may be a fault.
 fn expect_items(rt: &impl Abort, text: &[u8]) {
     let mut count = 0;
     let mut failed = false;
@@ -83,7 +83,7 @@ fn iteration_of_cut_expressions(rt: HostRuntime) {
     }
 }
 
-// Bytes that are counted in 32 bits, the lowest of a number first.
+// Little-endian bytes, counted in 32 bits.
 #[derive(Clone, Copy, Debug)]
 struct ShortSlice<'a> {
     slice: EndianSlice<'a, LittleEndian>,
@@ -125,14 +125,14 @@ impl<'a> Reader for ShortSlice<'a> {
     }
 }
 
-// The fault of an operation whose offsets have 32 bits.
+// The fault of an operation, if offsets have 32 bits.
 fn short_fault(rt: &impl Abort, text: &[u8], encoding: Encoding) -> Option<Error> {
     assert!(rt; text.len() < 10);
     let slice = EndianSlice::new(text, LittleEndian);
     Operation::parse(&mut ShortSlice { slice }, encoding).err()
 }
 
-// Texts with a number of 33 bits where an offset stands, and one with an offset that fits.
+// Texts with a number of 33 bits in place of an offset, and one with an offset that fits.
 #[test]
 fn offsets_of_32_bits(rt: HostRuntime) {
     let wide = Encoding {

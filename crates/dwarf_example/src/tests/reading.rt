@@ -33,7 +33,7 @@ fn fixed_numbers(rt: HostRuntime) {
     assert!(rt; bytes.ends_with(short.slice()));
 }
 
-// An offset of which this is the largest.
+// Expects `largest` to be the largest offset of this type.
 fn expect_offset<O: ReaderOffset>(rt: &impl Abort, largest: u64) {
     assert!(rt; O::from_u64(largest).is_ok());
     let back = O::from_i16(-2);

@@ -1,4 +1,4 @@
-//! Each byte of an operation that is decoded is read once, and no other byte is.
+//! Each byte of a decoded operation is read once, and no other byte is read.
 
 use crate::tests::evaluation::{SMALL, little, replayed_on_heap};
 use crate::tests::readers::Watched;
@@ -9,12 +9,12 @@ use std::alloc::{AllocError, Global};
 use std::cell::Cell;
 use std::process::Abort;
 
-// The operation of an opcode, if there is one, each byte of whose operands is 01. No operation has the opcode 01.
+// The operation with this opcode, if there is one; each byte of its operands is 01. No operation has the opcode 01.
 fn text_of(opcode: u8) -> [u8; 10] {
     [opcode, 1, 1, 1, 1, 1, 1, 1, 1, 1]
 }
 
-// The iterator reads the bytes of the first operation, or the opcode if no operation has it.
+// Expects the iterator to read the bytes of the first operation, or only the opcode if it is unknown.
 fn expect_item(rt: &impl Abort, text: &[u8]) {
     let read = Cell::new(0);
     let expression = Expression(Watched::new(text, &read));
@@ -28,7 +28,7 @@ fn expect_item(rt: &impl Abort, text: &[u8]) {
     assert!(rt; read.get() == place as u64);
 }
 
-// The iterator reads each byte of an expression.
+// Expects the iterator to read each byte of an expression once.
 fn expect_items(rt: &impl Abort, text: &[u8]) {
     let read = Cell::new(0);
     for item in Expression(Watched::new(text, &read)).operations(SMALL) {
@@ -72,8 +72,8 @@ fn measured(opcode: u8) -> (usize, bool) {
     (text.len().saturating_sub(rest.len()), is_location)
 }
 
-// Evaluates three literals and an operation of the opcode, which is the last that the maximum allows. The operation
-// after a location is read too.
+// Evaluates three literals and an operation with this opcode, the last that the maximum allows. The operation after a
+// location is read too.
 fn expect_evaluation(rt: &impl Abort, alloc: Global, opcode: u8) {
     let text = [0x31, 0x31, 0x31, opcode, 1, 1, 1, 1, 1, 1, 1, 1, 1];
     let read = Cell::new(0);
@@ -95,7 +95,7 @@ fn evaluation_reads_each_byte_once(rt: HostRuntime) {
     }
 }
 
-// Thirty turns of a loop with a register and its piece, a call, a frame address and its piece, and a branch.
+// A loop of thirty turns: a register and its piece, a call, a frame address and its piece, and a branch.
 static LOOP: &[u8] = &[
     0x08, 30, // const1u 30
     0x50, 0x93, 0x04, // reg0, piece 4
@@ -106,7 +106,7 @@ static LOOP: &[u8] = &[
     0x93, 0x04, // piece 4
 ];
 
-// Its 302 operations, which the maximum allows.
+// The steps of the loop's 302 operations, which the maximum allows.
 fn turns<R: Copy>(alloc: Global, callee: R) -> Result<Vec<Step<R>>, AllocError> {
     let mut steps = Vec::new(alloc);
     steps.push(Step::MaxIterations(302))?;

@@ -1,4 +1,4 @@
-//! Each push of an evaluation is refused in turn, and each growth of its lists and of the answers.
+//! Refuses each push of an evaluation in turn, and each growth of its lists and of the answers.
 
 ghost use Rattle.std.specs.Prelude.{◌≡◌, ◌<◌, ◌≤◌, [], None};
 ghost use Rattle.dwarf_expr.specs.Rest.{Start};
@@ -16,8 +16,8 @@ use dwarf_expr::value::Value::{self, Generic};
 use std::alloc::{AllocError, Allocator, Global};
 use std::process::Abort;
 
-// A value, the frame's address, a piece in a register, and a call of this text. At last so many are open, and a piece
-// ends the last.
+// A value, the frame's address, a piece in a register, and a call of this same text. The calls nest, and a piece ends
+// the innermost text.
 static TURN: &[u8] = &[0x31, 0x9c, 0x50, 0x93, 0x01, 0x98, 0x01, 0x00];
 
 const TURNS: u64 = 60;
@@ -25,7 +25,7 @@ const TURNS: u64 = 60;
 // A call of this text.
 const AGAIN: &[u8] = &[0x98, 0x01, 0x00];
 
-// The lists of the values, the callers, the pieces and the answers.
+// The number of lists: of values, callers, pieces and answers.
 const LISTS: usize = 4;
 
 // Forty ones, and their sum.
@@ -45,8 +45,8 @@ const REGISTERS: &[u8] = &[
     0x50, 0x93, 0x01, 0x50, 0x93, 0x01, 0x50, 0x93, 0x01, 0x50, 0x93, 0x01,
 ];
 
-// A text, the steps, what they answer with ample memory, and the value. Then `evaluate` gives `Complete` twice more, and
-// no answer is allowed. Each list is pushed to so often.
+// A text, the steps, their answers with ample memory, the value, and how often each list is pushed to. After the steps
+// `evaluate` gives `Complete` twice more, and no answer is allowed.
 #[derive(Drop)]
 struct Case {
     text: &'static [u8],
@@ -56,12 +56,12 @@ struct Case {
     pushes: [u64; LISTS],
 }
 
-// The expression at offset 1 is wanted.
+// The request for the expression at offset 1.
 const WANTS_CALLEE: Answer<Bytes<'static>> = Answer(Ok(EvaluationResult::RequiresAtLocation(
     DieReference::UnitRef(UnitOffset(1)),
 )));
 
-// Adds all that may be called after a fault.
+// Adds all calls that are allowed after a fault.
 fn push_later(steps: &mut Vec<Step<Bytes<'static>>>) -> Result<(), AllocError> {
     for step in LATER {
         steps.push(read(*step))?;
@@ -69,7 +69,7 @@ fn push_later(steps: &mut Vec<Step<Bytes<'static>>>) -> Result<(), AllocError> {
     Ok(())
 }
 
-// The frame's address has more bits than count, in turns.
+// Nested calls of `TURN`. Every other answer with the frame's address has bits above an address.
 fn nested_turns(alloc: Global) -> Result<Case, AllocError> {
     let cfa = Answer(Ok(EvaluationResult::RequiresCallFrameCfa));
     let mut steps = Vec::new(alloc);
@@ -92,7 +92,7 @@ fn nested_turns(alloc: Global) -> Result<Case, AllocError> {
     })
 }
 
-// The text, these callees one after another, the value, and how often each list is pushed to.
+// The text, the callees in order, the value, and how often each list is pushed to.
 type Calls = (
     &'static [u8],
     &'static [&'static [u8]],
@@ -143,8 +143,8 @@ fn calls(alloc: Global, row: Calls) -> Result<Case, AllocError> {
     })
 }
 
-// The answers of a replay where one push or growth may be refused. They are those of ample memory up to it. The call
-// that meets it gives the fault, and so does each later one.
+// Expects the answers of a replay in which one push or growth may be refused. Up to the refusal they are those with
+// ample memory; from then on each call gives the fault.
 fn expect_answers(
     rt: &impl Abort,
     case: &Case,
@@ -171,7 +171,7 @@ fn expect_answers(
     }
 }
 
-// A fresh evaluation over lists that take so many pushes before the refused one.
+// A fresh evaluation over lists that refuse one push, after this many others.
 fn evaluation<'a>(
     alloc: Global,
     text: &'a [u8],
@@ -191,7 +191,7 @@ fn evaluation<'a>(
     )
 }
 
-// The evaluation is complete, with the value and as many pieces as the case has, or has met a refusal.
+// Expects the evaluation to be complete, with the value and the number of pieces of the case, or to have met a refusal.
 fn expect_end<R: Reader + Copy, S: EvaluationStorage<R>>(
     rt: &impl Abort,
     eval: &Evaluation<R, S>,
@@ -207,8 +207,7 @@ fn expect_end<R: Reader + Copy, S: EvaluationStorage<R>>(
     }
 }
 
-// Replays the case over lists, of which this one refuses the push that so many others come before, if there is such a
-// push.
+// Replays the case. The given list refuses the push after this many others, if there is one.
 fn expect_push(rt: &impl Abort, alloc: Global, case: &Case, list: usize, before: u64)
     requires { list < 4 }
 {
@@ -251,7 +250,7 @@ fn refused_pushes(rt: HostRuntime) -> Result<(), AllocError> {
     Ok(())
 }
 
-// Replays the case on the heap, where an allocator may refuse a growth of the lists, or of the answers.
+// Replays the case on the heap. Its allocators may refuse a growth of the lists or of the answers.
 fn expect_growth<A: Allocator + Copy, B: Allocator>(
     rt: &impl Abort,
     lists: A,
@@ -264,7 +263,7 @@ fn expect_growth<A: Allocator + Copy, B: Allocator>(
     end
 }
 
-// Each growth of the lists on the heap is refused in turn, and each of the answers. None comes after it.
+// Refuses each growth of the lists on the heap in turn, and each of the answers. No growth follows a refused one.
 fn expect_growths(rt: &impl Abort, alloc: Global, case: &Case) {
     for before in 0..40 {
         let lists = RefusesGrowth::new(alloc, before);
@@ -286,7 +285,7 @@ fn refused_growths(rt: HostRuntime) -> Result<(), AllocError> {
     Ok(())
 }
 
-// The first push of the evaluation is refused once it starts anew, so there was none before.
+// Expects the evaluation's first push to be refused after a restart, so that there was none before it.
 fn expect_first_push<R: Reader + Copy, S: EvaluationStorage<R>>(
     rt: &impl Abort,
     mut eval: Evaluation<R, S>,
@@ -301,7 +300,7 @@ fn expect_first_push<R: Reader + Copy, S: EvaluationStorage<R>>(
     assert!(rt; matches!(eval.evaluate(), Err(Error::StackFull)));
 }
 
-// The same on the heap, where each allocator refuses the first growth.
+// The same on the heap: each allocator refuses the first growth.
 fn expect_first_growth<A: Allocator + Copy>(
     rt: &impl Abort,
     first: A,
@@ -318,7 +317,7 @@ fn expect_first_growth<A: Allocator + Copy>(
     expect_first_push(rt, eval, text, encoding);
 }
 
-// An evaluation takes no memory when it is made and restarted.
+// Expects an evaluation to take no memory when it is made and when it is restarted.
 fn expect_beginning(rt: &impl Abort, alloc: Global, text: &[u8], encoding: Encoding) {
     assert!(rt; 0 < encoding.address_size && encoding.address_size <= 8);
     let eval = evaluation(alloc, text, encoding, [0; LISTS]);

@@ -1,4 +1,4 @@
-//! A test of the end of a replay, from which the caller goes on by hand.
+//! A test of going on by hand after a replay.
 
 ghost use Rattle.std.specs.Prelude.{◌≡◌, None};
 ghost use Rattle.dwarf_expr.specs.Rest.{Start};
@@ -13,7 +13,7 @@ use dwarf_expr::value::Value::Generic;
 use std::alloc::Global;
 use std::process::Abort;
 
-// What was set before a replay counts, and a step that isn't allowed changes nothing.
+// Settings from before a replay hold, and a step that isn't allowed changes nothing.
 fn expect_misplaced<R: Reader + Copy, S: EvaluationStorage<R>>(
     rt: &impl Abort,
     alloc: Global,
@@ -27,7 +27,7 @@ fn expect_misplaced<R: Reader + Copy, S: EvaluationStorage<R>>(
     assert!(rt; matches!(end, Replayed::Misplaced(1)));
 }
 
-// It waits for the address of the frame, and is given it.
+// Expects a request for the address of the frame, and answers it.
 fn expect_goes_on<R: Reader + Copy, S: EvaluationStorage<R>>(
     rt: &impl Abort,
     eval: &mut Evaluation<R, S>,
@@ -39,7 +39,7 @@ fn expect_goes_on<R: Reader + Copy, S: EvaluationStorage<R>>(
     assert!(rt; eval.value_result() == Some(Generic(0x7000)));
 }
 
-// The pieces are handed over.
+// Expects the pieces to be handed over.
 fn expect_piece<R: Reader + Copy>(rt: &impl Abort, eval: Evaluation<R, StoreOnHeap<Global>>) {
     assert!(rt; eval.status() == Status::Complete);
     let pieces = eval.result();

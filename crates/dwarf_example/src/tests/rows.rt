@@ -10,7 +10,7 @@ use dwarf_expr::value::Value::{Generic, U16};
 use dwarf_expr::value::ValueType;
 use std::alloc::AllocError;
 
-// No steps, over lists without a limit.
+// A case with no steps, over lists without a limit.
 const FRESH: Case<'static> = Case {
     text: &[],
     encoding: SMALL,
@@ -23,19 +23,19 @@ const FRESH: Case<'static> = Case {
     value: None,
 };
 
-// Ends with a refused item.
+// A case that ends with a refused item.
 const REFUSED: Case<'static> = Case {
     status: Status::Failed(Error::StackFull),
     ..FRESH
 };
 
-// Ends with no value where one is needed.
+// A case that ends with no value where one is needed.
 const WITHOUT_VALUE: Case<'static> = Case {
     status: Status::Failed(Error::NotEnoughStackItems),
     ..FRESH
 };
 
-// Is complete.
+// A case that is complete.
 const DONE: Case<'static> = Case {
     status: Status::Complete,
     ..FRESH
@@ -45,7 +45,7 @@ const NO_VALUE: Answer<Bytes<'static>> = Answer(Err(Error::NotEnoughStackItems))
 
 const WANTS_CFA: Answer<Bytes<'static>> = Answer(Ok(EvaluationResult::RequiresCallFrameCfa));
 
-// The expression at offset 1 of the unit is wanted, and that at offset 5.
+// The requests for the expressions at offsets 1 and 5 of the unit.
 const WANTS_1: Answer<Bytes<'static>> = Answer(Ok(EvaluationResult::RequiresAtLocation(
     DieReference::UnitRef(UnitOffset(1)),
 )));
@@ -57,17 +57,17 @@ const WANTS_5: Answer<Bytes<'static>> = Answer(Ok(EvaluationResult::RequiresAtLo
 // A call of the expression at offset 1.
 const AGAIN: &[u8] = &[0x98, 0x01, 0x00];
 
-// A call, and a piece of four bytes where it leads to.
+// A call, and a piece of four bytes at the place that it gives.
 const CALLED_PIECE: &[u8] = &[0x98, 0x05, 0x00, 0x93, 0x04];
 
-// Its operations are as many as the maximum.
+// As many operations as the maximum.
 const CALLED_REGISTER: &[Step<&[u8]>] = &[
     Step::MaxIterations(2),
     Step::Evaluate,
     Step::AtLocation(&[0x50]),
 ];
 
-// A piece of four bytes at address 1, and a call, which gives one in register 0.
+// A piece of four bytes at address 1, and a call, which gives a piece in register 0.
 const PIECES: &[u8] = &[0x31, 0x93, 0x04, 0x98, 0x05, 0x00];
 
 const CALLED_PIECES: &[Step<&[u8]>] = &[Step::Evaluate, Step::AtLocation(&[0x50, 0x93, 0x04])];
@@ -75,7 +75,7 @@ const CALLED_PIECES: &[Step<&[u8]>] = &[Step::Evaluate, Step::AtLocation(&[0x50,
 // A loop that pushes 0.
 const ENDLESS: &[u8] = &[0x30, 0x2f, 0xfc, 0xff];
 
-// All of a variable.
+// A piece that is the whole variable.
 const WHOLE: Piece<Bytes<'static>> = Piece {
     size_in_bits: None,
     bit_offset: None,
@@ -326,8 +326,8 @@ static ROWS: [Case<'static>; 29] = [
         answers: &[FULL; 15],
         ..REFUSED
     },
-    // Asks for an answer of each kind, but for an expression's value at the function's entry, and adds the answers up.
-    // Each is another power of two.
+    // Asks for an answer of each kind, except for an expression's value at the function's entry, and adds the answers
+    // up. Each answer is a different power of two.
     Case {
         text: &[
             0x31, 0x06, 0x70, 0x00, 0x22, 0xed, 0x01, 0x01, 0x22, 0x91, 0x00, 0x22, 0x35, 0x9b,
@@ -390,7 +390,7 @@ fn evaluations(rt: HostRuntime) -> Result<(), AllocError> {
     Ok(())
 }
 
-// Nowhere is the only location that is empty.
+// Only the location that is nowhere is empty.
 #[test]
 fn empty_location(rt: HostRuntime) {
     assert!(rt; Location::<Bytes<'_>>::Empty.is_empty());

@@ -1,16 +1,16 @@
--- What is printed after the replies of an evaluation, and the status that the program ends with.
+-- What is printed after the replies of an evaluation, and the program's exit status.
 use Rattle.std.specs.Prelude.{ℕ, ◌+◌, ◌++◌, codes, decimal, List, [], ◌∷◌, Option}
 use Rattle.dwarf_value.specs.declared.types.Value.{Value}
 use Rattle.dwarf_meaning.specs.Locations.{Piece}
 use Rattle.dwexpr.specs.Lines.{piece_lines, value_line}
 use Rattle.dwexpr.specs.Writing.{line}
 
--- lines, and the status: 0 if all was done, 1 if it failed, 2 if the words or the lines are wrong
+-- lines, and the status: 0 if all was done, 1 if something failed, 2 if the words or the lines are wrong
 pub record Ending : Type 0 where
   pub text : List ℕ
   pub status : ℕ
 
--- the words aren't of their form
+-- the words aren't in their form
 abbrev pub bad_words : Ending
 bad_words = record { text = line (codes "bad words") []; status = 2 }
 
@@ -26,7 +26,7 @@ no_input = record { text = []; status = 1 }
 abbrev pub bad_step : (number : ℕ) → Ending
 bad_step number = record { text = line (codes "bad step") (decimal number ∷ []); status = 2 }
 
--- the step at this index, from 0, isn't allowed: its line, from 1
+-- the step at this index, from 0, isn't allowed; its line counts from 1
 abbrev pub misplaced_step : (index : ℕ) → Ending
 misplaced_step index = record { text = line (codes "misplaced") (decimal (index + 1) ∷ []); status = 2 }
 

@@ -10,14 +10,14 @@ use Rattle.dwexpr.specs.Lines.{reply_lines}
 use Rattle.dwexpr.specs.StepLines.{lines_in, steps_in}
 use Rattle.dwexpr.specs.Endings.{Ending, bad_step, complete_ending, misplaced_step, no_memory}
 
--- what comes out, after the replies: pieces and a value, the status of a fault, or nothing
+-- what follows the replies, by the outcome: pieces and a value, or the status of a fault, or nothing
 abbrev pub outcome_ending : Option Outcome → Ending
 outcome_ending None = record { text = []; status = 0 }
 outcome_ending (Some (RequestOutcome request positions)) = record { text = []; status = 0 }
 outcome_ending (Some (FaultOutcome fault)) = record { text = []; status = 1 }
 outcome_ending (Some (CompleteOutcome pieces value)) = complete_ending pieces value
 
--- the replies, one a line, and what is after them
+-- the replies, one per line, and the ending after them
 abbrev pub after_replies : List Reply → Ending → Ending
 after_replies replies ending = record ending { text = reply_lines replies ++ ending.text }
 
@@ -27,7 +27,7 @@ IsCall Evaluate = Unit {0}
 IsCall (Resume answer) = Unit {0}
 IsCall _ = ⊥
 
--- how it ends, by the step that comes next: there is none; it isn't allowed; or there was no memory for its reply
+-- how the evaluation ends, by the next step: there is none; it isn't allowed; or there was no memory for its reply
 pub data EndsAt (index : ℕ) (now : Log) (outcome : Option Outcome) : (next : Option Step) → Ending → Type 0 where
   all_done : EndsAt index now outcome None (outcome_ending outcome)
   not_allowed : {step : Step} → (Allows now outcome step → ⊥) → EndsAt index now outcome (Some step)
@@ -35,7 +35,8 @@ pub data EndsAt (index : ℕ) (now : Log) (outcome : Option Outcome) : (next : O
   without_memory : {step : Step} → Allows now outcome step → IsCall step
       → EndsAt index now outcome (Some step) no_memory
 
--- the steps before some index were done, for some push that memory was refused to, or for none, and it ended there
+-- the steps before some index were done, with one push refused for want of memory or with none, and the evaluation
+-- ended there
 pub record EvaluatesSteps (setup : Setup) (text : Text) (log : Log) (steps : List Step) (ending : Ending)
     : Type 0 where
   pub refusal : Refusal
@@ -47,12 +48,12 @@ pub record EvaluatesSteps (setup : Setup) (text : Text) (log : Log) (steps : Lis
   pub ends : EndsAt index now (outcome_of setup refusal text now) (slice_get steps index) last
   pub ending_is : ending ≡ after_replies replies last
 
--- what lines come to that say these steps, or of which one says none
+-- the ending of lines that spell these steps, or of which one spells none
 abbrev pub EvaluatesSaid : Setup → Text → Result (List Step) ℕ → Ending → Type 0
 EvaluatesSaid setup text (Ok steps) ending = EvaluatesSteps setup text empty_log steps ending
 EvaluatesSaid setup text (Err number) ending = ending ≡ bad_step number
 
--- the same of an input, with no limit of any list; or there was no memory for its steps
+-- the ending of an input, with no limit on any list; or there was no memory for its steps
 abbrev pub EvaluatesLines : Encoding → Text → (input : List ℕ) → Ending → Type 0
 EvaluatesLines encoding text input ending =
     EvaluatesSaid (setup_of encoding 64 None None None) text (steps_in text.is_big (lines_in input)) ending

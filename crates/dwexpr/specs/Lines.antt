@@ -14,7 +14,7 @@ use Rattle.dwexpr.specs.Writing.{bytes_word, hexadecimal, line, value_word}
 
 -- ---- faults
 
--- a fault's name, and the number that it carries
+-- the name of a fault, and the number that it carries
 abbrev pub fault_words : Fault → List (List ℕ)
 fault_words (fault.UnexpectedEof id) = codes "UnexpectedEof" ∷ []
 fault_words fault.BadUnsignedLeb128 = codes "BadUnsignedLeb128" ∷ []
@@ -66,15 +66,15 @@ request_line (RequiresIndexedAddress index relocate) =
     line (codes "indexed") (decimal index ∷ (if relocate then codes "relocate" else codes "keep") ∷ [])
 request_line (RequiresBaseType base_type) = line (codes "type") (decimal base_type ∷ [])
 
--- what a call replies
+-- the line of a reply
 abbrev pub reply_line : Reply → List ℕ
 reply_line CompleteReply = line (codes "complete") []
 reply_line (RequestReply request) = request_line request
 reply_line (FaultReply fault) = fault_line fault
 
--- ---- what comes out
+-- ---- pieces and values
 
--- where a piece is, or what it holds
+-- where a piece is, or what it contains
 abbrev pub location_words : Location → List (List ℕ)
 location_words Empty = codes "empty" ∷ []
 location_words (InRegister register) = codes "register" ∷ decimal register ∷ []

@@ -68,8 +68,8 @@ operation_name (op.WasmGlobal _) = codes "WasmGlobal"
 operation_name (op.WasmStack _) = codes "WasmStack"
 operation_name (op.VariableValue _) = codes "VariableValue"
 
--- The operations of a splitting from this place on, one a line: its place, its bytes and its name; and then the fault,
--- if there is one.
+-- The operations of a splitting from this place on, one per line: the place, the bytes and the name of each; and then
+-- the fault, if there is one.
 abbrev pub listing : {context : Context} {bytes : List ℕ} {operations : List Operation} {fault : Option Fault}
     → (place : ℕ) → Splitting context bytes operations fault → Ending
 listing place ends = record { text = []; status = 0 }
@@ -79,7 +79,7 @@ listing place (goes_on front rest operation operations fault spells more) =
     let after = listing (place + length front) more in
     record after { text = line (decimal place) (bytes_word front ∷ operation_name operation ∷ []) ++ after.text }
 
--- the bytes split into the operations that are listed
+-- the listed operations are those into which the bytes split
 abbrev pub ListsOperations : Context → (place : ℕ) → List ℕ → Ending → Type 0
 ListsOperations context place bytes ending =
     (operations : List Operation) × (fault : Option Fault) × (splitting : Splitting context bytes operations fault)

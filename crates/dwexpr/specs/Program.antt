@@ -1,4 +1,4 @@
--- What the program ends with, by its words and its input.
+-- The ending of the program, by its words and its input.
 use Rattle.std.specs.Prelude.{ℕ, ◌≡◌, ◌⊎◌, List, Option, Some, None, IfSome}
 use Rattle.std.specs.Io.KnownBytes.{Appends}
 use Rattle.dwarf_base.specs.ByteOrder.{is_big_of}
@@ -13,13 +13,14 @@ use Rattle.dwexpr.specs.Writing.{AppendsFront}
 use Rattle.dwexpr.specs.declared.words.Command.{Command}
 use Rattle.dwexpr.specs.declared.words.Command.TheVariants.{Ops, Eval}
 
--- an input was read whole, which is what the reader had left if that is known; or it wasn't
+-- the whole input was read, which is what the reader had left, if that is known; or a read failed, or memory was
+-- refused
 abbrev pub EvaluatesInput : Encoding → Text → (left : Option (List ℕ)) → Ending → Type 0
 EvaluatesInput encoding text left ending =
     ((input : List ℕ) × IfSome left (λ bytes. input ≡ bytes) × EvaluatesLines encoding text input ending)
     ⊎ ((ending ≡ no_input) ⊎ (ending ≡ no_memory))
 
--- what a command ends with
+-- the ending of a command
 abbrev pub EndsCommand : Command → Invocation → (left : Option (List ℕ)) → Ending → Type 0
 EndsCommand Ops asked left ending =
     ListsOperations (context_of asked.reading.encoding 64 (is_big_of asked.reading.order)) 0 asked.bytes ending
@@ -27,16 +28,16 @@ EndsCommand Eval asked left ending =
     EvaluatesInput asked.reading.encoding
     (record { bytes = asked.bytes; is_big = is_big_of asked.reading.order }) left ending
 
--- what words end with that ask for this, or are bad: there may be no memory for their bytes
+-- the ending of an invocation, or of bad words; memory for the bytes of the words may be refused
 abbrev pub EndsInvocation : Option Invocation → (left : Option (List ℕ)) → Ending → Type 0
 EndsInvocation None left ending = ending ≡ bad_words
 EndsInvocation (Some asked) left ending = EndsCommand asked.command asked left ending ⊎ (ending ≡ no_memory)
 
--- what the program ends with, for these words
+-- the ending of the program, for these words
 abbrev pub EndsFor : (words : List (List ℕ)) → (left : Option (List ℕ)) → Ending → Type 0
 EndsFor words left ending = EndsInvocation (invocation_in words) left ending
 
--- all was written, and the status is the ending's; or a front was, if a write was refused, and it is 1
+-- all was written, and the status is the ending's; or a write was refused after a prefix, and the status is 1
 abbrev pub Exits : (old new : Option (List ℕ)) → Ending → (status : ℕ) → Type 0
 Exits old new ending status =
     (Appends old new ending.text × (status ≡ ending.status)) ⊎ (AppendsFront old new ending.text × (status ≡ 1))

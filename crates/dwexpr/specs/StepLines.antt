@@ -19,7 +19,7 @@ use Rattle.dwexpr.specs.Words.{bytes_in}
 
 -- ---- numbers
 
--- one digit of the base or more, of either case
+-- one or more digits of the base, of either case
 abbrev pub numeral_in : (base : ℕ) → List ℕ → Option ℕ
 numeral_in base [] = None
 numeral_in base (digit ∷ digits) =
@@ -29,18 +29,18 @@ numeral_in base (digit ∷ digits) =
 abbrev pub below : (bits : ℕ) → ℕ → Option ℕ
 below bits number = if nat_lt number (2 ^ bits) then Some number else None
 
--- N: decimal digits, or `0x` and hexadecimal ones, that say a number of at most 64 bits
+-- N: decimal digits, or `0x` and hexadecimal digits, that spell a number of at most 64 bits
 abbrev pub number_in : List ℕ → Option ℕ
 number_in word =
     option_and_then (below 64) (if starts_with nat_eq word (codes "0x") then numeral_in 16 (drop 2 word)
     else numeral_in 10 word)
 
--- an integer of this many bits, one of them the sign's
+-- an integer of this many bits, including the sign
 abbrev pub within : (bits : ℕ) → ℤ → Option ℤ
 within bits (pos n) = if nat_lt n (2 ^ (bits - 1)) then Some (pos n) else None
 within bits (negsuc n) = if nat_lt n (2 ^ (bits - 1)) then Some (negsuc n) else None
 
--- N of a signed type: decimal digits, after a minus sign (45) or none, that say an integer of at most 64 bits
+-- N of a signed type: decimal digits, perhaps after a minus sign (45), that spell an integer of at most 64 bits
 abbrev pub integer_in : List ℕ → Option ℤ
 integer_in word =
     option_and_then (within 64)
@@ -68,7 +68,7 @@ value_of_type number type.U32 = option_map value.U32 (option_and_then (below 32)
 value_of_type number type.I64 = option_map value.I64 (integer_in number)
 value_of_type number type.U64 = option_map value.U64 (number_in number)
 
--- what stands before the first such byte, and after it
+-- what stands before the first byte of this kind, and what stands after it
 abbrev pub cut_at : (byte : ℕ) → List ℕ → Option (List ℕ × List ℕ)
 cut_at byte word =
     if nat_lt (position_or_len (λ b. b == byte) word) (length word)
@@ -80,8 +80,8 @@ value_in word = option_and_then (λ parts. option_and_then (value_of_type parts.
 
 -- ---- lines
 
--- the first line, and what follows it: a line ends at a line feed (10), which a carriage return may precede, or with
--- the input
+-- the first line and the rest: a line ends at a line feed (10), perhaps after a carriage return, or at the end of the
+-- input
 abbrev pub first_line : List ℕ → List ℕ × List ℕ
 first_line input = option_map_or (λ parts. (strip_carriage_return parts.0, parts.1)) (cut_at 10 input) (input, [])
 
@@ -92,13 +92,13 @@ lines_within (suc most) [] = []
 lines_within (suc most) (byte ∷ input) =
     let first = first_line (byte ∷ input) in first.0 ∷ lines_within most first.1
 
--- all of them: no more than there are bytes
+-- all lines; there are no more than there are bytes
 abbrev pub lines_in : List ℕ → List (List ℕ)
 lines_in input = lines_within (length input) input
 
 -- ---- steps
 
--- the kind of request that the answer of this name is for
+-- the kind of request that the answer with this name answers
 abbrev pub answer_kind_in : List ℕ → Option WaitingKind
 answer_kind_in name =
     lookup (bytes_eq name) ((codes "memory", kind.Memory) ∷ (codes "register", kind.Register)
@@ -118,7 +118,7 @@ answer_step_in big kind.AtLocation word =
 answer_step_in big kind.BaseType word = option_map (λ t. Resume (BaseTypeAnswer t)) (type_in word)
 answer_step_in big other word = option_map (λ n. Resume (NumberAnswer other n)) (number_in word)
 
--- the step of this name and word
+-- the step with this name and word
 abbrev pub named_step_in : (big : Bool) → (name word : List ℕ) → Option Step
 named_step_in big name word =
     if bytes_eq name (codes "initial") then option_map InitialValue (number_in word)
@@ -132,11 +132,11 @@ text_step_in big line =
     if bytes_eq line (codes "evaluate") then Some Evaluate
     else option_and_then (λ parts. named_step_in big parts.0 parts.1) (cut_at 32 line)
 
--- the same of a line that is UTF-8
+-- the same for a line that is UTF-8
 abbrev pub step_in : (big : Bool) → List ℕ → Option Step
 step_in big line = if is_utf8 line then text_step_in big line else None
 
--- a line's step, and then those of the lines after it
+-- the step of a line, and then the steps of the lines after it
 abbrev pub said_then : Option Step → Result (List Step) ℕ → Result (List Step) ℕ
 said_then None more = Err 1
 said_then (Some step) (Ok steps) = Ok (step ∷ steps)

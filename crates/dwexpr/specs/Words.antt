@@ -13,7 +13,7 @@ use Rattle.dwexpr.specs.declared.words.Reading.{Reading}
 
 -- ---- HEX
 
--- the bytes of a word: none of the word `-`, and else those of a positive even number of digits
+-- the bytes of a word: none for `-`, else one for each pair of hexadecimal digits, of which there is at least one
 abbrev pub bytes_in : List ℕ → Option (List ℕ)
 bytes_in [] = None
 bytes_in (byte ∷ []) = if byte == 45 then Some [] else None
@@ -31,15 +31,15 @@ address_size_in word =
     lookup (bytes_eq word) ((codes "1", 1) ∷ (codes "2", 2) ∷ (codes "3", 3) ∷ (codes "4", 4) ∷ (codes "5", 5)
     ∷ (codes "6", 6) ∷ (codes "7", 7) ∷ (codes "8", 8) ∷ [])
 
--- OFFSET: the size of an offset in bytes, which the format sets
+-- OFFSET: the size of an offset in bytes, which gives the format
 abbrev pub format_in : List ℕ → Option Format
 format_in word = lookup (bytes_eq word) ((codes "4", Dwarf32) ∷ (codes "8", Dwarf64) ∷ [])
 
--- VERSION: that of DWARF
+-- VERSION: the version of DWARF
 abbrev pub version_in : List ℕ → Option ℕ
 version_in word = lookup (bytes_eq word) ((codes "2", 2) ∷ (codes "3", 3) ∷ (codes "4", 4) ∷ (codes "5", 5) ∷ [])
 
--- ORDER: that of bytes
+-- ORDER: the byte order
 abbrev pub order_in : List ℕ → Option RunTimeEndian
 order_in word = lookup (bytes_eq word) ((codes "le", Little) ∷ (codes "be", Big) ∷ [])
 
@@ -49,14 +49,14 @@ reading_of (Some size) (Some format) (Some version) (Some order) =
     Some (record { encoding = record { address_size = size; format = format; version = version }; order = order })
 reading_of _ _ _ _ = None
 
--- how the bytes are to be read
+-- how the bytes are read, by the four words about that
 abbrev pub reading_in : (size offsets version order : List ℕ) → Option Reading
 reading_in size offsets version order =
     reading_of (address_size_in size) (format_in offsets) (version_in version) (order_in order)
 
 -- ---- all words
 
--- what is asked for: what is to be done, with which bytes, and how they are to be read
+-- what the words ask for: a command, the bytes, and how they are read
 pub record Invocation : Type 0 where
   pub command : Command
   pub reading : Reading

@@ -1,11 +1,11 @@
--- What is handed to a writer: bytes, words and lines.
+-- What a writer is given: bytes, words and lines.
 use Rattle.std.specs.Prelude.{ℕ, ◌≡◌, codes, false, List, [], ◌∷◌, ◌++◌, ◌/◌, ◌%◌, Option, decimal}
 use Rattle.std.specs.Fmt.{digit_glyph, digits, signed_decimal}
 use Rattle.std.specs.Io.KnownBytes.{Appends}
 use Rattle.dwarf_value.specs.declared.types.Value.{Value}
 use Rattle.dwarf_value.specs.declared.types.Value.TheVariants as value
 
--- the known bytes grew by a front of the text
+-- the known bytes grew by a prefix of the text
 pub record AppendsFront (old new : Option (List ℕ)) (text : List ℕ) : Type 0 where
   pub front : List ℕ
   pub rest : List ℕ
@@ -30,7 +30,7 @@ value_word (value.U32 number) = codes "u32:" ++ decimal number
 value_word (value.I64 number) = codes "i64:" ++ signed_decimal number
 value_word (value.U64 number) = codes "u64:" ++ decimal number
 
--- two lower case digits a byte
+-- two lower case digits per byte
 abbrev pub pairs : List ℕ → List ℕ
 pairs [] = []
 pairs (byte ∷ bytes) = digit_glyph false (byte / 16) ∷ digit_glyph false (byte % 16) ∷ pairs bytes
@@ -42,7 +42,7 @@ bytes_word (byte ∷ bytes) = pairs (byte ∷ bytes)
 
 -- ---- lines
 
--- each further word after a blank (32), and a line feed (10)
+-- a blank (32) before each further word, and a line feed (10)
 abbrev pub ending : List (List ℕ) → List ℕ
 ending [] = 10 ∷ []
 ending (word ∷ words) = 32 ∷ (word ++ ending words)

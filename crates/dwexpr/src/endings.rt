@@ -17,7 +17,7 @@ pub(crate) const FAILED: u8 = 1;
 /// The status if the words or the lines are wrong.
 const MISUSED: u8 = 2;
 
-/// Prints that the words are not those of the program.
+/// Prints that the words aren't in the program's form.
 pub(crate) fn bad_words<W: Write>(output: &mut W) -> io::Result<u8>
     ensures { WritesEnding (W.contents output.old) (W.contents output.new) endings.bad_words result }
 {
@@ -25,7 +25,7 @@ pub(crate) fn bad_words<W: Write>(output: &mut W) -> io::Result<u8>
     Ok(MISUSED)
 }
 
-/// Prints that there was no memory.
+/// Prints that memory was refused.
 pub(crate) fn no_memory<W: Write>(output: &mut W) -> io::Result<u8>
     ensures { WritesEnding (W.contents output.old) (W.contents output.new) endings.no_memory result }
 {
@@ -33,7 +33,7 @@ pub(crate) fn no_memory<W: Write>(output: &mut W) -> io::Result<u8>
     Ok(FAILED)
 }
 
-/// Prints that the line of this number is no step.
+/// Prints that the line with this number is no step.
 pub(crate) fn bad_step<W: Write>(output: &mut W, number: usize) -> io::Result<u8>
     ensures { WritesEnding (W.contents output.old) (W.contents output.new) (endings.bad_step number)
         result }

@@ -1,6 +1,6 @@
-//! What the program says on standard error.
+//! What the program writes to standard error.
 
-// What the program says on standard error. No contract speaks of it, and what can't be written there is lost.
+// No contract covers what the program writes to standard error. A failed write there is ignored.
 ghost use Rattle.std.specs.Prelude.{◌≡◌};
 
 use crate::steps::{ANSWERS, BadLine, BadStep};
@@ -10,10 +10,10 @@ use std::fmt::{Display, Formatter};
 use std::io::Write;
 use std::{fmt, io};
 
-/// A writer of the program's lines, which may also tell what is wrong.
+/// A writer of the program's lines that can also explain what is wrong.
 pub trait Output: Write {
-    /// Tells why a word or a line is bad, or which read or write failed. This is no part of the lines. Here nobody is
-    /// told.
+    /// Explains why a word or a line is bad, or which read or write failed. The explanation is no part of the lines. By
+    /// default it is dropped.
     fn complain<D: Display + Drop>(&mut self, complaint: D)
         ensures { Self.contents self.new ≡ Self.contents self.old }
     {
@@ -21,10 +21,10 @@ pub trait Output: Write {
     }
 }
 
-/// Each writer that is lent is an output. Nobody is told.
+/// A borrowed writer is an output that drops explanations.
 impl<W: Write> Output for &mut W {}
 
-/// A writer for the lines, and one for what is wrong.
+/// A writer of the lines, and a writer of explanations.
 #[derive(Drop)]
 pub(crate) struct Terminal<O, E> {
     pub(crate) output: O,
@@ -49,10 +49,10 @@ impl<O: Write, E: Write> Output for Terminal<O, E> {
     }
 }
 
-/// How many bytes of a word or a line are shown.
+/// The most bytes of a word or a line that are shown.
 const SHOWN: usize = 60;
 
-/// A word or a line, as it is shown.
+/// A word or a line, as an explanation shows it.
 #[derive(Clone, Copy)]
 struct Shown<'a>(&'a [u8]);
 
@@ -90,7 +90,7 @@ impl Display for BadLine<'_> {
     }
 }
 
-/// What the line may be.
+/// Explains what the line may be.
 impl Display for BadStep {
     fn fmt<W: fmt::Write>(&self, f: &mut Formatter<W>) -> fmt::Result {
         let expected = match *self {

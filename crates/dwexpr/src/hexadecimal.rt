@@ -13,9 +13,9 @@ use std::alloc::Allocator;
 /// Why a word gave no bytes.
 #[derive(Clone, Copy, Debug, PartialEq, Eq)]
 pub enum HexFault {
-    /// It isn't of their form.
+    /// The word isn't `-` or an even number of hexadecimal digits.
     Bad,
-    /// There was no memory for them.
+    /// Memory for the bytes was refused.
     NoMemory,
 }
 
@@ -26,8 +26,8 @@ fn is_hexadecimal(word: &[u8]) -> bool
     word.len() % 2 == 0 && word.iter().all(|byte| byte.is_ascii_hexdigit())
 }
 
-/// The bytes that a word of hexadecimal digits says, of either case; `-` says none. The word is judged before memory is
-/// taken, so `NoMemory` is only answered for a good one.
+/// The bytes of a word of hexadecimal digits, of either case; `-` stands for no bytes. The word is checked before
+/// memory is taken, so `NoMemory` comes only for a good one.
 pub fn bytes_of<A: Allocator>(alloc: A, word: &str) -> Result<Vec<u8, A>, HexFault>
     ensures ok { IfOk result (λ bytes. bytes_in word.now ≡ Some bytes.items) }
     ensures bad { result ≡ Err HexFault.Bad → bytes_in word.now ≡ None }
@@ -51,12 +51,12 @@ pub fn bytes_of<A: Allocator>(alloc: A, word: &str) -> Result<Vec<u8, A>, HexFau
     }
 }
 
-/// Why words or lines gave nothing.
+/// Why words or lines weren't read.
 #[derive(Clone, Copy)]
 pub(crate) enum ReadFault<B> {
-    /// They are bad, in this way.
+    /// They are bad; this says in what way.
     Bad(B),
-    /// There was no memory for what they say.
+    /// Memory for them was refused.
     NoMemory,
 }
 
@@ -68,7 +68,7 @@ impl<B> From<B> for ReadFault<B> {
     }
 }
 
-/// The bytes of a word, or what is said if it isn't of their form.
+/// The bytes of a word, or `bad` if the word isn't in their form.
 pub(crate) fn bytes_or<A: Allocator, B: Drop>(
     alloc: A,
     word: &str,

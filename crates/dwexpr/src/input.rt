@@ -8,7 +8,7 @@ ghost use Rattle.dwexpr.specs.StepLines as spec;
 use std::io;
 use std::io::Read;
 
-/// A reader that knows whether its last read failed.
+/// A reader that remembers whether its last read failed.
 #[derive(Drop)]
 pub(crate) struct WatchedReader<I> {
     pub(crate) reader: I,
@@ -25,16 +25,16 @@ impl<I: Read> Read for WatchedReader<I> {
     }
 }
 
-/// A line of the input, and what follows it.
+/// A line of the input, and the rest of the input.
 #[derive(Clone, Copy)]
 pub(crate) struct Line<'a> {
     /// The line, without its end.
     pub(crate) text: &'a [u8],
-    /// What follows it.
+    /// The rest of the input.
     pub(crate) rest: &'a [u8],
 }
 
-/// The text without a carriage return at its end.
+/// The text without its carriage return, if it ends with one.
 fn without_return(text: &[u8]) -> &[u8]
     ensures { result.now ≡ strip_carriage_return text.now }
 {
@@ -44,14 +44,14 @@ fn without_return(text: &[u8]) -> &[u8]
     }
 }
 
-/// Where the first line feed stands.
+/// The index of the first line feed.
 fn line_feed_in(input: &[u8]) -> Option<usize>
     ensures { result ≡ position (λ byte. byte == 10) input.now }
 {
     input.iter().position(|byte| *byte == b'\n')
 }
 
-/// The first line: up to a line feed, or all of the input if there is none.
+/// The first line: up to a line feed, or the whole input if there is none.
 pub(crate) fn first_line(input: &[u8]) -> Line<'_>
     requires { 0 < length input.now }
     ensures line { (result.text.now, result.rest.now) ≡ spec.first_line input.now }
@@ -69,7 +69,7 @@ pub(crate) fn first_line(input: &[u8]) -> Line<'_>
     }
 }
 
-/// The line at an index; no bytes if there is none.
+/// The line at an index, or no bytes if there is none.
 pub(crate) fn line_at(input: &[u8], index: usize) -> &[u8] {
     let line = input.split(|byte| *byte == b'\n').nth(index);
     without_return(line.unwrap_or(&[]))

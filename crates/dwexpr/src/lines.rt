@@ -19,7 +19,7 @@ use dwarf_value::Value;
 use std::io;
 use std::io::Write;
 
-/// The name of a fault, and the number that it carries.
+/// The name of a fault, and the number that it carries, if it has one.
 fn words_of(error: Error) -> (&'static str, Option<u64>)
     ensures { fault_words (fault_of error)
         ≡ result.0.now ∷ option_map_or (λ number. decimal number ∷ []) result.1 [] }
@@ -49,7 +49,7 @@ fn words_of(error: Error) -> (&'static str, Option<u64>)
     }
 }
 
-/// The line of a fault.
+/// Prints the line of a fault.
 pub(crate) fn print_fault<W: Write>(output: &mut W, error: Error) -> io::Result<()>
     ensures { Prints (W.contents output.old) (W.contents output.new) (fault_line (fault_of error))
         result }
@@ -64,7 +64,7 @@ pub(crate) fn print_fault<W: Write>(output: &mut W, error: Error) -> io::Result<
     }
 }
 
-/// The line of a fault at a place.
+/// Prints the line of a fault at a place.
 pub(crate) fn print_fault_at<W: Write>(output: &mut W, place: u64, error: Error) -> io::Result<()>
     ensures { Prints (W.contents output.old) (W.contents output.new)
         (line (decimal place) (codes "fault" ∷ fault_words (fault_of error))) result }
@@ -90,7 +90,7 @@ fn number_word(number: Option<u64>) -> Word<'static>
     }
 }
 
-/// A space of addresses, or `none`.
+/// An address space, or `none`.
 fn space_word(space: Option<u64>) -> Word<'static>
     ensures { word_text result ≡ option_map_or hexadecimal space (codes "none") }
 {
@@ -100,7 +100,7 @@ fn space_word(space: Option<u64>) -> Word<'static>
     }
 }
 
-/// Whether an address is wanted relocated.
+/// Whether the address has to be relocated.
 fn relocate_word(relocate: bool) -> Word<'static>
     ensures { word_text result ≡ (if relocate then codes "relocate" else codes "keep") }
 {
@@ -111,7 +111,7 @@ fn relocate_word(relocate: bool) -> Word<'static>
     }
 }
 
-/// The line of the request of an expression at an entry.
+/// Prints the line of a request for the expression of an entry.
 fn print_reference<W: Write>(output: &mut W, reference: DieReference<usize>) -> io::Result<()>
     ensures { Prints (W.contents output.old) (W.contents output.new)
         (request_line (RequiresAtLocation (reference_of (λ x. x) reference))) result }
@@ -128,7 +128,7 @@ fn print_reference<W: Write>(output: &mut W, reference: DieReference<usize>) -> 
     }
 }
 
-/// The line of what a call of the evaluation gave, if that isn't a fault.
+/// Prints the line of a result of the evaluation.
 fn print_result<W: Write>(output: &mut W, reply: EvaluationResult<Bytes<'_>>) -> io::Result<()>
     ensures { Prints (W.contents output.old) (W.contents output.new)
         (reply_line (ok_reply slice_text (λ x. x) reply.entry)) result }
@@ -188,7 +188,7 @@ fn print_result<W: Write>(output: &mut W, reply: EvaluationResult<Bytes<'_>>) ->
     }
 }
 
-/// The line of what one call of the evaluation gave.
+/// Prints the line of the result of one call of the evaluation.
 pub(crate) fn print_reply<W: Write>(output: &mut W, answer: Answer<Bytes<'_>>) -> io::Result<()>
     ensures { Prints (W.contents output.old) (W.contents output.new)
         (reply_line (reply_of slice_text (λ x. x) answer.entry.0)) result }
@@ -199,7 +199,7 @@ pub(crate) fn print_reply<W: Write>(output: &mut W, answer: Answer<Bytes<'_>>) -
     }
 }
 
-/// The line of a piece.
+/// Prints the line of a piece.
 pub(crate) fn print_piece<W: Write>(output: &mut W, piece: Piece<Bytes<'_>>) -> io::Result<()>
     ensures { Prints (W.contents output.old) (W.contents output.new)
         (piece_line (piece_of slice_text (λ x. x) piece.entry)) result }
@@ -248,7 +248,7 @@ pub(crate) fn print_piece<W: Write>(output: &mut W, piece: Piece<Bytes<'_>>) -> 
     }
 }
 
-/// The line of the value of a complete evaluation.
+/// Prints the line of the value of a complete evaluation.
 pub(crate) fn print_value_line<W: Write>(output: &mut W, value: Option<Value>) -> io::Result<()>
     ensures { Prints (W.contents output.old) (W.contents output.new) (value_line value) result }
 {

@@ -80,7 +80,7 @@ fn name_of<R: Reader + Copy>(operation: Operation<R>) -> &'static str
     }
 }
 
-/// Prints the operations of the bytes, one a line, up to the first fault.
+/// Prints the operations of the bytes, one per line, up to the first fault.
 pub(crate) fn print_operations<W: Write>(
     output: &mut W,
     bytes: &[u8],

@@ -1,4 +1,4 @@
-//! `dwexpr` evaluates DWARF expressions, one answer a line.
+//! `dwexpr` evaluates DWARF expressions. It prints one answer per line.
 #![tactic(auto)]
 
 mod endings;
@@ -34,7 +34,7 @@ fn main(rt: HostRuntime) -> ExitCode {
         Ok(arguments) => arguments,
         Err(error) => return ExitCode::from(run_without_words(error, &mut terminal)),
     };
-    // The first one is the program's name.
+    // The first word is the program's name.
     let _ = arguments.next();
     let collected: Result<Vec<String>, AllocError> = arguments.collect(rt.alloc());
     ExitCode::from(match collected {

@@ -1,4 +1,4 @@
-//! The program: from its words and its input to its output and its status.
+//! The program: from words and input to output and status.
 
 ghost use Rattle.std.specs.IoError.{error_kind};
 ghost use Rattle.std.specs.Prelude.{◌≡◌, ◌<◌, ◌≤◌, ◌-◌, ◌^◌, length, map, None, string_bytes};
@@ -43,7 +43,7 @@ use std::alloc::Allocator;
 use std::io;
 use std::io::{ErrorKind, Read, Write};
 
-/// Prints what each call of the evaluation gave.
+/// Prints the result of each call of the evaluation.
 fn print_replies<W: Write>(output: &mut W, answers: &[Answer<Bytes<'_>>]) -> io::Result<()>
     ensures { Prints (W.contents output.old) (W.contents output.new)
         (reply_lines (replies_in slice_text (λ x. x) answers.now)) result }
@@ -78,7 +78,7 @@ fn print_complete<W: Write>(
     Ok(DONE)
 }
 
-/// Prints what came out of the evaluation, if it is complete.
+/// Prints the pieces and the value, if the evaluation is complete.
 fn print_outcome<'a, S: EvaluationStorage<Bytes<'a>>, W: Write>(
     output: &mut W,
     evaluation: &Evaluation<Bytes<'a>, S>,
@@ -97,7 +97,7 @@ fn print_outcome<'a, S: EvaluationStorage<Bytes<'a>>, W: Write>(
     }
 }
 
-/// Prints what stands after the answers. A step that isn't allowed is told, with its line.
+/// Prints what comes after the answers. If a step isn't allowed, it explains which line it is.
 fn print_end<A: Allocator + Copy, W: Output>(
     output: &mut W,
     evaluation: &Evaluation<Bytes<'_>, StoreOnHeap<A>>,
@@ -123,7 +123,7 @@ fn print_end<A: Allocator + Copy, W: Output>(
     }
 }
 
-/// Does the steps on the bytes, and prints each answer and what comes out. The lines are those of the steps.
+/// Does the steps on the bytes. Prints each answer, and then the pieces and the value. `lines` are the steps' lines.
 fn evaluate<'a, A: Allocator + Copy, W: Output>(
     alloc: A,
     bytes: &'a [u8],
@@ -153,7 +153,7 @@ fn evaluate<'a, A: Allocator + Copy, W: Output>(
     print_end(output, &evaluation, replayed, lines)
 }
 
-/// Prints why the lines give no steps, and tells which line is bad.
+/// Prints why the lines aren't steps, and explains which line is bad.
 fn refuse_lines<W: Output>(output: &mut W, fault: ReadFault<BadLine<'_>>) -> io::Result<u8>
     ensures { WritesEnding (W.contents output.old) (W.contents output.new)
         (bad_steps fault.entry) result }
@@ -168,7 +168,7 @@ fn refuse_lines<W: Output>(output: &mut W, fault: ReadFault<BadLine<'_>>) -> io:
     }
 }
 
-/// Judges the lines, and evaluates the bytes in the steps that they say.
+/// Reads the lines as steps, and evaluates the bytes in them.
 fn run_lines<'a, A: Allocator + Copy + 'a, W: Output>(
     alloc: A,
     bytes: &'a [u8],
@@ -189,7 +189,7 @@ fn run_lines<'a, A: Allocator + Copy + 'a, W: Output>(
     }
 }
 
-/// Reads the steps, and evaluates the bytes in them.
+/// Reads the input, and evaluates the bytes in its steps.
 fn run_eval<A: Allocator + Copy, I: Read + Drop, W: Output>(
     alloc: A,
     bytes: &[u8],
@@ -205,7 +205,7 @@ fn run_eval<A: Allocator + Copy, I: Read + Drop, W: Output>(
         × WritesEnding (W.contents output.old) (W.contents output.new) ending result }
 {
     let mut lines = Vec::new(alloc);
-    // A failed read and a list that can't grow may both lack memory, so the reader says which of them it was.
+    // A failed read and a list that can't grow may both lack memory. The reader tells which of them it was.
     let mut input = WatchedReader {
         reader,
         failed: false,
@@ -220,7 +220,7 @@ fn run_eval<A: Allocator + Copy, I: Read + Drop, W: Output>(
     }
 }
 
-/// Judges the words, and does what they say.
+/// Checks the words, and does what they ask for.
 fn run_words<A: Allocator + Copy, I: Read + Drop, W: Output>(
     alloc: A,
     words: &[String<A>],
@@ -247,7 +247,7 @@ fn run_words<A: Allocator + Copy, I: Read + Drop, W: Output>(
     }
 }
 
-/// The status of what was printed. A failed write is told.
+/// The status of what was printed. Explains a failed write.
 fn status_of<W: Output>(printed: io::Result<u8>, output: &mut W) -> u8
     ensures status { result ≡ result_unwrap_or printed 1 }
     ensures nothing { W.contents output.new ≡ W.contents output.old }
@@ -269,7 +269,7 @@ fn refuse_words<W: Write>(kind: ErrorKind, output: &mut W) -> io::Result<u8>
     }
 }
 
-/// Answers for words that could not be had: one isn't UTF-8, or there was no memory for them.
+/// Prints why there are no words, and returns the status: a word isn't UTF-8, or memory for them was refused.
 pub(crate) fn run_without_words<W: Output>(error: io::Error, output: &mut W) -> u8
     ensures { Exits (W.contents output.old) (W.contents output.new)
         (without_words (error_kind error)) result }
@@ -279,16 +279,17 @@ pub(crate) fn run_without_words<W: Output>(error: io::Error, output: &mut W) -> 
     status_of(printed, output)
 }
 
-/// Runs the program on the words after its name, and answers its exit status.
+/// Runs the program on the words after its name, and returns its exit status.
 ///
-/// `ops ADDR OFFSET VERSION ORDER HEX` lists the operations of the bytes HEX: the place, the bytes and the name of
-/// each, or the place and the fault if one is met. `eval ADDR OFFSET VERSION ORDER HEX` evaluates the bytes HEX in
-/// the steps that the lines of `input` say: all of them are read and judged first, and then done in order. It prints
-/// a line for each answer and, if the evaluation is complete at the end, its pieces and its value.
+/// `ops ADDR OFFSET VERSION ORDER HEX` lists the operations in the bytes HEX: the place, the bytes and the name of
+/// each, or the place and the fault if there is one. `eval ADDR OFFSET VERSION ORDER HEX` evaluates the bytes HEX in
+/// the steps that the lines of `input` spell. It reads and checks all lines first, and then does their steps in order.
+/// It prints a line for each answer and, if the evaluation is complete at the end, its pieces and its value.
 ///
-/// The status is 0; 1 if the evaluation or the decoding failed, a read or a write failed or there was no memory;
-/// and 2 if the words or a line are bad or a step isn't allowed where it stands. The output is also told which word or
-/// line is wrong, or which read or write failed. Each writer serves as one, lent: `&mut &mut writer`.
+/// The status is 0. It is 1 if the evaluation or the decoding failed, a read or a write failed, or memory was refused.
+/// It is 2 if the words or a line are bad, or a step isn't allowed where it stands. `output` also gets an explanation
+/// of which word or line is wrong, or which read or write failed. Any writer can be the output, if it is borrowed:
+/// `&mut &mut writer`.
 pub fn run<A: Allocator + Copy, I: Read + Drop, W: Output>(
     alloc: A,
     words: &[String<A>],

@@ -1,4 +1,4 @@
-//! The step that a line says.
+//! Steps, as lines spell them.
 
 ghost use Rattle.std.specs.Prelude.{◌≡◌, option_and_then, option_map};
 ghost use Rattle.std.specs.Result.{result_ok};
@@ -23,9 +23,9 @@ use std::alloc::Allocator;
 /// What is wrong with a line.
 #[derive(Clone, Copy)]
 pub(crate) enum BadStep {
-    /// It isn't UTF-8, or begins with the name of no step.
+    /// It isn't UTF-8, or doesn't begin with the name of a step.
     Unknown,
-    /// It is `evaluate` and a word.
+    /// It is `evaluate` with a word after it.
     NotAlone,
     /// Its word is no number.
     Number,
@@ -33,7 +33,7 @@ pub(crate) enum BadStep {
     Maximum,
     /// Its word is no value.
     Value,
-    /// Its word says no bytes.
+    /// Its word spells no bytes.
     Bytes,
     /// Its word is no type.
     Type,
@@ -41,14 +41,14 @@ pub(crate) enum BadStep {
     Misplaced(Status),
 }
 
-/// The number that a word says.
+/// The number that a word spells.
 fn number(word: &str) -> Result<u64, BadStep>
     ensures { result_ok result ≡ number_in word.now }
 {
     number_of(word).ok_or(BadStep::Number)
 }
 
-/// The maximum that a word says.
+/// The maximum that a word spells.
 fn maximum(word: &str) -> Result<u32, BadStep>
     ensures { result_ok result ≡ option_and_then (below 32) (number_in word.now) }
 {
@@ -58,14 +58,14 @@ fn maximum(word: &str) -> Result<u32, BadStep>
     }
 }
 
-/// The value that a word says.
+/// The value that a word spells.
 fn value(word: &str) -> Result<Value, BadStep>
     ensures { result_ok result ≡ value_in word.now }
 {
     value_of(word).ok_or(BadStep::Value)
 }
 
-/// The name of each answer, the form of its word, and the kind of request that it is for.
+/// The name of each answer, the form of its word, and the kind of request that it answers.
 pub(crate) const ANSWERS: [(&str, &str, WaitingKind); 12] = [
     ("memory", "V", WaitingKind::Memory),
     ("register", "V", WaitingKind::Register),
@@ -81,7 +81,7 @@ pub(crate) const ANSWERS: [(&str, &str, WaitingKind); 12] = [
     ("type", "T", WaitingKind::BaseType),
 ];
 
-/// The kind of request that the answer of this name is for.
+/// The kind of request that the answer with this name answers.
 fn kind_of(name: &str) -> Option<WaitingKind>
     ensures { result ≡ spec.answer_kind_in name.now }
 {
@@ -93,8 +93,7 @@ fn kind_of(name: &str) -> Option<WaitingKind>
     None
 }
 
-/// The answer of this kind, with the word that follows its name. A text is read in this order, and kept until the
-/// program ends.
+/// The answer of this kind with this word. A text is read in this byte order, and kept until the program ends.
 fn answer<'t, A: Allocator + 't>(
     alloc: A,
     order: RunTimeEndian,
@@ -122,7 +121,7 @@ fn answer<'t, A: Allocator + 't>(
     }
 }
 
-/// The step of this name, with the word that follows it.
+/// The step with this name and word.
 fn named_step<'t, A: Allocator + 't>(
     alloc: A,
     order: RunTimeEndian,
@@ -141,7 +140,7 @@ fn named_step<'t, A: Allocator + 't>(
     }
 }
 
-/// The step that a text says, in words parted by one space.
+/// The step that a text spells: its words are separated by one space.
 fn text_step<'t, A: Allocator + 't>(
     alloc: A,
     order: RunTimeEndian,
@@ -154,7 +153,7 @@ fn text_step<'t, A: Allocator + 't>(
     }
     match text.split_once(' ') {
         Some((name, word)) => named_step(alloc, order, name, word),
-        // No step has an empty word, so this is bad in the way of its word.
+        // No step has an empty word, so the text is bad in the way of its missing word.
         None => Err(ReadFault::Bad(match named_step(alloc, order, text, "") {
             Err(ReadFault::Bad(fault)) => fault,
             _ => BadStep::Unknown,
@@ -162,7 +161,7 @@ fn text_step<'t, A: Allocator + 't>(
     }
 }
 
-/// The step that a line says.
+/// The step that a line spells.
 fn step_in<'t, A: Allocator + 't>(
     alloc: A,
     order: RunTimeEndian,
@@ -176,17 +175,17 @@ fn step_in<'t, A: Allocator + 't>(
     }
 }
 
-/// A line that says no step, or one that isn't allowed.
+/// A line that spells no step, or one that isn't allowed.
 #[derive(Clone, Copy)]
 pub(crate) struct BadLine<'a> {
-    /// Its number, from 1.
+    /// The number of the line, from 1.
     pub(crate) number: usize,
     pub(crate) text: &'a [u8],
     pub(crate) fault: BadStep,
 }
 
-/// The steps that the lines of the input say, with their texts read in this order. The first line that is none or finds
-/// no memory decides.
+/// The steps that the lines of the input spell; their texts are read in this byte order. The first line that is no step
+/// or has no memory decides.
 pub(crate) fn steps_in<'i, 't, A: Allocator + Copy + 't>(
     alloc: A,
     order: RunTimeEndian,

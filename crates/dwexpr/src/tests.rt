@@ -1,4 +1,4 @@
-//! `run` on a reader and a writer of std, and on a reader and on a writer that fail after each number of bytes.
+//! Tests of `run` with std's readers and writers, and with readers and writers that fail after each number of bytes.
 use crate::program::run;
 use std::alloc::{AllocError, Global};
 use std::io;
@@ -21,7 +21,7 @@ impl Read for Source<'_> {
     }
 }
 
-/// Takes this many bytes, and then fails.
+/// Accepts this many bytes, and then fails.
 #[derive(Drop)]
 struct Sink {
     taken: Vec<u8>,
@@ -44,7 +44,7 @@ impl Write for Sink {
     }
 }
 
-/// The words, the input if it is read, what is printed, and the status.
+/// The words, the input, if it is read, the output and the status.
 struct Row {
     words: &'static str,
     input: Option<&'static str>,
@@ -103,7 +103,7 @@ static ROWS: [Row; 8] = [
     },
 ];
 
-/// The words of a line.
+/// The words in a line.
 fn words_in(alloc: Global, line: &str) -> Result<Vec<String>, AllocError> {
     let mut words = Vec::new(alloc);
     for word in line.split(' ') {
@@ -112,7 +112,7 @@ fn words_in(alloc: Global, line: &str) -> Result<Vec<String>, AllocError> {
     Ok(words)
 }
 
-/// Runs the words, and expects what is printed, and the status.
+/// Runs the words, and expects this output and status.
 fn expect(
     rt: &impl Abort,
     alloc: Global,

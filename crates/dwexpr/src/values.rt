@@ -24,7 +24,7 @@ pub(crate) fn type_of(word: &str) -> Option<ValueType>
     }
 }
 
-/// The value of this type that a number says.
+/// The value of this type that a number spells.
 #[tactic(auto, using(crate::proofs::Reading::narrowed_to_i8, crate::proofs::Reading::narrowed_to_i16, crate::proofs::Reading::narrowed_to_i32, crate::proofs::Reading::narrowed_unsigned))]
 fn typed_value(value_type: ValueType, number: &str) -> Option<Value>
     ensures { result ≡ value_of_type number.now value_type }
@@ -42,7 +42,7 @@ fn typed_value(value_type: ValueType, number: &str) -> Option<Value>
     })
 }
 
-/// The value that a word says: a type, a colon and a number of the type.
+/// The value that a word spells: a type, a colon and a number of the type.
 pub(crate) fn value_of(word: &str) -> Option<Value>
     ensures { result ≡ value_in word.now }
 {

@@ -12,19 +12,19 @@ use std::alloc::Allocator;
 /// What is wrong with the words.
 #[derive(Clone, Copy)]
 pub(crate) enum BadWords<'a> {
-    /// There are this many, and not six.
+    /// There are this many, instead of six.
     Count(usize),
     /// The first one is no command.
     Command(&'a str),
-    /// The second one is no size of an address.
+    /// The second one is no size for an address.
     AddressSize(&'a str),
-    /// The third one is no size of an offset.
+    /// The third one is no size for an offset.
     OffsetSize(&'a str),
     /// The fourth one is no version.
     Version(&'a str),
     /// The fifth one is no byte order.
     Order(&'a str),
-    /// The sixth one says no bytes.
+    /// The sixth one spells no bytes.
     Bytes(&'a str),
 }
 
@@ -57,7 +57,7 @@ fn six_words<A: Allocator>(words: &[String<A>]) -> Result<Words<'_>, BadWords<'_
     })
 }
 
-/// What is to be done with the bytes.
+/// What to do with the bytes.
 #[derive(Clone, Copy, Debug, PartialEq, Eq)]
 pub(crate) enum Command {
     /// List their operations.
@@ -66,7 +66,7 @@ pub(crate) enum Command {
     Eval,
 }
 
-/// What the first word says.
+/// The command that the first word spells.
 fn command_of(word: &str) -> Result<Command, BadWords<'_>>
     ensures { result_ok result ≡ command_in word.now }
 {
@@ -77,7 +77,7 @@ fn command_of(word: &str) -> Result<Command, BadWords<'_>>
     }
 }
 
-/// How the bytes of an expression are to be read.
+/// How the bytes of an expression are read: the size of an address, the format, the version and the byte order.
 #[derive(Clone, Copy, Debug, PartialEq, Eq)]
 pub(crate) struct Reading {
     pub(crate) encoding: Encoding,
@@ -137,7 +137,7 @@ fn order(word: &str) -> Result<RunTimeEndian, BadWords<'_>>
     }
 }
 
-/// How the bytes are to be read, by the four words for it.
+/// How the bytes are read, by the four words about that.
 fn reading_of(words: Words<'_>) -> Result<Reading, BadWords<'_>>
     ensures exact { result_ok result ≡ reading_in words.entry.address_size.now
         words.entry.offset_size.now words.entry.version.now words.entry.order.now }
@@ -166,7 +166,7 @@ pub(crate) struct Invocation<A: Allocator> {
     pub(crate) bytes: Vec<u8, A>,
 }
 
-/// What the words ask for. Memory is taken for their bytes alone, if all words are good.
+/// What the words ask for. Only their bytes take memory, and only if all words are good.
 pub(crate) fn invocation_of<A: Allocator>(
     alloc: A,
     words: &[String<A>],

@@ -1,4 +1,4 @@
-//! A line's words, handed to a writer.
+//! Writes the words of a line.
 
 ghost use Rattle.std.specs.Prelude.{◌≡◌, ◌<◌, ◌≤◌, ◌++◌, false, drop, map, decimal};
 ghost use Rattle.std.specs.Fmt.{digit_glyph, digits, signed_decimal};
@@ -11,10 +11,10 @@ use dwarf_value::Value;
 use std::io;
 use std::io::{ErrorKind, Write};
 
-/// Bytes in the byte order of the words.
+/// Bytes in the byte order that the words ask for.
 pub(crate) type Bytes<'a> = EndianSlice<'a, RunTimeEndian>;
 
-/// Writes the bytes; of `write!` it isn't known what it wrote if a write was refused.
+/// Writes the bytes. `write!` can't be used: after a refused write nothing is known of what it wrote.
 fn put<W: Write>(output: &mut W, bytes: &[u8]) -> io::Result<()>
     ensures { Prints (W.contents output.old) (W.contents output.new) bytes.now result }
 {
@@ -54,7 +54,7 @@ fn digit(number: u64) -> u8
     }
 }
 
-/// Puts the digits of the number at the end of the buffer, and answers where they begin.
+/// Writes the digits of the number to the end of the buffer, and returns the index of the first one.
 #[inline]
 fn place_digits(buffer: &mut [u8; 64], base: u64, number: u64) -> usize
     requires least { 2 ≤ base }
@@ -86,7 +86,7 @@ fn put_digits<W: Write>(output: &mut W, base: u64, number: u64) -> io::Result<()
     put(output, &buffer[start..])
 }
 
-/// Lower case digits after the prefix.
+/// Writes lower case digits after the prefix.
 fn put_number<W: Write>(output: &mut W, prefix: &str, base: u64, number: u64) -> io::Result<()>
     requires least { 2 ≤ base }
     requires most { base ≤ 16 }
@@ -97,7 +97,7 @@ fn put_number<W: Write>(output: &mut W, prefix: &str, base: u64, number: u64) ->
     put_digits(output, base, number)
 }
 
-/// A minus sign if there is one, and decimal digits, after the prefix.
+/// Writes a minus sign, if the number is negative, and decimal digits, after the prefix.
 fn put_integer<W: Write>(output: &mut W, prefix: &str, number: i64) -> io::Result<()>
     ensures { Prints (W.contents output.old) (W.contents output.new)
         (prefix.now ++ signed_decimal number) result }
@@ -126,7 +126,7 @@ fn put_value<W: Write>(output: &mut W, value: Value) -> io::Result<()>
     }
 }
 
-/// Two lower case digits a byte, or `-` for none.
+/// Writes two lower case digits per byte, or `-` for no bytes.
 fn put_bytes<W: Write>(output: &mut W, bytes: Bytes<'_>) -> io::Result<()>
     ensures { Prints (W.contents output.old) (W.contents output.new)
         (bytes_word (slice_bytes bytes.entry)) result }
@@ -144,7 +144,7 @@ fn put_bytes<W: Write>(output: &mut W, bytes: Bytes<'_>) -> io::Result<()>
 /// A word of a line.
 #[derive(Clone, Copy)]
 pub(crate) enum Word<'a> {
-    /// As it stands.
+    /// The name itself.
     Name(&'static str),
     /// In decimal.
     Number(u64),
@@ -154,7 +154,7 @@ pub(crate) enum Word<'a> {
     Hexadecimal(u64),
     /// Its type, a colon and its content.
     Value(Value),
-    /// Two digits a byte.
+    /// In hexadecimal, two digits per byte.
     Bytes(Bytes<'a>),
 }
 
@@ -171,7 +171,7 @@ fn put_word<W: Write>(output: &mut W, word: Word<'_>) -> io::Result<()>
     }
 }
 
-/// The end of a line: each word after a blank, and a line feed.
+/// Writes the end of a line: a blank before each word, and a line feed.
 fn put_ending<W: Write>(output: &mut W, words: &[Word<'_>]) -> io::Result<()>
     ensures { Prints (W.contents output.old) (W.contents output.new)
         (ending (map word_text words.now)) result }
@@ -183,7 +183,7 @@ fn put_ending<W: Write>(output: &mut W, words: &[Word<'_>]) -> io::Result<()>
     put_text(output, "\n")
 }
 
-/// A line: the first word, each further one after a blank, and a line feed.
+/// Writes a line: the first word, a blank before each further one, and a line feed.
 pub(crate) fn put_line<W: Write>(output: &mut W, first: &str, words: &[Word<'_>]) -> io::Result<()>
     ensures { Prints (W.contents output.old) (W.contents output.new)
         (line first.now (map word_text words.now)) result }
@@ -192,7 +192,7 @@ pub(crate) fn put_line<W: Write>(output: &mut W, first: &str, words: &[Word<'_>]
     put_ending(output, words)
 }
 
-/// The same, with a number for the first word.
+/// Writes a line whose first word is a number.
 pub(crate) fn put_numbered_line<W: Write>(
     output: &mut W,
     first: u64,

@@ -1,4 +1,4 @@
--- What a call of an evaluation replies: the nested meaning, and what is left of it.
+-- The reply of a call of an evaluation, by the meaning, and the rest of the evaluation.
 pub use Rattle.dwarf_meaning.specs.Inputs.{fresh_state, input_of, Keeps, with_status, with_object, with_maximum}
 use Rattle.std.specs.Prelude.{ℕ, ◌≡◌, List, [], Option, Some, None, Result, Ok, Err}
 use Rattle.std.specs.Option.{option_map_or}
@@ -18,7 +18,7 @@ use Rattle.dwarf_eval.specs.declared.op.results.EvaluationResult.TheVariants as 
 -- ---- replies
 
 module _ {R O P : Type 0} (text : R → Text) (number : O → ℕ) where
-  -- what a result asks, if it isn't completion
+  -- the request of a result, if it isn't completion
   abbrev pub request_in : EvaluationResult R O P → Option Request
   request_in result.Complete = None
   request_in (result.RequiresMemory address size space type) = Some (RequiresMemory address size space (number type.0))
@@ -36,11 +36,11 @@ module _ {R O P : Type 0} (text : R → Text) (number : O → ℕ) where
   request_in (result.RequiresIndexedAddress index relocate) = Some (RequiresIndexedAddress (number index.0) relocate)
   request_in (result.RequiresBaseType base_type) = Some (RequiresBaseType (number base_type.0))
 
-  -- the reply of a result: what it asks, or completion
+  -- the reply of a result: its request, or completion
   abbrev pub ok_reply : EvaluationResult R O P → Reply
   ok_reply replied = option_map_or RequestReply (request_in replied) CompleteReply
 
-  -- the reply of a call: a result's, or a fault
+  -- the reply of a call: that of its result, or its fault
   abbrev pub reply_of : Result (EvaluationResult R O P) Error → Reply
   reply_of (Ok replied) = ok_reply replied
   reply_of (Err error) = FaultReply (fault_of error)
@@ -52,9 +52,8 @@ IsReplied replied (CompleteStatus value) = replied ≡ CompleteReply
 IsReplied replied (FaultStatus error) = replied ≡ FaultReply (fault_of error)
 IsReplied replied _ = ⊥
 
--- For some refusal, or for none, a call replied as `totals` gives it and counted as many operations; the setup and the
--- settings stay; and as long as no fault was met, the total of the new state is what `totals` gives, for all inputs to
--- come.
+-- With some refusal, or none, a call gave the reply of `totals` and its count of operations. The setup and the settings
+-- stay. If no fault was met, the total of the new state is what `totals` gives, for all further inputs.
 pub record Follows (old : State) (totals : Refusal → List Input → Total) (replied : Reply) (new : State) : Type 0 where
   pub refusal : Refusal
   pub may : MayPick old.setup.limits refusal
@@ -67,15 +66,15 @@ pub record Follows (old : State) (totals : Refusal → List Input → Total) (re
   pub spends : Spends 0 old new
 
 module _ {R O P : Type 0} (text : R → Text) (number : O → ℕ) where
-  -- `evaluate`: at the start it replies the meaning; after that it replies what it replied, and changes nothing; it
-  -- isn't called in a request, nor does anything run between calls
+  -- `evaluate`: at the start it replies the meaning. After the end it replies the same again, and changes nothing. It
+  -- isn't called while a request is open, and nothing runs between calls.
   abbrev pub Evaluates : State → State → Result (EvaluationResult R O P) Error → Status → Type 0
   Evaluates old new replied (Start initial_value) = Follows old (total old) (reply_of text number replied) new
   Evaluates old new replied (CompleteStatus value) = (replied ≡ Ok result.Complete) × (new ≡ old)
   Evaluates old new replied (FaultStatus error) = (replied ≡ Err error) × (new ≡ old)
   Evaluates old new replied _ = ⊥
 
-  -- a resume: it goes on with the input; after a fault it replies that, and changes nothing
+  -- a resume: it goes on with the input; after a fault it gives that fault, and changes nothing
   abbrev pub Resumes : Input → State → State → Result (EvaluationResult R O P) Error → Status → Type 0
   Resumes input old new replied (RequestStatus request on_answer) =
       Follows old (total_after old input) (reply_of text number replied) new

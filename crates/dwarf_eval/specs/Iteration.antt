@@ -1,4 +1,4 @@
--- What iterators over operations give.
+-- What iterators over operations return.
 use Rattle.std.specs.Prelude.{ℕ, ◌≡◌, ◌≢◌, List, [], ◌∷◌, Result, Ok, Err, Option, Some, None}
 use Rattle.std.specs.Iterator.{YieldsFirstBy}
 use Rattle.std.specs.Option.{option_transpose}
@@ -15,18 +15,18 @@ use Rattle.dwarf_eval.specs.declared.op.expressions.OperationIter.{OperationIter
 abbrev pub unread_of : {R P : Type 0} → OperationIter R P → R
 unread_of iterator = iterator.input
 
--- the encoding that it reads by
+-- the encoding by which it reads
 abbrev pub encoding_of : {R P : Type 0} → OperationIter R P → Encoding
 encoding_of iterator = iterator.encoding
 
--- nothing at the end, else what is read, with what is left: after a fault, nothing
+-- the operation that is read, and the bytes after it; at the end no operation; after a fault no bytes
 abbrev pub GivesNext : {X : Type 0} → (X → meaning.Operation) → Result (Option X) Error → (left bytes : List ℕ)
     → Result (meaning.Operation × List ℕ) Fault → Type 0
 GivesNext view (Ok None) left bytes read = (bytes ≡ []) × (left ≡ [])
 GivesNext view (Ok (Some x)) left bytes read = read ≡ Ok (view x, left)
 GivesNext view (Err e) left bytes read = (bytes ≢ []) × (read ≡ Err (fault_of e)) × (left ≡ [])
 
--- the first of the items, with the items that are left
+-- the first of the items, and the items after it
 abbrev pub GivesItem : {X : Type 0} → (X → meaning.Operation) → Result (Option X) Error
     → (left items : List (Result meaning.Operation Fault)) → Type 0
 GivesItem view (Ok None) left items = (items ≡ []) × (left ≡ [])
@@ -38,12 +38,12 @@ abbrev pub item_of : {X : Type 0} → (X → meaning.Operation) → Result X Err
 item_of view (Ok x) = Ok (view x)
 item_of view (Err e) = Err (fault_of e)
 
--- the items that are left: those of the splitting of the bytes that are left
+-- the items that are left: those into which the bytes split that are left
 abbrev pub items_left : {R P : Type 0} → (R → Text) → (offset_bits : ℕ) → OperationIter R P
     → List (Result meaning.Operation Fault)
 items_left text offset_bits iterator = items_at (encoding_of iterator) offset_bits (text (unread_of iterator))
 
--- A step of an iterator: it gives the first of the items that are left, and stands after the bytes of that one.
+-- A step of an iterator: it returns the first item that is left, and moves past the bytes of that item.
 pub record GivesFirst {R P X : Type 0} (text : R → Text) (offset_bits : ℕ) (view : X → meaning.Operation)
     (old : OperationIter R P) (given : Option (Result X Error)) (new : OperationIter R P) : Type 0 where
   pub items : YieldsFirstBy (item_of view) (items_left text offset_bits) old given new

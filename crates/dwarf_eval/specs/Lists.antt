@@ -1,7 +1,7 @@
 -- Lists that may have a limit.
 use Rattle.std.specs.Prelude.{ℕ, ◌<◌, ◌≡◌, List, Option, Some, None, [], max}
 
--- a list of n items has room for one more, as far as its limit goes
+-- the limit allows a list of n items one more
 abbrev pub HasRoom : Option ℕ → ℕ → Type 0
 HasRoom None n = Unit {0}
 HasRoom (Some limit) n = n < limit
@@ -11,22 +11,22 @@ abbrev pub MayRefuse : Option ℕ → ℕ → Type 0
 MayRefuse None n = Unit {0}
 MayRefuse (Some limit) n = n ≡ limit
 
--- a list over lent memory: what it holds, and how many items it can hold
+-- a list over lent memory: its items, and the most items that it can hold
 pub record Lent (X : Type 0) : Type 0 where
   pub items : List X
   pub capacity : ℕ
 
--- a list that may have a limit: what it holds, and the limit
+-- a list that may have a limit: its items, and the limit
 pub record Limited (X : Type 0) : Type 0 where
   pub items : List X
   pub limit : Option ℕ
 
--- the limit of a list that holds one item itself, over another one with this limit
+-- the limit of a list that keeps a single item in line, over another list with this limit
 abbrev pub at_least_one : Option ℕ → Option ℕ
 at_least_one None = None
 at_least_one (Some limit) = Some (max 1 limit)
 
--- the item that a list holds itself, if there is one
+-- the item that a list keeps in line, if there is one
 abbrev pub one_of : {X : Type 0} → Option (List X) → List X
 one_of None = []
 one_of (Some xs) = xs

@@ -9,27 +9,28 @@ use crate::eval::{Status, WaitingKind};
 use crate::op::{EvaluationResult, Expression, Location, Piece};
 use dwarf_base::Reader;
 
-/// Statuses are equal exactly if contracts see the same. It does nothing; its contract is the law.
+/// Statuses are equal exactly if contracts can't tell them apart. It does nothing; its contract states the law.
 pub fn status_equality_laws()
     ensures kind { IsEquality ⟦<WaitingKind as PartialEq>⟧.eq }
     ensures status { IsEquality ⟦<Status as PartialEq>⟧.eq }
 {}
 
-/// Expressions are equal exactly if their readers are. It does nothing; its contract is the law.
+/// Expressions are equal exactly if their readers are. It does nothing; its contract states the law.
 pub fn expression_equality_laws<R: Reader + Eq>()
     ensures { IsEqualityBy ⟦<Expression<R> as PartialEq>⟧.eq
         (λ expression. expression.0) R.PartialEq.eq }
 {}
 
-/// Results are equal exactly if they are seen as the same, as far as readers and offsets are. It does nothing;
-/// its contract is the law.
+/// Results are equal exactly if contracts can't tell them apart, provided that this holds of readers and offsets. It
+/// does nothing; its contract states the law.
 pub fn result_equality_laws<R: Reader + Eq, O: Eq>()
     ensures { (text : R → Text) (number : O → ℕ) → IsEqualityOf text R.PartialEq.eq
         → IsEqualityOf number O.PartialEq.eq
         → IsEqualityOf (ok_reply text number) ⟦<EvaluationResult<R, O> as PartialEq>⟧.eq }
 {}
 
-/// Locations are equal exactly if they are seen as the same, and pieces too. It does nothing; its contract is the law.
+/// Locations, and pieces too, are equal exactly if contracts can't tell them apart, provided that this holds of readers
+/// and offsets. It does nothing; its contract states the law.
 pub fn piece_equality_laws<R: Reader + Eq, O: Eq>()
     ensures location { (text : R → Text) (number : O → ℕ) → IsEqualityOf text R.PartialEq.eq
         → IsEqualityOf number O.PartialEq.eq

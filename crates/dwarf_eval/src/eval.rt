@@ -1,4 +1,4 @@
-//! Evaluation of expressions, which asks where the caller has to answer.
+//! Evaluation of expressions. It asks the caller for what it can't know itself.
 
 mod evaluation;
 mod heap;

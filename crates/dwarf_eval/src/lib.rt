@@ -1,4 +1,4 @@
-//! The operations of an expression, and its evaluation, which asks where the caller has to answer.
+//! The operations of an expression, and its evaluation, which asks the caller for what it can't know itself.
 #![tactic(auto)]
 
 mod equality;

@@ -1,4 +1,4 @@
-//! Operations, how they are decoded, and what they give.
+//! Operations, their decoding, and the results of an evaluation.
 
 mod expressions;
 mod results;

@@ -1,4 +1,4 @@
--- What a machine is given, what it waits for, and how it ended.
+-- What a machine is given as an answer, what it waits for, and how it ended.
 use Rattle.std.specs.Prelude.{◌≡◌, Option, Some, None, Result, Ok, Err}
 use Rattle.dwarf_base.specs.declared.errors.Error.{Error}
 use Rattle.dwarf_base.specs.Reads.{Text}
@@ -13,7 +13,7 @@ use Rattle.dwarf_eval.specs.declared.op.results.EvaluationResult.TheVariants as 
 use Rattle.dwarf_eval.specs.declared.run.states.Given.{Given}
 use Rattle.dwarf_eval.specs.declared.run.states.Given.TheVariants as given
 
--- what a machine is given, as an answer; a value and a number are of this kind
+-- what a machine is given, as an answer; a value or a number answers a request of this kind
 abbrev pub answer_of : {R : Type 0} → (R → Text) → WaitingKind → Given R → requests.Answer
 answer_of text kind (given.Value value) = requests.ValueAnswer kind value
 answer_of text kind (given.Number number) = requests.NumberAnswer kind number
@@ -30,18 +30,18 @@ abbrev pub open_kind : rest.Status → Option WaitingKind
 open_kind (RequestStatus request on_answer) = Some (kind_of_request request)
 open_kind _ = None
 
--- by the status: at the start it is fresh but for what was set, and it doesn't run
+-- by the status: at the start the machine is fresh, except for its settings; it doesn't run
 abbrev pub IsAtRestBy : rest.State → rest.Status → Type 0
 IsAtRestBy x (Start initial_value) =
     x ≡ with_status (Start initial_value) (with_settings x.store.settings (fresh_state x.setup x.text))
 IsAtRestBy x Running = ⊥
 IsAtRestBy x _ = Unit {0}
 
--- between calls nothing runs
+-- the machine doesn't run, as between calls
 abbrev pub IsAtRest : rest.State → Type 0
 IsAtRest x = IsAtRestBy x x.status
 
--- after the end the result is completion, and after a fault that fault
+-- after the end the result is completion; after a fault it is that fault
 abbrev pub IsEndedBy : {R O P : Type 0} → Result (EvaluationResult R O P) Error → rest.Status → Type 0
 IsEndedBy replied (CompleteStatus value) = replied ≡ Ok result.Complete
 IsEndedBy replied (FaultStatus error) = replied ≡ Err error

@@ -1,4 +1,4 @@
--- What an evaluation stands for: a state of the nested meaning, its readers seen as texts and places.
+-- An evaluation as a state of the meaning: its readers are seen as texts and places.
 use Rattle.std.specs.Prelude.{ℕ, List, Option, Some, None, ◌*◌, ◌-◌, ◌≡◌, length, reverse, map}
 use Rattle.std.specs.List.{AllByRecursion}
 use Rattle.dwarf_base.specs.declared.common.Encoding.{Encoding}
@@ -27,7 +27,7 @@ use Rattle.dwarf_eval.specs.declared.run.states.OnAnswer.TheVariants as on
 use Rattle.dwarf_eval.specs.declared.run.states.EvaluationState.{EvaluationState}
 use Rattle.dwarf_eval.specs.declared.run.states.EvaluationState.TheVariants as state
 
--- of what sort the last operation was, as the definitions have it, with the location if one waits
+-- the kind of the last operation, as the definitions have it; `Located` has the location that waits
 abbrev pub last_of : LastOperation → meant.Location → Last
 last_of last.Nothing location = Nothing
 last_of last.Plain location = Plain
@@ -36,7 +36,7 @@ last_of last.Pushed location = Pushed
 last_of last.Called location = Called
 last_of last.Located location = Located location
 
--- what is done with an answer, as the definitions have it
+-- how an answer is used, as the definitions have it
 abbrev pub on_answer_of : {R : Type 0} → (R → Text) → OnAnswer R → requests.OnAnswer
 on_answer_of text on.Push = requests.Push
 on_answer_of text (on.Add offset) = requests.Add offset
@@ -44,12 +44,12 @@ on_answer_of text (on.Parse literal) = requests.Parse (text literal)
 on_answer_of text on.Convert = requests.Convert
 on_answer_of text on.Reinterpret = requests.Reinterpret
 
--- complete without a value, or in this request
+-- the status after a reply: complete without a value, or in this request
 abbrev pub replied_status : Option requests.Request → requests.OnAnswer → Status
 replied_status None on_answer = CompleteStatus None
 replied_status (Some request) on_answer = RequestStatus request on_answer
 
--- where the code stands, as the definitions have it
+-- the status of the code's state, as the definitions have it
 abbrev pub status_of : {R O P : Type 0} → (R → Text) → (O → ℕ) → EvaluationState R O P → requests.OnAnswer → Status
 status_of text number (state.Start initial_value) on_answer = Start initial_value
 status_of text number state.Running on_answer = Running
@@ -57,24 +57,24 @@ status_of text number (state.Waiting request) on_answer = replied_status (reques
 status_of text number (state.Complete value) on_answer = CompleteStatus value
 status_of text number (state.Failed error) on_answer = FaultStatus error
 
--- what is left of a text, or all of it
+-- the rest of a text, or all of it
 abbrev pub left_of : {R : Type 0} → Option R → R → R
 left_of None whole = whole
 left_of (Some rest) whole = rest
 
--- how many bytes of the text come before what is left of it
+-- how many bytes of a text come before the rest of it
 abbrev pub place_of : (whole left : Text) → ℕ
 place_of whole left = length whole.bytes - length left.bytes
 
--- a caller: what is left of it, and the whole of it
+-- a caller, given its rest and all of it
 abbrev pub caller_of : {R : Type 0} → (R → Text) → R × R → Position
 caller_of text f = record { text = text f.1; place = place_of (text f.1) (text f.0) }
 
--- the innermost caller first
+-- the callers, the innermost first
 abbrev pub callers_of : {R : Type 0} → (R → Text) → List (R × R) → List Position
 callers_of text readers = reverse (map (caller_of text) readers)
 
--- what is kept: the code's lists, with the top of the stack first
+-- the store: the code's lists, with the top of the stack first
 abbrev pub store_of : {R O P : Type 0} → (R → Text) → (O → ℕ) → List Value → List (Piece R O P) → ℕ → Option ℕ → ℕ
     → LastOperation → Location R O P → Store
 store_of text number values pieces count object_address maximum last location = record {
@@ -86,7 +86,7 @@ store_of text number values pieces count object_address maximum last location = 
   refusal = Never;
 }
 
--- the mask is that of the encoding's addresses, and all that is left belongs to its text
+-- the mask is that of the encoding's addresses, and each rest is a suffix of its text
 pub record IsSound {R : Type 0} (text : R → Text) (encoding : Encoding) (addr_mask : ℕ) (whole left : R)
     (readers : List (R × R)) : Type 0 where
   pub mask : IsAddressMask addr_mask

@@ -1,4 +1,4 @@
--- What the parts of an evaluation do to its state. Contracts of this crate alone cite this file, and private ones above
+-- What the parts of an evaluation do to its state. Only contracts of this crate cite this file, and private ones above
 -- it.
 use Rattle.std.specs.Prelude.{ℕ, zero, suc, ◌+◌, ◌-◌, ◌*◌, ◌<◌, ◌≤◌, ◌≡◌, ◌&&◌, nat_lt, Bool, true, false, List, [], ◌∷◌, Option, Some, None, Result, Ok, Err, length}
 use Rattle.dwarf_base.specs.declared.errors.Error.{Error}
@@ -30,17 +30,17 @@ before_push Never = Never
 before_push (After zero pushes) = After zero (suc pushes)
 before_push (After (suc inputs) pushes) = After (suc inputs) pushes
 
--- the refusal before this many of them
+-- the refusal before this many such pushes
 abbrev pub before_pushes : ℕ → Refusal → Refusal
 before_pushes zero refusal = refusal
 before_pushes (suc pushes) refusal = before_push (before_pushes pushes refusal)
 
--- what f makes of what was kept before some pushes is what g makes of what is kept after them
+-- f of the store before some pushes is g of the store after them
 pub record StoreSteps {A : Type 0} (f : Store → A) (old : Store) (g : Store → A) (new : Store) : Type 0 where
   pub pushes : ℕ
   pub same : (r : Refusal) → f (with_refusal (before_pushes pushes r) old) ≡ g (with_refusal r new)
 
--- for some refusal, f gives this
+-- f gives this for some refusal
 pub record MayGive {A : Type 0} (limits : Limits) (f : Store → A) (old : Store) (a : A) : Type 0 where
   pub refusal : Refusal
   pub may : MayPick limits refusal
@@ -58,8 +58,8 @@ with_last last x = record x { store = record x.store { last = last } }
 abbrev pub with_place : ℕ → State → State
 with_place place x = record x { place = place }
 
--- The setup, the settings, the text, the callers and the pieces stay, nothing is counted or decoded, and of values
--- there are this many more at most.
+-- The setup, the settings, the text, the number of callers and the pieces stay. Nothing is counted or decoded, and at
+-- most this many values are added.
 pub record Stays (more : ℕ) (old new : State) : Type 0 where
   pub kept : Keeps old new
   pub text : new.text ≡ old.text
@@ -70,7 +70,7 @@ pub record Stays (more : ℕ) (old new : State) : Type 0 where
   pub items : length new.store.values + length new.store.pieces
       ≤ length old.store.values + length old.store.pieces + more
 
--- f was done to what is kept, and to nothing else
+-- f was done to the store, and nothing else changed
 pub record ChangesStoreBy (f : Store → Result Store Fault) (old new : State) : Type 0 where
   pub steps : StoreSteps f old.store Ok new.store
   pub alone : new ≡ with_store new.store old
@@ -104,7 +104,7 @@ abbrev pub Pops : Option Value → State → State → Type 0
 Pops None old new = (old.store.values ≡ []) × (new ≡ old)
 Pops (Some v) old new = (rest : List Value) × (old.store.values ≡ v ∷ rest) × (new ≡ with_values rest old)
 
--- the top was popped, and is this number as far as an address goes
+-- the top was popped; this is its number, as an address
 pub record PopsTo (number : ℕ) (old new : State) : Type 0 where
   pub value : Value
   pub rest : List Value
@@ -121,17 +121,17 @@ abbrev pub CountsOne : State → State → Bool → Type 0
 CountsOne old new true = (can_count old.store ≡ true) × (new ≡ with_store (count_one old.store) old)
 CountsOne old new false = (can_count old.store ≡ false) × (new ≡ with_status (FaultStatus TooManyIterations) old)
 
--- went to a place of the text, or there is no such place
+-- the run went to this place of the text, or there is no such place
 abbrev pub Jumps : ℕ → State → State → Bool → Type 0
 Jumps place old new true = (place ≤ length old.text.bytes) × (new ≡ with_place place old)
 Jumps place old new false =
     (length old.text.bytes < place) × (new ≡ with_status (FaultStatus (BadBranchTarget place)) old)
 
--- the state before what is left of its text
+-- the state at the place before this rest of its text
 abbrev pub at_rest : (left : List ℕ) → State → State
 at_rest left x = with_place (length x.text.bytes - length left) x
 
--- the state at this place, once one more operation was decoded
+-- the state at this place, after one more operation was decoded
 abbrev pub read_to : ℕ → State → State
 read_to place x = record x { place = place; decodings = x.decodings + 1 }
 
@@ -143,7 +143,7 @@ pub record ReadsOperation (op : Operation) (old new : State) : Type 0 where
 
 -- ---- operations
 
--- what an operation does with the stack as it is
+-- what an operation does with the stack of this state
 abbrev pub act_of : State → Operation → Act
 act_of x op = act (address_bits x.setup) x.store.settings.object_address op x.store.values
 
@@ -153,11 +153,11 @@ IsNoBranch (operation.Bra target) = ⊥
 IsNoBranch (operation.Skip target) = ⊥
 IsNoBranch _ = Unit {0}
 
--- what an operation does to what is kept, if it was read
+-- what an operation of this state does to a store
 abbrev pub do_act_at : Act → State → Store → Next
 do_act_at a x s = do_act x.setup x.place (length x.text.bytes) a s
 
--- f, of what is kept, leads to a place
+-- f of the store leads to a place
 pub record LeadsToPlace (f : Store → Next) (old new : State) : Type 0 where
   pub steps : StoreSteps f old.store (Goes new.place) new.store
   pub alone : new ≡ with_store new.store (with_place new.place old)
@@ -182,12 +182,12 @@ LeadsBy f old new _ = ⊥
 abbrev pub Performs : Act → State → State → Type 0
 Performs a old new = LeadsBy (do_act_at a old) old new new.status
 
--- a request was opened, if there is one
+-- the request was opened, if there is one
 abbrev pub Asks : Option Request → OnAnswer → State → State → Type 0
 Asks (Some request) on_answer old new = Performs (RequestAct old.store.values request on_answer) old new
 Asks None on_answer old new = Unit {0}
 
--- a piece after a location: it is ended, or the state keeps the fault
+-- the operation after a location: a piece ends it, or the state keeps the fault
 abbrev pub EndsLocated : Location → Operation → State → State → Type 0
 EndsLocated location (operation.Piece size_in_bits bit_offset) old new =
     HasTriedChange 0 (push_piece old.setup (sized_piece size_in_bits bit_offset location)) (with_last Pieced old) new
@@ -201,11 +201,11 @@ replies_by (RequestStatus request on_answer) = 1
 replies_by (CompleteStatus value) = 1
 replies_by _ = 0
 
--- if the call so ends, fewer calls are left
+-- fewer calls are left, if this call ends in a request or in completion
 abbrev pub NearsItsEnd : State → State → Type 0
 NearsItsEnd old new = calls_left new + replies_by new.status ≤ calls_left old
 
--- the outcome of the old state is the outcome of the new one, to which it came by this many pushes
+-- the old state has the outcome of the new one, which it reached by this many pushes
 pub record Reaches (old : State) (totals : Refusal → List Input → Total) (new : State) : Type 0 where
   pub pushes : ℕ
   pub same : (r : Refusal) (inputs : List Input) → totals (before_pushes pushes r) inputs ≡ total new r inputs
@@ -213,7 +213,7 @@ pub record Reaches (old : State) (totals : Refusal → List Input → Total) (ne
   pub spends : Spends 0 old new
   pub nears : NearsItsEnd old new
 
--- for some refusal, the old state ends in the fault, and no more is counted than the new one has
+-- for some refusal the old state ends in the fault, and counts what the new one has
 pub record Falls (old : State) (totals : Refusal → List Input → Total) (fault : Fault) (new : State) : Type 0 where
   pub refusal : Refusal
   pub may : MayPick old.setup.limits refusal
@@ -227,11 +227,11 @@ ComesToStateBy old totals new (FaultStatus error) = Falls old totals (fault_of e
 ComesToStateBy old totals new (Start initial_value) = ⊥
 ComesToStateBy old totals new _ = Reaches old totals new
 
--- it came to the new state, or to a fault, which the new state keeps
+-- the new state was reached, or it keeps a fault that was met
 abbrev pub ComesToState : State → (Refusal → List Input → Total) → State → Type 0
 ComesToState old totals new = ComesToStateBy old totals new new.status
 
--- it waits, is complete, or a fault was met
+-- the evaluation waits, is complete, or met a fault
 abbrev pub HasReply : Status → Type 0
 HasReply Running = ⊥
 HasReply (Start initial_value) = ⊥
@@ -242,20 +242,20 @@ abbrev pub is_free : Last → Bool
 is_free (Located location) = false
 is_free _ = true
 
--- about to do one more operation that is counted
+-- the next operation is there, and will be counted
 pub record IsReady (x : State) : Type 0 where
   pub runs : x.status ≡ Running
   pub inside : x.place < length x.text.bytes
   pub free : is_free x.store.last ≡ true
 
--- back in the innermost caller, if there is one
+-- the run is back in the innermost caller, if there is one
 abbrev pub GoesBack : Bool → State → State → Type 0
 GoesBack true old new =
     (f : Position) × (fs : List Position) × (old.callers ≡ f ∷ fs)
     × (new ≡ record old { text = f.text; place = f.place; callers = fs })
 GoesBack false old new = (old.callers ≡ []) × (new ≡ old)
 
--- the run is over, as f says, with this value, and this many more items at most
+-- the run is over as f says, with this value and at most this many more items
 pub record ClosesComplete (more : ℕ) (f : Store → Outcome) (value : Option Value) (old new : State) : Type 0 where
   pub steps : StoreSteps f old.store (λ s. CompleteOutcome s.pieces value) new.store
   pub alone : new ≡ with_store new.store (with_status (CompleteStatus value) old)
@@ -274,11 +274,12 @@ ClosesBy more f old new (CompleteStatus value) = ClosesComplete more f value old
 ClosesBy more f old new (FaultStatus error) = ClosesInFault f error old new
 ClosesBy more f old new _ = ⊥
 
--- the run is over, as f says, with this many more items at most, or for some refusal in a fault, which the state keeps
+-- the run is over as f says, with at most this many more items; or for some refusal it is in a fault, which the state
+-- keeps
 abbrev pub Closes : ℕ → (Store → Outcome) → State → State → Type 0
 Closes more f old new = ClosesBy more f old new new.status
 
--- the run is over with this piece more and this value, or the state keeps the fault
+-- the run is over with one more piece and this value, or the state keeps the fault
 abbrev pub CompletesWith : Piece → Option Value → State → State → Type 0
 CompletesWith piece value old new = Closes 1 (λ s. completion_of value (push_piece old.setup piece s)) old new
 
@@ -286,7 +287,7 @@ abbrev pub effort_by : State → Status → ℕ
 effort_by x Running = 3 * (most_operations - x.store.count) + length x.callers + waits_of x.store.last + 1
 effort_by x _ = 0
 
--- a number that falls at each turn
+-- a number that gets less with each turn
 abbrev pub effort : State → ℕ
 effort x = effort_by x x.status
 
@@ -299,13 +300,13 @@ abbrev pub is_running : Status → Bool
 is_running Running = true
 is_running _ = false
 
--- whether one more operation is counted next
+-- whether the next operation will be counted
 abbrev pub goes_on : State → Bool
 goes_on x = is_running x.status && is_free x.store.last && nat_lt x.place (length x.text.bytes)
 
 -- ---- answers
 
--- a called text runs, and there is one caller more
+-- a called text runs, with one more caller
 pub record Enters (callee : Text) (old new : State) : Type 0 where
   pub steps : StoreSteps (push_caller old.setup (length old.callers)) old.store Ok new.store
   pub alone : new ≡ record old {
@@ -319,19 +320,19 @@ abbrev pub TriesToEnter : Text → State → State → Bool → Type 0
 TriesToEnter callee old new true = Enters callee old new
 TriesToEnter callee old new false = Refused 0 (push_caller old.setup (length old.callers)) old new
 
--- the total of a state in a request, if its answer is used so
+-- the total of a state in a request, if its answer is used in this way
 abbrev pub total_used : State → Use → Refusal → List Input → Total
 total_used x used refusal inputs =
     total_of_course x.store.count x.setup x.callers
     (after_answer (run x.setup) x.setup (record { text = x.text; place = x.place }) (length x.callers) used
     (with_refusal refusal x.store) inputs)
 
--- this is done with the answer
+-- the answer was used in this way
 abbrev pub TakesAnswer : OnAnswer → Answer → State → State → Type 0
 TakesAnswer on_answer answer old new =
     ComesToState old (total_used old (use_of (address_bits old.setup) on_answer answer old.store.values)) new
 
--- what the open request wants is done with the answer
+-- the answer was used as the open request says
 abbrev pub AnswersOpenRequest : Answer → State → State → Type 0
 AnswersOpenRequest answer old new =
     (request : Request) → (on_answer : OnAnswer) → old.status ≡ RequestStatus request on_answer

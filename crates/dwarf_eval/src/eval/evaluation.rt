@@ -25,9 +25,9 @@ use std::marker::Model;
 
 /// An evaluation of an expression (DWARF 5, section 2.5).
 ///
-/// `evaluate` starts it, and replies either that it is complete or what it has to be told before it goes on;
-/// the caller then calls the resume that the reply names, and `status` too, until it is complete. A fault is kept:
-/// every later `evaluate` and resume gives it, and changes nothing.
+/// `evaluate` starts it. The reply is a request or completion. The caller answers a request by the resume that it
+/// names, which gives the next reply; `status` also tells which call comes next. A fault is kept: every later
+/// `evaluate` and resume gives it again, and changes nothing.
 #[derive(Drop)]
 pub struct Evaluation<R: Reader + Copy, S: EvaluationStorage<R>> {
     machine: Machine<R, S>,
@@ -46,7 +46,7 @@ impl<R: Reader + Copy, S: EvaluationStorage<R>> Model for Evaluation<R, S> {
 }
 
 impl<R: Reader + Copy, S: EvaluationStorage<R>> Evaluation<R, S> {
-    /// A fresh evaluation of `bytecode`, over three empty lists. It takes no memory.
+    /// A fresh evaluation of `bytecode`, over three empty lists. It allocates nothing.
     ///
     /// The encoding's addresses have from 1 to 8 bytes.
     pub fn new_in(
@@ -69,9 +69,9 @@ impl<R: Reader + Copy, S: EvaluationStorage<R>> Evaluation<R, S> {
         }
     }
 
-    /// Stands as a fresh evaluation of another `bytecode`, over the same lists with the same limits. It may be called
-    /// in any status, and after a fault too. Nothing that was set stays set. The lists are emptied and keep their
-    /// memory, so it takes none and gives none back.
+    /// Makes this a fresh evaluation of another `bytecode`, over the same lists with the same limits. It may be called
+    /// in any status, also after a fault. Every setting is unset. The lists are emptied and keep their memory, so
+    /// nothing is allocated or freed.
     ///
     /// The encoding's addresses have from 1 to 8 bytes.
     #[inline(always)]
@@ -126,9 +126,9 @@ impl<R: Reader + Copy, S: EvaluationStorage<R>> Evaluation<R, S> {
         }
     }
 
-    /// Lets the evaluation start with this value on the stack, as `DW_AT_vtable_elem_location` and
-    /// `DW_AT_data_member_location` want it: the object's address. It may be set once, before the start. Without one
-    /// the stack is empty then, and an expression that takes a value from it is `NotEnoughStackItems`.
+    /// Sets the value with which the stack starts: the object's address, for `DW_AT_vtable_elem_location` and
+    /// `DW_AT_data_member_location`. It may be set once, before the start. Without one the stack starts empty, and an
+    /// expression that pops from it fails with `NotEnoughStackItems`.
     pub fn set_initial_value(&mut self, value: u64)
         requires { self.old.status ≡ Start None }
         ensures { self.new ≡ with_status (Start (Some value)) self.old }
@@ -136,17 +136,17 @@ impl<R: Reader + Copy, S: EvaluationStorage<R>> Evaluation<R, S> {
         self.machine.set_initial_value(value);
     }
 
-    /// Sets the address of the object that is described, for `DW_OP_push_object_address`. It holds from now on. Without
-    /// one that operation is `InvalidPushObjectAddress`.
+    /// Sets the address of the described object, for `DW_OP_push_object_address`. It holds from now on. Without one
+    /// that operation fails with `InvalidPushObjectAddress`.
     pub fn set_object_address(&mut self, value: u64)
         ensures { self.new ≡ with_object (Some value) self.old }
     {
         self.machine.set_object_address(value);
     }
 
-    /// Sets how many operations may be evaluated in all. It holds from now on, and can't be unset. While it isn't
-    /// set, there may be 4294967295. A location and the piece after it count as one. It bounds what broken or hostile
-    /// bytes can cost; one operation more is `TooManyIterations`.
+    /// Sets the maximum of operations, over the whole evaluation; one more fails with `TooManyIterations`. It holds
+    /// from now on, and can't be unset. If it was never set, the maximum is 4294967295. A location and the piece after
+    /// it count as one operation. The maximum bounds what broken or hostile bytes can cost.
     pub fn set_max_iterations(&mut self, value: u32)
         ensures { self.new ≡ with_maximum value self.old }
     {
@@ -162,14 +162,15 @@ impl<R: Reader + Copy, S: EvaluationStorage<R>> Evaluation<R, S> {
     /// - Those of `Operation::parse`, if the next operation is malformed.
     /// - Those of the calls of [`Value`] that it makes: `UnsupportedTypeOperation`, `TypeMismatch`, `DivisionByZero`,
     ///   `InvalidShiftExpression`.
-    /// - `NotEnoughStackItems`, if a value is missing on the stack; also at the end, if there are no pieces.
-    /// - `InvalidDerefSize`, if more bytes are to be read than an address has.
+    /// - `NotEnoughStackItems`, if the stack has too few values; also at the end, if there is neither a
+    ///   value nor a location or piece.
+    /// - `InvalidDerefSize`, if a dereference is wider than an address.
     /// - `InvalidPushObjectAddress`, if no object address is set.
     /// - `UnsupportedEvaluation`, at an operation that can't be evaluated.
     /// - `BadBranchTarget`, if a branch leaves its text.
-    /// - `TooManyIterations`, if as many operations as are allowed were evaluated and one more is left.
-    /// - `InvalidPiece`, if the expression ends after pieces with a value or a location that has no piece.
-    /// - `InvalidExpressionTerminator`, if a location is followed by another operation than a piece.
+    /// - `TooManyIterations`, if one more operation is left after the maximum.
+    /// - `InvalidPiece`, if a value or a location that is no piece is left after pieces at the end.
+    /// - `InvalidExpressionTerminator`, if an operation other than a piece follows a location.
     /// - `StackFull`, if a list has no room or there is no memory.
     #[inline(always)]
     pub fn evaluate(&mut self) -> Result<EvaluationResult<R>>
@@ -200,7 +201,7 @@ impl<R: Reader + Copy, S: EvaluationStorage<R>> Evaluation<R, S> {
         reply(&self.machine)
     }
 
-    /// Goes on with what memory holds, after `RequiresMemory`.
+    /// Goes on with a value from memory, after `RequiresMemory`.
     ///
     /// # Errors
     ///
@@ -215,12 +216,12 @@ impl<R: Reader + Copy, S: EvaluationStorage<R>> Evaluation<R, S> {
         self.resume(Given::Value(value))
     }
 
-    /// Goes on with what a register holds, after `RequiresRegister`.
+    /// Goes on with the value of a register, after `RequiresRegister`.
     ///
     /// # Errors
     ///
-    /// `StackFull`, if there is no room for the sum; then those of [`evaluate`](Self::evaluate). It may be called
-    /// after a fault too, and gives that fault.
+    /// `StackFull`, if there is no room for the sum; then those of [`evaluate`](Self::evaluate). It may be called after
+    /// a fault too, and gives that fault.
     #[inline(always)]
     pub fn resume_with_register(&mut self, value: Value) -> Result<EvaluationResult<R>>
         requires { IsOpenFor kind.Register self.old.status }
@@ -246,7 +247,7 @@ impl<R: Reader + Copy, S: EvaluationStorage<R>> Evaluation<R, S> {
         self.resume(Given::Value(value))
     }
 
-    /// Goes on with what the expression gave at the function's entry, after `RequiresEntryValue`.
+    /// Goes on with the value that the expression had at the function's entry, after `RequiresEntryValue`.
     ///
     /// # Errors
     ///
@@ -306,8 +307,8 @@ impl<R: Reader + Copy, S: EvaluationStorage<R>> Evaluation<R, S> {
         self.resume(Given::Number(cfa))
     }
 
-    /// Goes on with the expression that stands there, after `RequiresAtLocation`. It is evaluated in the
-    /// call's place; with no bytes there is nothing to evaluate.
+    /// Goes on with the expression of the entry, after `RequiresAtLocation`. It is evaluated in place of the call; if
+    /// it has no bytes, there is nothing to evaluate.
     ///
     /// # Errors
     ///
@@ -352,7 +353,7 @@ impl<R: Reader + Copy, S: EvaluationStorage<R>> Evaluation<R, S> {
         self.resume(Given::Number(address))
     }
 
-    /// Goes on with what stands at the index, after `RequiresIndexedAddress`.
+    /// Goes on with the address or constant at the index, after `RequiresIndexedAddress`.
     ///
     /// # Errors
     ///
@@ -384,7 +385,8 @@ impl<R: Reader + Copy, S: EvaluationStorage<R>> Evaluation<R, S> {
         self.resume(Given::BaseType(base_type))
     }
 
-    /// The value of a complete evaluation, as it stands; `None` if it has pieces or a location instead.
+    /// The value of a complete evaluation, with all bits that it had on the stack. `None` if it has pieces or a
+    /// location instead.
     pub fn value_result(&self) -> Option<Value>
         requires { IsComplete self.now.status }
         ensures { HasResult result self.now.status }

@@ -1,4 +1,4 @@
-//! Evaluations whose lists are on the heap.
+//! Evaluations with their lists on the heap.
 
 ghost use Rattle.std.specs.Prelude.{◌≡◌, ◌<◌, ◌≤◌, None, map};
 ghost use Rattle.dwarf_eval.specs.Evaluation.{IsComplete, fresh_state};
@@ -12,7 +12,7 @@ use dwarf_base::{Encoding, Reader};
 use std::alloc::Allocator;
 
 impl<R: Reader + Copy> Expression<R> {
-    /// A fresh evaluation of the expression, on the heap. It takes no memory yet.
+    /// A fresh evaluation of the expression, on the heap. It allocates nothing yet.
     ///
     /// The encoding's addresses have from 1 to 8 bytes.
     pub fn evaluation<A: Allocator + Copy>(
@@ -30,7 +30,7 @@ impl<R: Reader + Copy> Expression<R> {
 }
 
 impl<R: Reader + Copy, A: Allocator + Copy> Evaluation<R, StoreOnHeap<A>> {
-    /// A fresh evaluation of `bytecode`, on the heap. It takes no memory yet.
+    /// A fresh evaluation of `bytecode`, on the heap. It allocates nothing yet.
     ///
     /// The encoding's addresses have from 1 to 8 bytes.
     pub fn new(alloc: A, bytecode: R, encoding: Encoding) -> Self

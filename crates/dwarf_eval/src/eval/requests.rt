@@ -38,8 +38,8 @@ pub(crate) fn kind_of<R: Reader + Copy>(replied: &EvaluationResult<R>) -> Option
     })
 }
 
-/// A copy of a request. Of those that most expressions make, the fields are copied one by one: for libc and libm a copy
-/// of the whole takes 0.19 of gimli's time more from C.
+/// Copies a request. The requests of most expressions are copied field by field. Copying the whole takes 0.19 of
+/// gimli's time more, from C, for libc and libm.
 #[inline(always)]
 fn copy_of_request<R: Reader + Copy>(request: &EvaluationResult<R>) -> EvaluationResult<R>
     ensures { result ≡ request.now }
@@ -63,7 +63,7 @@ fn copy_of_request<R: Reader + Copy>(request: &EvaluationResult<R>) -> Evaluatio
     copy_of_rare_request(request)
 }
 
-/// A copy of a request that few expressions make.
+/// Copies a request that few expressions make.
 #[inline(always)]
 fn copy_of_rare_request<R: Reader + Copy>(request: &EvaluationResult<R>) -> EvaluationResult<R>
     ensures { result ≡ request.now }

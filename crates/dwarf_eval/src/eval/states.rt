@@ -13,6 +13,6 @@ pub enum Status {
     Waiting(WaitingKind),
     /// The evaluation is complete: its results are there.
     Complete,
-    /// The evaluation met a fault, which every later `evaluate` and resume gives.
+    /// The evaluation met a fault. Every later `evaluate` and resume gives it again.
     Failed(Error),
 }

@@ -28,7 +28,7 @@ impl<R: Reader + Copy> Expression<R> {
     }
 }
 
-/// The operations of an expression, one after another; the first that is malformed is the last.
+/// An iterator over the operations of an expression. A malformed operation is the last.
 #[derive(Clone, Copy, Debug)]
 pub struct OperationIter<R: Reader> {
     input: R,
@@ -38,7 +38,7 @@ pub struct OperationIter<R: Reader> {
 impl<R: Reader + Copy> OperationIter<R> {
     /// The next operation, or `None` at the end.
     ///
-    /// The errors are those of [`Operation::parse`]. After one nothing is left.
+    /// The errors are those of [`Operation::parse`]. After an error the iterator is at its end.
     #[inline]
     pub fn next(&mut self) -> Result<Option<Operation<R>>>
         ensures value { GivesNext (operation_of R.text R.Offset.number) result
@@ -63,9 +63,9 @@ impl<R: Reader + Copy> OperationIter<R> {
         }
     }
 
-    /// How many bytes of the expression come before what is left, which is a suffix of it.
+    /// The offset of the iterator in the expression. Its bytes have to be a suffix of the expression.
     ///
-    /// Before an error these are the bytes of the operations so far; after one, all of them.
+    /// This is the length of the operations so far; after an error, it is the length of the expression.
     #[inline]
     pub fn offset_from(&self, expression: &Expression<R>) -> R::Offset
         requires { IsSuffix (R.text (unread_of self.now)).bytes (R.text expression.now.0).bytes }
@@ -83,7 +83,7 @@ impl<R: Reader + Copy> Iterator for OperationIter<R> {
 
     ghost remaining = { item_count (items_left R.text R.Offset.BITS) };
 
-    /// The next operation, or the error that ends them; `None` at the end and after an error.
+    /// The next operation, or the error in its place. `None` at the end and after an error.
     #[inline]
     fn next(&mut self) -> Option<Result<Operation<R>>> {
         OperationIter::next(self).transpose()

@@ -38,7 +38,7 @@ impl<T: Copy, A: Allocator> ArrayLike for Vec<T, A> {
     }
 }
 
-/// Lists on the heap, over an allocator.
+/// Keeps the lists of an evaluation on the heap, with an allocator.
 pub struct StoreOnHeap<A>(PhantomData<A>);
 
 impl<R: Reader + Copy, A: Allocator> EvaluationStorage<R> for StoreOnHeap<A> {

@@ -4,15 +4,15 @@ ghost use Rattle.dwarf_meaning.specs.Stores.{IsWithin};
 
 use dwarf_base::copy_of;
 
-/// A list that may have a limit, which no call changes.
+/// A list that may have a limit. No call changes the limit.
 pub trait ArrayLike: Drop {
-    /// What it holds.
+    /// The type of its items.
     type Item: Copy;
 
     // The items in order.
     ghost items: { Self → List Self.Item };
 
-    // The most items that it can hold, if there is such a number.
+    // The most items that it can hold, if it has a limit.
     ghost limit: { Self → Option ℕ };
 
     /// How many items there are, never more than the limit.
@@ -41,8 +41,8 @@ pub trait ArrayLike: Drop {
         ensures empty { IfNone result (items self.old ≡ []) }
         ensures limit { limit self.new ≡ limit self.old };
 
-    /// Adds an item at the end, or hands it back and leaves the list as it was: with a limit exactly if
-    /// the list is at it, without one only if memory was refused.
+    /// Adds an item at the end. If it can't, it hands the item back and leaves the list as it was. A list with a limit
+    /// refuses an item exactly if it is at the limit, and a list without one only if memory was refused.
     fn push(&mut self, item: Self::Item) -> Result<(), Self::Item>
         ensures ok { OnOk result (items self.new ≡ items self.old ++ item ∷ []) }
         ensures err { OnErr result (items self.new ≡ items self.old) }

@@ -4,11 +4,12 @@ ghost use Rattle.dwarf_eval.specs.Lists.{MayRefuse, at_least_one, one_of};
 use super::lists::ArrayLike;
 use std::marker::Model;
 
-/// A list over another one, which holds an item itself as long as that is the only one. Over a list on the heap it
-/// takes no memory for one item: most expressions have one piece. Its limit is the other list's, and 1 if that is 0.
+/// A list that keeps a single item in line, and moves it to another list when a second item comes. Most expressions
+/// have one piece, which takes no memory this way if the other list is on the heap. The limit is the other list's, or 1
+/// if that is 0.
 #[derive(Drop)]
 pub struct OneInLine<T: Copy, L: ArrayLike<Item = T>> {
-    // The only item. If there are more, all of them are in the other list.
+    // The single item. If there are more items, all of them are in the other list.
     one: Option<[T; 1]>,
     more: L,
 }
@@ -28,7 +29,7 @@ impl<T: Copy, L: ArrayLike<Item = T>> Model for OneInLine<T, L> {
 }
 
 impl<T: Copy, L: ArrayLike<Item = T>> OneInLine<T, L> {
-    /// A list of the items of another one.
+    /// A list with the items of `more`.
     #[inline(always)]
     pub fn new(more: L) -> Self
         ensures items { result.items ≡ L.items more }
@@ -37,7 +38,7 @@ impl<T: Copy, L: ArrayLike<Item = T>> OneInLine<T, L> {
         OneInLine { one: None, more }
     }
 
-    /// The other list, with all items, or this one if the other doesn't take its only item.
+    /// The other list, with all items. If it refuses the single item, this list is handed back.
     #[inline]
     pub fn into_list(mut self) -> Result<L, Self>
         ensures ok { IfOk result (λ list. L.items list ≡ self.items) }
@@ -101,8 +102,8 @@ impl<T: Copy, L: ArrayLike<Item = T>> ArrayLike for OneInLine<T, L> {
     }
 }
 
-/// Moves the only item to the other list; `false` if it isn't taken. It is handed no further item, which would have to
-/// be written to memory for it.
+/// Moves the single item to the other list; `false` if that refuses it. The next item isn't passed in, since it would
+/// have to be written to memory for the call.
 #[cold]
 #[inline(never)]
 fn spill<T: Copy, L: ArrayLike<Item = T>>(one: &mut Option<[T; 1]>, more: &mut L) -> bool

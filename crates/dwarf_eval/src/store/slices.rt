@@ -1,4 +1,4 @@
-//! A list over a slice that is lent.
+//! A list over a borrowed slice.
 
 ghost use Rattle.std.specs.Prelude.{◌≡◌, [], length, Some};
 
@@ -6,11 +6,11 @@ use super::lists::ArrayLike;
 use dwarf_base::copy_of;
 use std::marker::Model;
 
-/// A list over a slice that its caller lends. Its capacity is chosen at run time, and nothing is allocated or set to
-/// zero.
+/// A list over a slice that its caller lends. Its capacity is the length of the slice, so it is chosen at run time.
+/// Nothing is allocated or set to zero.
 ///
-/// What is popped stays in its slot until another item takes its place. So in Rust a reader there keeps what it holds,
-/// such as its count in an `Arc`; whoever lent the slice lets go of it by writing over the slots.
+/// A popped item stays in its slot until another item overwrites it. So in Rust a popped reader keeps what it owns,
+/// such as its count in an `Arc`. The owner of the slice lets go of it by overwriting the slots.
 #[derive(Drop)]
 pub struct SliceVec<'a, T> {
     slots: &'a mut [T],

@@ -12,14 +12,14 @@ pub trait EvaluationStorage<R: Reader + Copy> {
     /// The values on the stack.
     type Stack: ArrayLike<Item = Value>;
 
-    /// The callers of the running expression, each with what is left of it and the whole of it.
+    /// The callers of the running expression, each as the bytes that are left of it and all of its bytes.
     type ExpressionStack: ArrayLike<Item = (R, R)>;
 
     /// The pieces.
     type Result: ArrayLike<Item = Piece<R>>;
 }
 
-/// Lists over slices that the caller lends.
+/// Keeps the lists of an evaluation in slices that the caller lends.
 pub struct StoreInSlices<'a>(PhantomData<&'a ()>);
 
 impl<'a, R: Reader + Copy + 'a> EvaluationStorage<R> for StoreInSlices<'a> {

@@ -1,9 +1,9 @@
-//! Puts what isn't Rust in a Rattle source in comments. So a Rust compiler accepts the source, each line keeps its
-//! number, and the contract stays beside the code.
+//! Puts the parts of a Rattle source that aren't Rust in comments, so that a Rust compiler accepts the source. Each
+//! line keeps its number, and each contract stays beside its code.
 //!
-//! This goes by how lines begin. The repository's tests read the same sources by their tokens, and compare.
+//! Contracts are found by how lines begin. The repository's tests find them in the same sources by tokens, and compare.
 
-/// What begins in a line and isn't Rust; and whether it ends with the braces after it, or right there.
+/// The beginnings of parts that aren't Rust, and whether the part ends after the next braces or right there.
 const CONTRACTS: &[(&str, bool)] = &[
     ("requires ", true),
     ("ensures ", true),
@@ -14,7 +14,7 @@ const CONTRACTS: &[(&str, bool)] = &[
     ("use std::alloc::AllocError;", false),
 ];
 
-/// A public function and a precondition of it.
+/// The name of a public function, and one of its preconditions.
 pub type Precondition = (String, String);
 
 /// Whether a sign can stand in a word.
@@ -22,7 +22,7 @@ pub fn is_in_word(sign: char) -> bool {
     sign == '_' || sign.is_alphanumeric()
 }
 
-/// How far it is to the end of the braces that open next. Comments count for nothing.
+/// The distance to the end of the next braces. Braces in comments don't count.
 fn braces(text: &str) -> usize {
     let (mut depth, mut at) = (0, 0);
     while let Some(next) = text[at..].find(['{', '}', '/']) {
@@ -40,8 +40,8 @@ fn braces(text: &str) -> usize {
     text.len()
 }
 
-/// How long the contract is that begins here, if one does: a clause, a ghost item, a tactic, a word of Rattle's own,
-/// the model of a type, or a clone that may fail, which in Rust is derived.
+/// The length of the contract that begins here, if there is one: a clause, a ghost item, a tactic, a word of Rattle's
+/// own, the model of a type, or a clone that may fail, which Rust derives instead.
 fn contract(text: &str) -> Option<usize> {
     if let Some(&(begin, has_braces)) = CONTRACTS.iter().find(|it| text.starts_with(it.0)) {
         return Some(if has_braces { braces(text) } else { begin.trim_end().len() });
@@ -57,13 +57,13 @@ fn contract(text: &str) -> Option<usize> {
     if !item.starts_with("ghost ") {
         return None;
     }
-    // It ends at its semicolon or comma, after its braces if it has some. A clause ends with those.
+    // The item ends at its semicolon or comma, after its braces if it has some. A clause ends with its braces.
     let end = if text[text.find(['{', ';'])?..].starts_with('{') { braces(text) } else { 0 };
     let is_clause = ["requires", "ensures"].iter().any(|it| text[end..].trim_start().starts_with(it));
     Some(if is_clause { end } else { end + text[end..].find([';', ','])? + 1 })
 }
 
-/// The precondition that a clause says, if the function whose signature ends a text is public, or a public trait's.
+/// The precondition in a clause, if `before` ends with the signature of a public function or of one in a public trait.
 fn precondition(before: &str, clause: &str) -> Option<Precondition> {
     let inside = clause.strip_prefix("requires ")?.split_once('{')?.1.strip_suffix('}')?;
     let (head, after) = before.rsplit_once("fn ")?;
@@ -74,7 +74,7 @@ fn precondition(before: &str, clause: &str) -> Option<Precondition> {
     is_public.then(|| (name.to_owned(), inside.split_whitespace().collect::<Vec<_>>().join(" ")))
 }
 
-/// A source with its contracts in comments, and the preconditions of its public functions.
+/// The source with its contracts in comments, and the preconditions of its public functions.
 pub fn commented(text: &str) -> (String, Vec<Precondition>) {
     let (mut left, mut rest, mut preconditions) = (String::new(), text, Vec::new());
     while !rest.is_empty() {
@@ -87,7 +87,7 @@ pub fn commented(text: &str) -> (String, Vec<Precondition>) {
             preconditions.extend(precondition(&left, clause));
             left = left + "/* " + clause + " */";
         }
-        // What follows on the line of a contract may be one too.
+        // The rest of a contract's line may be another contract.
         let length = length.unwrap_or_else(|| {
             let length = line.find('\n').map_or(line.len(), |at| at + 1);
             left += &line[..length];

@@ -12,17 +12,18 @@ const CRATES: &[(&str, &str)] = &[
     ("dwarf_op", "op"),
     ("dwarf_eval", "eval"),
 ];
-// The lists of the first two take an allocator, and the third has traits of which gimli's say more.
+// These are written by hand: the lists of the first two take an allocator, and gimli's traits have more than the
+// third's.
 const BY_HAND: &[&str] =
     &["dwarf_eval/src/store/heap.rt", "dwarf_eval/src/eval/heap.rt", "dwarf_eval/src/store/storage.rt"];
-// The functions of laws do nothing, and only a list on the heap gives its pieces away. The names of opcodes are the
+// The functions of laws do nothing. Only a list on the heap gives its pieces away. The names of opcodes are the
 // standard's.
 const ALLOWED: &str = "#![allow(dead_code, unused_imports, non_upper_case_globals)]
 #![allow(clippy::derivable_impls, clippy::module_inception, clippy::redundant_pattern_matching)]
 #![allow(clippy::should_implement_trait, clippy::upper_case_acronyms)]";
 
-/// Adds `_unchecked` to the names of the public methods that have a precondition, in all calls too. What is written by
-/// hand has the names, and checks it.
+/// Adds `_unchecked` to the names of the public methods with this precondition, and to all calls of them. The code that
+/// is written by hand has the old names, and checks the precondition.
 fn rename_unchecked(sources: &mut Sources, condition: &str) {
     let all = sources.all.iter().flat_map(|it| &it.preconditions).filter(|it| it.1 == condition);
     for name in all.map(|it| it.0.clone()).collect::<Vec<_>>() {
@@ -32,7 +33,7 @@ fn rename_unchecked(sources: &mut Sources, condition: &str) {
     }
 }
 
-/// The same of the public methods of an evaluation, which the sources don't call.
+/// Does the same for the public methods of an evaluation, which the sources don't call.
 fn rename_calls_of_evaluation(sources: &mut Sources) {
     let is_its = |it: &Source| it.path == "crates/dwarf_eval/src/eval/evaluation.rt";
     let all = sources.all.iter().filter(|it| is_its(it)).flat_map(|it| &it.preconditions);
@@ -43,8 +44,8 @@ fn rename_calls_of_evaluation(sources: &mut Sources) {
     }
 }
 
-/// Ends the docs of public items with the pages of a folder, each of which has an example: `base/Reader.md` is of the
-/// item `Reader` somewhere in the module `base`.
+/// Appends the pages in a folder, each of which has an example, to the docs of public items: `base/Reader.md` goes to
+/// the item `Reader` in the module `base`.
 fn add_pages(sources: &mut Sources, folder: &str) {
     let folder = sources.top.join(folder);
     for page in files_in(&folder) {
@@ -58,7 +59,7 @@ fn add_pages(sources: &mut Sources, folder: &str) {
     }
 }
 
-/// Has tests that want what isn't in the repository run if a variable names it.
+/// Enables the tests that need files outside of the repository, if a variable names them.
 fn allow_tests() {
     for (variable, cfg) in [("GIMLI_TESTS", "gimli_tests"), ("DWEXPR_ARCHIVE", "archive")] {
         println!("cargo::rerun-if-env-changed={variable}");

@@ -1,11 +1,12 @@
-//! The proved sources on their way into a package: contracts in comments, rows applied, paths rooted.
+//! The proved sources on their way into a package: their contracts are put in comments, rows applied, and paths rooted.
 
 use crate::contracts::{Precondition, commented, is_in_word};
 use std::collections::BTreeSet;
 use std::path::{Path, PathBuf};
 use std::{env, fs};
 
-/// How much of a text some tokens take, with white space and contracts between them, if it begins with them.
+/// The length of the tokens at the beginning of a text, with white space and contracts between them. `None` if the text
+/// begins with other tokens.
 fn taken(text: &str, tokens: &str) -> Option<usize> {
     let mut rest = text;
     for sign in tokens.chars().filter(|it| !it.is_whitespace()) {
@@ -23,7 +24,7 @@ fn is_comment(text: &str, at: usize) -> bool {
     text[line..at].contains("//") || text[..at].rfind("/*") > text[..at].rfind("*/")
 }
 
-/// Replaces tokens wherever they stand in code. Gives how often they do.
+/// Replaces tokens wherever they are in code. Returns the number of places.
 fn replace(text: &mut String, old: &str, new: &str) -> usize {
     let (mut left, mut end, mut met) = (String::new(), 0, 0);
     for (at, _) in text.match_indices(old.split(char::is_whitespace).next().unwrap_or(old)) {
@@ -47,7 +48,7 @@ pub fn read(path: &Path) -> String {
     text.replace("\r\n", "\n")
 }
 
-/// The files in a folder and the folders in it, in order.
+/// The files in a folder and in all folders below it, in order.
 pub fn files_in(folder: &Path) -> Vec<PathBuf> {
     println!("cargo::rerun-if-changed={}", folder.display());
     let entries = fs::read_dir(folder).unwrap_or_else(|error| panic!("{}: {error}", folder.display()));
@@ -62,18 +63,18 @@ fn write(path: &Path, text: &str) {
     written.unwrap_or_else(|error| panic!("{}: {error}", path.display()));
 }
 
-/// A source on its way.
+/// A source that is being changed.
 pub struct Source {
     /// Its path in the repository.
     pub path: String,
-    /// The module that its crate becomes, and its place there.
+    /// The module that its crate becomes, and the path of its own module there.
     pub module: &'static str,
     place: PathBuf,
     text: String,
     pub preconditions: Vec<Precondition>,
 }
 
-/// Proved crates, each with the module that it becomes, and their sources.
+/// The sources of proved crates. Each crate becomes a module.
 pub struct Sources {
     pub top: PathBuf,
     crates: &'static [(&'static str, &'static str)],
@@ -81,7 +82,7 @@ pub struct Sources {
 }
 
 impl Sources {
-    /// Reads the sources but for those that are written by hand, which end with these places.
+    /// Reads the sources, except those that are written by hand, whose paths end in `by_hand`.
     pub fn read(top: &str, crates: &'static [(&str, &str)], by_hand: &[&str]) -> Self {
         let top = Path::new(&env::var_os("CARGO_MANIFEST_DIR").expect("Cargo sets it")).join(top);
         let mut sources = Vec::new();
@@ -101,8 +102,8 @@ impl Sources {
         Sources { top, crates, all: sources }
     }
 
-    /// Refuses a precondition that a file of preconditions doesn't have, and one in it that no function has. A line of
-    /// it has a precondition, a colon and the functions, or `*` for any; others say what checks those below.
+    /// Checks that the preconditions are those in a file. Each line there has a precondition, a colon, and the
+    /// functions with it, or `*` for any function. Other lines tell what checks the preconditions below them.
     pub fn check_preconditions(&self, list: &str, is_of: impl Fn(&str) -> bool) {
         let text = read(&self.top.join(list));
         let lines = text.lines().filter(|it| !it.starts_with('#')).filter_map(|it| it.rsplit_once(": "));
@@ -121,8 +122,8 @@ impl Sources {
         assert!(unmet.is_empty(), "{list} names preconditions that no function has: {unmet:?}");
     }
 
-    /// Applies the rows of a file: each has the path of a source or `everywhere`, text after `-`, and text after `+`,
-    /// to stand in its place. In a source it is met once. A line that begins with `# ` is a remark.
+    /// Applies the rows of a file. A row has the path of a source, or `everywhere`; the text after `-` is replaced by
+    /// that after `+`. A source has that text exactly once. A line that begins with `# ` is a remark.
     pub fn apply(&mut self, rows: &str) {
         let text = read(&self.top.join(rows));
         let text: String = text.split_inclusive('\n').filter(|it| !it.starts_with("# ")).collect();
@@ -130,20 +131,20 @@ impl Sources {
             let (place, lines) = row.split_once('\n').expect("a row has more than one line");
             let of = |sign| lines.lines().filter_map(move |it| it.strip_prefix(sign)).collect::<Vec<_>>();
             let (old, new) = (of("- ").join("\n"), of("+ "));
-            // It has a line for each only if one is a comment.
+            // A comment needs a line of its own.
             let new = new.join(if new.iter().any(|it| it.contains("//")) { "\n" } else { " " });
             let met = self.replace(|it| place == "everywhere" || it.path == place, &old, &new);
             assert!(met == 1 || place == "everywhere" && met > 1, "a row of {rows} is met {met} times: {row}");
         }
     }
 
-    /// Replaces tokens in some of the sources. Gives how often they stand there.
+    /// Replaces tokens in some of the sources. Returns the number of places.
     pub fn replace(&mut self, is_one: impl Fn(&Source) -> bool, old: &str, new: &str) -> usize {
         self.all.iter_mut().filter(|it| is_one(it)).map(|it| replace(&mut it.text, old, new)).sum()
     }
 
-    /// Writes the module `sources`, for which rustc and clippy are allowed something, and to whose files an import is
-    /// added. A path begins at the module that a crate becomes; `$crate` is the package's root.
+    /// Writes the module `sources`. It allows rustc and clippy what `allowed` says, and adds an import to each file.
+    /// Paths begin at the module that a crate becomes; `$crate` is the package's root.
     pub fn write(mut self, allowed: &str, import: &str) {
         let out = PathBuf::from(env::var_os("OUT_DIR").expect("Cargo sets it"));
         for Source { module, place, text, .. } in &mut self.all {

@@ -14,7 +14,7 @@ use gimli::{
 };
 use std::process::ExitCode;
 
-/// The content of a section of an ELF file; `None` if there is no such section.
+/// The contents of a section of an ELF file. `None` if there is no such section.
 fn section<'a>(file: &'a [u8], name: &str) -> Option<&'a [u8]> {
     let number = |place: usize, size: usize| {
         let bytes = file.get(place..)?.get(..size)?;
@@ -49,7 +49,7 @@ struct Unit<'a, R: Reader> {
     cfa: u64,
 }
 
-/// What an expression gave, or the request that only a process can answer.
+/// The outcome of an expression, or the request that only a process can answer.
 enum Outcome<R: Reader> {
     Pieces(Vec<Piece<GimliReader<R>>>),
     Needs(String),
@@ -76,7 +76,7 @@ impl<R: Reader> Unit<'_, R> {
                         needs => return Ok(needs),
                     }
                 }
-                // The program isn't moved.
+                // The program is at the addresses for which it was linked.
                 EvaluationResult::RequiresRelocatedAddress(address) => {
                     evaluation.resume_with_relocated_address(address)?
                 }
@@ -180,7 +180,7 @@ fn shown<R: Reader>(pieces: Vec<Piece<GimliReader<R>>>) -> gimli::Result<String>
     Ok(shown.collect::<gimli::Result<Vec<_>>>()?.join(", "))
 }
 
-// Other readers are made of what a slice converts to.
+// Other readers are converted from a slice.
 #[allow(clippy::useless_conversion)]
 fn print_variables(file: &[u8], cfa: u64) -> gimli::Result<()> {
     let dwarf = gimli::Dwarf::load(|id| {

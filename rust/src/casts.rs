@@ -1,14 +1,14 @@
-//! Signed and unsigned numbers of the same bits, as the proved sources make of each other. std's methods for that are
-//! of Rust 1.87.
+//! Casts between signed and unsigned integers of the same size, as the proved sources use them. std has them from Rust
+//! 1.87 on.
 
-/// The signed number of the same bits.
+/// The signed integer with the same bits.
 pub(crate) trait IntoSigned {
     type Signed;
 
     fn into_signed(self) -> Self::Signed;
 }
 
-/// The unsigned number of the same bits.
+/// The unsigned integer with the same bits.
 pub(crate) trait IntoUnsigned {
     type Unsigned;
 

@@ -1,4 +1,4 @@
-//! Conversions between what an evaluation takes and gives here and in gimli.
+//! Conversions between the arguments and results of evaluations here and in gimli.
 
 use crate::{Error, Expression, GimliReader, Location, Piece, Result};
 
@@ -35,7 +35,7 @@ impl<R: gimli::Reader> From<Location<GimliReader<R>>> for gimli::Location<R> {
 impl<R: gimli::Reader> TryFrom<gimli::Location<R>> for Location<GimliReader<R>> {
     type Error = Error;
 
-    /// `UnsupportedTypeOperation`, if it is a floating-point value.
+    /// `UnsupportedTypeOperation`, if it has a floating-point value.
     #[inline]
     fn try_from(theirs: gimli::Location<R>) -> Result<Self> {
         Ok(match theirs {
@@ -62,7 +62,7 @@ impl<R: gimli::Reader> From<Piece<GimliReader<R>>> for gimli::Piece<R> {
 impl<R: gimli::Reader> TryFrom<gimli::Piece<R>> for Piece<GimliReader<R>> {
     type Error = Error;
 
-    /// `UnsupportedTypeOperation`, if it is a floating-point value.
+    /// `UnsupportedTypeOperation`, if it has a floating-point value.
     #[inline]
     fn try_from(theirs: gimli::Piece<R>) -> Result<Self> {
         let gimli::Piece { size_in_bits, bit_offset, location } = theirs;

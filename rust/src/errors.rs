@@ -1,4 +1,4 @@
-//! What an error says.
+//! The messages of errors.
 
 use crate::Error;
 use core::fmt;
@@ -6,7 +6,7 @@ use core::fmt;
 macro_rules! descriptions {
     ($type:ident: $($name:ident $(($x:ident))? $text:literal;)+) => {
         impl $type {
-            /// A short text about the error. `Display` adds the number that the error carries.
+            /// A short message. `Display` adds the number that the error carries.
             pub fn description(&self) -> &str {
                 match self {
                     $($type::$name { .. } => $text,)+

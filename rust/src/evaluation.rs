@@ -1,4 +1,4 @@
-//! The calls of an evaluation that have a precondition: each is that of the sources, after a check.
+//! The calls of an evaluation that have a precondition. Each checks it, and then makes the call of the sources.
 
 use crate::sources::eval::eval::{Evaluation, Status, WaitingKind};
 use crate::sources::eval::store::List as _;
@@ -6,7 +6,7 @@ use crate::storage::{ArrayLike, EvaluationStorage};
 use crate::{Encoding, Error, EvaluationResult, Format, Piece, Reader, Result, Value, ValueType};
 use core::fmt;
 
-/// Whether the calls of the sources take an encoding. In place of another one they are given `PLACEHOLDER`.
+/// Whether the calls of the sources accept an encoding. If not, they are given `PLACEHOLDER` instead.
 #[inline]
 fn is_taken(encoding: Encoding) -> bool {
     matches!(encoding.address_size, 1..=8)
@@ -15,7 +15,7 @@ fn is_taken(encoding: Encoding) -> bool {
 const PLACEHOLDER: Encoding = Encoding { address_size: 8, format: Format::Dwarf32, version: 5 };
 
 impl<R: Reader, S: EvaluationStorage<R>> Evaluation<R, S> {
-    /// A fresh evaluation of `bytecode`, over empty lists. In [`StoreInSlices`](crate::StoreInSlices) these have no
+    /// A fresh evaluation of `bytecode`, over empty lists. In [`StoreInSlices`](crate::StoreInSlices) the lists have no
     /// room: use [`with_lists`](Self::with_lists).
     #[inline]
     pub fn new_in(bytecode: R, encoding: Encoding) -> Self {
@@ -28,7 +28,7 @@ impl<R: Reader, S: EvaluationStorage<R>> Evaluation<R, S> {
         )
     }
 
-    /// A fresh evaluation of `bytecode`, over lists of the caller's. gimli has no such call.
+    /// A fresh evaluation of `bytecode`, over the caller's lists. gimli has no such call.
     ///
     /// ```
     /// use dwexpr::{EndianSlice, Encoding, Evaluation, Format, LittleEndian, Piece, SliceVec, StoreInSlices, Value};
@@ -70,15 +70,15 @@ impl<R: Reader, S: EvaluationStorage<R>> Evaluation<R, S> {
         evaluation
     }
 
-    /// Has it fail, since the calls of the sources don't take the encoding.
+    /// Makes the evaluation fail with `UnsupportedAddressSize`, as the calls of the sources don't accept the encoding.
     #[cold]
     #[inline(never)]
     fn refuse(&mut self, encoding: Encoding) {
         self.machine.fail(Error::UnsupportedAddressSize(encoding.address_size));
     }
 
-    /// Makes it a fresh evaluation of another `bytecode`, over the same lists, which keep their memory. It may be
-    /// called at any time, and after a fault too. No setting is kept. gimli has no such call.
+    /// Makes this a fresh evaluation of another `bytecode`, over the same lists, which keep their memory. It may be
+    /// called at any time, also after a fault. Every setting is unset. gimli has no such call.
     ///
     /// ```
     /// # #[cfg(feature = "alloc")] {
@@ -106,8 +106,8 @@ impl<R: Reader, S: EvaluationStorage<R>> Evaluation<R, S> {
         self.refuse(encoding);
     }
 
-    /// Puts the address of an object on the stack before the start, as `DW_AT_data_member_location` and
-    /// `DW_AT_vtable_elem_location` want it. An evaluation whose addresses have 0 bytes or more than 8 has no start.
+    /// Sets the value with which the stack starts: the object's address, for `DW_AT_data_member_location` and
+    /// `DW_AT_vtable_elem_location`. If the encoding's addresses have 0 bytes or more than 8, it does nothing.
     ///
     /// # Panics
     ///
@@ -128,14 +128,15 @@ impl<R: Reader, S: EvaluationStorage<R>> Evaluation<R, S> {
     /// - Those of [`Operation::parse`](crate::Operation::parse), if the next operation is malformed.
     /// - `UnsupportedTypeOperation`, `TypeMismatch`, `DivisionByZero` and `InvalidShiftExpression`, as the calls of
     ///   [`Value`] give them.
-    /// - `NotEnoughStackItems`, if a value is missing on the stack; also at the end, if there are no pieces.
-    /// - `InvalidDerefSize`, if more bytes are to be read than an address has.
+    /// - `NotEnoughStackItems`, if the stack has too few values; also at the end, if there is neither a value nor a
+    ///   location or piece.
+    /// - `InvalidDerefSize`, if a dereference is wider than an address.
     /// - `InvalidPushObjectAddress`, if no object address is set.
     /// - `UnsupportedEvaluation`, at an operation that can only be decoded.
     /// - `BadBranchTarget`, if a branch leaves its expression.
-    /// - `TooManyIterations`, if the maximum of operations is reached and one is left.
-    /// - `InvalidPiece`, if the expression ends after pieces with a value or a location that has no piece.
-    /// - `InvalidExpressionTerminator`, if a location is followed by another operation than a piece.
+    /// - `TooManyIterations`, if one more operation is left after the maximum.
+    /// - `InvalidPiece`, if a value or a location that is no piece is left after pieces at the end.
+    /// - `InvalidExpressionTerminator`, if an operation other than a piece follows a location.
     /// - `StackFull`, if a list is full or memory is refused.
     /// - `UnsupportedAddressSize`, if the encoding's addresses have 0 bytes or more than 8.
     ///

@@ -1,11 +1,11 @@
-//! What needs a heap: evaluations over lists of any length.
+//! Evaluations over lists of any length, which need a heap.
 
 use crate::sources::eval::store::{List as _, OneInLine};
 use crate::storage::sealed::Sealed;
 use crate::{ArrayLike, Encoding, Error, Evaluation, EvaluationStorage, Expression, Location, Piece, Reader, Value};
 use alloc::vec::Vec;
 
-/// Lists on the heap, as long as memory allows.
+/// Keeps the lists of an evaluation on the heap, as long as memory allows.
 #[derive(Clone, Copy, Debug, PartialEq, Eq)]
 pub struct StoreOnHeap;
 
@@ -24,13 +24,13 @@ impl<R: Reader> Expression<R> {
 }
 
 impl<R: Reader> Evaluation<R> {
-    /// A fresh evaluation of `bytecode`, on the heap. It takes no memory yet.
+    /// A fresh evaluation of `bytecode`, on the heap. It allocates nothing yet.
     #[inline]
     pub fn new(bytecode: R, encoding: Encoding) -> Self {
         Evaluation::new_in(bytecode, encoding)
     }
 
-    /// The pieces of a complete evaluation. One alone takes memory now: [`as_result`](Self::as_result) takes none. If
+    /// The pieces of a complete evaluation. A single piece allocates here; [`as_result`](Self::as_result) doesn't. If
     /// memory is refused, the process ends, as at any push on a `Vec`.
     ///
     /// # Panics
@@ -41,7 +41,7 @@ impl<R: Reader> Evaluation<R> {
     pub fn result(self) -> Vec<Piece<R>> {
         self.assert_complete("result");
         match copy_of_only(self.as_result_unchecked()) {
-            // By `vec!` it takes 0.05 of gimli's time more.
+            // `vec!` would take 0.05 of gimli's time more.
             #[allow(clippy::vec_init_then_push)]
             Some(piece) => {
                 let mut list = Vec::with_capacity(1);
@@ -52,7 +52,7 @@ impl<R: Reader> Evaluation<R> {
         }
     }
 
-    /// The same as [`result`](Self::result), for a program that can't unwind. gimli has no such call.
+    /// Like [`result`](Self::result), for a program that can't unwind. gimli has no such call.
     ///
     /// # Errors
     ///
@@ -69,8 +69,8 @@ impl<R: Reader> Evaluation<R> {
     }
 }
 
-/// A copy of the only piece, if it holds no reader. Its fields are copied one by one, and the evaluation isn't moved: that
-/// is worth 0.2 of gimli's time for libc and libm.
+/// A copy of the only piece, if it has no reader. The fields are copied one by one, and the evaluation isn't moved,
+/// which saves 0.2 of gimli's time for libc and libm.
 #[inline(always)]
 fn copy_of_only<R: Reader>(pieces: &[Piece<R>]) -> Option<Piece<R>> {
     let [Piece { size_in_bits, bit_offset, location }] = pieces else { return None };

@@ -1,4 +1,4 @@
-//! gimli's readers, and conversions between gimli's types and these.
+//! gimli's readers, and conversions between the types of both crates.
 
 use crate::{
     BigEndian, DebugAddrIndex, DebugInfoOffset, DieReference, DwAte, DwOp, Encoding, Error, Format, LittleEndian,
@@ -7,11 +7,11 @@ use crate::{
 use core::fmt;
 use core::ops::Deref;
 
-/// A reader of gimli's. It reads addresses and offsets by gimli's calls, and so relocated if the reader relocates them.
+/// A reader of gimli's. It reads addresses and offsets by gimli's calls, so a reader that relocates them does so here.
 ///
-/// An error of the reader's that isn't one of the bytes, such as `gimli::Error::Io` of a relocation, has no name in
-/// [`Error`]: it becomes `UnexpectedEof` with the place where the read begins. A reader that has such errors keeps the
-/// last of them itself, for its caller to look at.
+/// [`Error`] has no name for errors that don't come from the bytes, such as `gimli::Error::Io` from a relocation. Such
+/// an error becomes `UnexpectedEof` with the place where the read begins. A reader with such errors can keep the last
+/// one itself, for its caller.
 ///
 /// ```
 /// # #[cfg(feature = "alloc")] {
@@ -42,12 +42,12 @@ impl<R> Deref for GimliReader<R> {
     }
 }
 
-/// An offset of a reader of gimli's: so each of gimli's offsets is one here. `From` makes a `gimli::UnitOffset` of a
-/// [`UnitOffset`] of these, and so on.
+/// An offset of one of gimli's readers. It makes each of gimli's offsets one of this crate's. `From` converts a
+/// [`UnitOffset`] of it to a `gimli::UnitOffset`, and so on.
 #[derive(Clone, Copy, PartialEq, Eq, PartialOrd, Ord, Hash)]
 pub struct GimliOffset<T>(pub T);
 
-/// Both are shown as what is in them.
+/// Shows these types as what is in them.
 macro_rules! shown_as_gimlis {
     ($($type:ident)+) => {
         $(
@@ -71,7 +71,7 @@ impl<T: PartialEq> PartialEq<T> for GimliOffset<T> {
 }
 
 impl<T: gimli::ReaderOffset> ReaderOffset for GimliOffset<T> {
-    // gimli's are integers.
+    // gimli's offsets are integers.
     const BITS: u32 = 8 * size_of::<T>() as u32;
 
     #[inline]
@@ -111,8 +111,8 @@ impl<T: gimli::ReaderOffset> ReaderOffset for GimliOffset<T> {
 }
 
 impl<R: gimli::Reader> GimliReader<R> {
-    /// Takes something from the front. An error that has no name here is `UnexpectedEof` with the place where the bytes
-    /// begin.
+    /// Takes something from the front. An error that has no name here becomes `UnexpectedEof` with the place where the
+    /// bytes begin.
     #[inline(always)]
     fn take<T>(&mut self, read: impl FnOnce(&mut R) -> gimli::Result<T>) -> Result<T> {
         #[cold]
@@ -149,7 +149,7 @@ impl<R: gimli::Reader> Reader for GimliReader<R> {
 
     #[inline]
     fn offset_from(&self, base: &Self) -> Self::Offset {
-        // By the lengths: once it is empty, the reader may be anywhere.
+        // By the lengths, since an empty reader may be at any place.
         GimliOffset(base.0.len() - self.0.len())
     }
 
@@ -184,7 +184,7 @@ impl<R: gimli::Reader> Reader for GimliReader<R> {
     }
 }
 
-/// A conversion.
+/// A conversion by `From`.
 macro_rules! convert {
     ([$($of:tt)*] $from:ty => $to:ty { $($there:pat => $here:expr;)+ }) => {
         impl<$($of)*> From<$from> for $to {
@@ -198,7 +198,7 @@ macro_rules! convert {
     };
 }
 
-/// Conversions both ways between types of the same name, whose values are written alike but for the crate.
+/// Conversions both ways between types of the same name. Their values are written alike, except for the crate's name.
 macro_rules! both_ways {
     ($($type:ident { $($ours:pat => $theirs:expr, $there:pat => $here:expr;)+ })+) => {
         $(
@@ -229,7 +229,7 @@ both_ways! {
     }
 }
 
-/// Conversions both ways of offsets that are gimli's, and of those of a reader of gimli's.
+/// Conversions both ways of offsets: gimli's own, and those of a `GimliReader`.
 macro_rules! offsets {
     ($($type:ident)+) => {
         $(
@@ -241,7 +241,7 @@ macro_rules! offsets {
     };
 }
 
-/// The same of references to entries.
+/// Conversions both ways of references to entries.
 macro_rules! references {
     ([$($of:tt)*] $offset:ty) => {
         convert!([$($of)*] DieReference<$offset> => gimli::DieReference<T> {
@@ -259,7 +259,7 @@ offsets!(UnitOffset DebugInfoOffset DebugAddrIndex);
 references!([T: gimli::ReaderOffset] T);
 references!([T] GimliOffset<T>);
 
-/// The same of types of which gimli's has more values: `From` into gimli's, and what comes of these.
+/// Conversions of types that have more values in gimli: `From` into gimli's, and `TryFrom` back.
 macro_rules! into_gimli {
     ($type:ident: $($name:ident $(($x:ident))? $($text:literal;)?)+) => {
         impl From<$type> for gimli::$type {

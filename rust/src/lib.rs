@@ -1,11 +1,11 @@
-//! DWARF expressions, decoded and evaluated (DWARF 5, sections 2.5 and 2.6) under the names of the crate
-//! [gimli](https://github.com/gimli-rs/gimli) 0.34, by proved sources whose contracts were taken out, so that nothing
-//! is proved of this crate itself.
+//! Decodes and evaluates DWARF expressions (DWARF 5, sections 2.5 and 2.6), with the names of the crate
+//! [gimli](https://github.com/gimli-rs/gimli) 0.34. The code comes from proved sources, but their contracts are taken
+//! out, so nothing is proved of this crate itself.
 //!
-//! Of the sources, which are in Rattle, it is proved that each call returns and gives what a separate specification
-//! says. The build script makes the module `sources` of them: it puts their contracts in comments, and replaces a few
-//! types, bounds, attributes and names. The rest is written by hand: it checks the preconditions of their calls, and
-//! adds what gimli's types have besides. Tests show that all of it does what is proved of the sources.
+//! The sources are in Rattle. It is proved that each of their calls returns, and gives what a separate specification
+//! says. The build script makes the module `sources` from them: it puts their contracts in comments, and replaces a few
+//! types, bounds, attributes and names. The rest is written by hand: it checks the preconditions of the calls, and adds
+//! what else gimli's types have. Tests show that the crate does what is proved of the sources.
 //!
 //! ```
 //! # #[cfg(feature = "alloc")] {
@@ -22,10 +22,10 @@
 //!
 //! Features:
 //!
-//! - `alloc`, a default one: lists on the heap. Without it the crate takes no memory, see [`StoreInSlices`].
+//! - `alloc`, a default feature: lists on the heap. Without it the crate doesn't allocate, see [`StoreInSlices`].
 //! - `arrayvec`: an evaluation can keep its lists in arrays, see [`EvaluationStorage`].
-//! - `gimli`: `GimliReader` reads from any `gimli::Reader`, and the types of both crates convert. It is for gimli 0.34:
-//!   Cargo takes any other gimli beside it for another crate, whose readers are none here.
+//! - `gimli`: `GimliReader` reads from any `gimli::Reader`, and the types of both crates convert. It is for gimli 0.34.
+//!   To Cargo any other version of gimli is another crate, whose readers don't work here.
 //! - `small`: smaller code by `opt-level = "z"`.
 #![no_std]
 #![forbid(unsafe_code)]
@@ -33,14 +33,14 @@
 
 #[cfg(feature = "alloc")]
 extern crate alloc;
-// By this name the sources know what Rust has without an operating system.
+// The sources name `std`, and use only what `core` has.
 extern crate core as std;
 
-// The module `sources`, which the build script writes. Each line has the number that it has in the proved source.
+// The module `sources`, which the build script writes. Each line has the same number as in the proved source.
 include!(concat!(env!("OUT_DIR"), "/lib.rs"));
 
 #[macro_use]
-// Which of them are taken depends on the features.
+// The features decide which of the macros are used.
 #[allow(unused_macros)]
 mod lists;
 
@@ -70,7 +70,7 @@ pub mod constants {
     pub use crate::sources::base::constants::*;
 }
 
-/// Decoding and evaluating.
+/// Decoding and evaluation.
 pub mod read {
     #[cfg(feature = "alloc")]
     pub use crate::heap::StoreOnHeap;
@@ -107,7 +107,7 @@ pub const NativeEndian: LittleEndian = LittleEndian;
 #[allow(non_upper_case_globals)]
 pub const NativeEndian: BigEndian = BigEndian;
 
-// `usize` is an offset, and an offset takes any number of 32 bits.
+// Offsets are `usize` too, and an offset takes any number of 32 bits.
 const _: () = assert!(usize::BITS >= 32, "a machine's word has to have 32 bits or more");
 
 #[cfg(all(doctest, feature = "alloc"))]

@@ -1,6 +1,6 @@
-//! All operations, replies, resumes and errors, which macros take one after another. Tests take them from here too.
+//! Macros that pass all operations, replies, resumes and errors to another macro. Tests use them too.
 
-/// Hands a macro all operations with their fields, in gimli's order. One in brackets holds a reader.
+/// Passes all operations with their fields to a macro, in gimli's order. A name in brackets is a reader.
 macro_rules! operations {
     ($macro:ident) => {
         $macro! { Operation:
@@ -17,7 +17,7 @@ macro_rules! operations {
     };
 }
 
-/// Hands a macro all that an evaluation replies, with what each carries.
+/// Passes all replies of an evaluation to a macro, with the fields of each.
 macro_rules! replies {
     ($macro:ident) => {
         $macro! { EvaluationResult:
@@ -30,13 +30,13 @@ macro_rules! replies {
     };
 }
 
-/// Hands a macro all resumes, each with the kind of request that has to be open.
+/// Passes all resumes to a macro, each with the kind of request that has to be open.
 macro_rules! resumes {
     ($macro:ident) => {
         $macro! {
-            /// Answers `RequiresMemory` with the content of memory.
+            /// Answers `RequiresMemory` with the contents of memory.
             resume_with_memory resume_with_memory_unchecked(value: Value) for Memory;
-            /// Answers `RequiresRegister` with the content of the register.
+            /// Answers `RequiresRegister` with the contents of the register.
             resume_with_register resume_with_register_unchecked(value: Value) for Register;
             /// Answers `RequiresWasmLocal`, `RequiresWasmGlobal` or `RequiresWasmStack`.
             resume_with_wasm_value resume_with_wasm_value_unchecked(value: Value) for WasmValue;
@@ -46,7 +46,7 @@ macro_rules! resumes {
             resume_with_tls resume_with_tls_unchecked(value: u64) for Tls;
             /// Answers `RequiresCallFrameCfa` with the canonical frame address.
             resume_with_call_frame_cfa resume_with_call_frame_cfa_unchecked(cfa: u64) for CallFrameCfa;
-            /// Answers `RequiresAtLocation` with the expression to evaluate in the call's place, which is empty if the
+            /// Answers `RequiresAtLocation` with the expression to evaluate in place of the call; it is empty if the
             /// entry has none. It is read in its own byte order.
             resume_with_at_location resume_with_at_location_unchecked(bytes: R) for AtLocation;
             /// Answers `RequiresEntryValue` with the value of the expression at the function's entry.
@@ -63,7 +63,7 @@ macro_rules! resumes {
     };
 }
 
-/// Hands a macro all errors, each with what it says.
+/// Passes all errors to a macro, each with its message.
 macro_rules! errors {
     ($macro:ident) => {
         $macro! { Error:

@@ -1,4 +1,4 @@
-//! The constants' names as text, and the encodings of base types that the sources don't need.
+//! The constants' names as text, and the encodings of base types that the sources don't use.
 
 #![allow(non_upper_case_globals)]
 
@@ -46,13 +46,13 @@ encodings! {
     DW_ATE_UCS = 0x11;
     /// A character of ISO/IEC 646:1991.
     DW_ATE_ASCII = 0x12;
-    /// The first of those that producers define.
+    /// The first encoding for use by producers.
     DW_ATE_lo_user = 0x80;
-    /// The last of them.
+    /// The last encoding for use by producers.
     DW_ATE_hi_user = 0xff;
 }
 
-/// A short text, written without a heap.
+/// A short text, formatted without a heap.
 #[derive(Default)]
 struct Short {
     bytes: [u8; 24],

@@ -1,4 +1,4 @@
-//! How operations are shown: with gimli's names, and their fields in gimli's order.
+//! `Debug` for operations, with gimli's names, and their fields in gimli's order.
 
 use crate::{Operation, Reader};
 use core::fmt;

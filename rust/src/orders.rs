@@ -1,4 +1,4 @@
-//! The orders, hashes and small calls that gimli's plain types have besides those of the sources.
+//! Orders, hashes and small calls that gimli's plain types have and the sources don't.
 
 use crate::{
     BigEndian, DebugInfoOffset, DwAte, DwOp, Encoding, Endianity, Format, LittleEndian, Register, RunTimeEndian,
@@ -7,7 +7,7 @@ use crate::{
 use core::cmp::Ordering;
 use core::hash::{Hash, Hasher};
 
-/// A type is ordered and hashed by its number.
+/// Orders and hashes types by their numbers.
 macro_rules! by_number {
     ($($type:ident $(<$number:ident>)?,)+) => {
         $(
@@ -63,7 +63,7 @@ impl Format {
     }
 }
 
-/// What each byte order has besides.
+/// What each byte order has besides the sources' trait.
 pub trait LittleOrBig: Copy {
     /// Whether the first byte of a number is its lowest.
     fn is_little_endian(self) -> bool;

@@ -1,8 +1,8 @@
-//! Conversions between operations, and between requests, here and in gimli.
+//! Conversions of operations and of requests, to gimli's and back.
 
 use crate::{EvaluationResult, GimliReader, Operation};
 
-/// Conversions both ways between types of the same name, whose variants have the same fields. One in brackets is a
+/// Conversions both ways between types of the same name, whose variants have the same fields. A name in brackets is a
 /// reader.
 macro_rules! as_gimlis {
     ($type:ident: $($name:ident $(($x:ident))? $({ $($field:ident)+ })? $([$reader:ident])?,)+) => {

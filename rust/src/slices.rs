@@ -1,4 +1,4 @@
-//! What gimli's `EndianSlice` and `OperationIter` have besides those of the sources.
+//! What gimli's `EndianSlice` and `OperationIter` have and the sources' don't.
 
 use crate::{EndianSlice, Endianity, Error, Expression, OperationIter, Reader, ReaderOffset, ReaderOffsetId, Result};
 #[cfg(feature = "alloc")]
@@ -6,7 +6,7 @@ use alloc::borrow::Cow;
 use core::ops::{Deref, Index, Range, RangeFrom, RangeTo};
 
 impl<'input, Endian: Endianity> EndianSlice<'input, Endian> {
-    /// The bytes before an index, and those from there on.
+    /// The bytes before an index, and those from the index on.
     ///
     /// # Panics
     ///
@@ -16,13 +16,13 @@ impl<'input, Endian: Endianity> EndianSlice<'input, Endian> {
         (self.range_to(..idx), self.range_from(idx..))
     }
 
-    /// The index of the first such byte.
+    /// The index of the first byte with this value.
     #[inline]
     pub fn find(&self, byte: u8) -> Option<usize> {
         self.slice().iter().position(|it| *it == byte)
     }
 
-    /// The number of bytes from the start of `base` to the start of these, which are a part of it.
+    /// The offset of these bytes in `base`, of which they are a part.
     ///
     /// # Panics
     ///
@@ -75,20 +75,20 @@ impl<'input, Endian: Endianity> EndianSlice<'input, Endian> {
         Ok(())
     }
 
-    /// The place in memory where the bytes begin.
+    /// The address at which the bytes begin.
     #[inline]
     pub fn offset_id(&self) -> ReaderOffsetId {
         ReaderOffsetId(self.slice().as_ptr().addr() as u64)
     }
 
-    /// The index of a place in memory; `None` if it is outside of the bytes and isn't their end.
+    /// The index of the byte at an address. `None` if the address is neither in the bytes nor at their end.
     #[inline]
     pub fn lookup_offset_id(&self, id: ReaderOffsetId) -> Option<usize> {
         let index = usize::try_from(id.0.checked_sub(self.offset_id().0)?).ok()?;
         (index <= self.slice().len()).then_some(index)
     }
 
-    /// The bytes, which are borrowed. There is no error.
+    /// The bytes, borrowed. It never fails.
     #[cfg(feature = "alloc")]
     #[inline]
     pub fn to_slice(&self) -> Result<Cow<'input, [u8]>> {
@@ -131,15 +131,15 @@ impl<'input, Endian: Endianity> From<EndianSlice<'input, Endian>> for &'input [u
 }
 
 impl<R: Reader> OperationIter<R> {
-    /// The number of bytes before the next operation of the expression. After an error it is the whole length.
+    /// The offset of the next operation in the expression. After an error it is the length of the expression.
     ///
     /// # Panics
     ///
-    /// If `expression` is shorter than the rest of the operations, and so isn't theirs.
+    /// If `expression` is shorter than the bytes that are left, and so isn't the iterator's.
     #[inline]
     #[track_caller]
     pub fn offset_from(&self, expression: &Expression<R>) -> R::Offset {
-        // Too short an expression makes it wrap, or panic.
+        // With too short an expression this wraps or panics.
         let offset = self.offset_from_unchecked(expression);
         assert!(offset.into_u64() <= expression.0.len().into_u64(), "these are the operations of another expression");
         offset

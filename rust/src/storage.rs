@@ -1,4 +1,4 @@
-//! Where an evaluation keeps its lists: gimli's traits, of which each says what list of the sources it takes.
+//! Where an evaluation keeps its lists: gimli's traits, each with the list of the sources that it stands for.
 
 use crate::sources::eval::store::{List, SliceVec};
 use crate::{Piece, Reader, Value};
@@ -7,15 +7,15 @@ use arrayvec::ArrayVec;
 use core::fmt;
 use core::marker::PhantomData;
 
-/// A list of an evaluation: a `Vec<T>` on the heap, or a [`SliceVec`] over a slice of the caller's; with the feature
-/// `arrayvec` also an array `[T; N]` or an `ArrayVec<T, N>`. It is sealed, as gimli's is.
+/// A list of an evaluation: a `Vec<T>` on the heap, or a [`SliceVec`] over the caller's slice; with the feature
+/// `arrayvec` also an array `[T; N]` or an `ArrayVec<T, N>`. The trait is sealed, as gimli's is.
 ///
 /// ```
 /// # #[cfg(feature = "alloc")] {
 /// use dwexpr::{EndianSlice, Encoding, Error, Evaluation, EvaluationResult, EvaluationStorage, Format, LittleEndian};
 /// use dwexpr::{Piece, Reader, SliceVec, Value};
 ///
-/// /// A new evaluation has a slice without room for callers. So what is called has to be last.
+/// /// A new evaluation has no room for callers, so a call has to be the last operation.
 /// struct WithoutCallers;
 ///
 /// impl<R: Reader + 'static> EvaluationStorage<R> for WithoutCallers {
@@ -39,7 +39,7 @@ pub trait ArrayLike: sealed::Sealed {
     #[doc(hidden)]
     type List: List<Item = Self::Item>;
 
-    // What the pieces are kept in.
+    // The list that holds the pieces.
     #[doc(hidden)]
     type Pieces: List<Item = Self::Item> + From<Self::List>;
 
@@ -48,7 +48,7 @@ pub trait ArrayLike: sealed::Sealed {
 }
 
 pub(crate) mod sealed {
-    /// No type of a user's is a list.
+    /// A user's type can't be a list.
     ///
     /// ```compile_fail,E0277
     /// struct Mine;
@@ -91,14 +91,14 @@ pub trait EvaluationStorage<R: Reader> {
     /// The values on the stack.
     type Stack: ArrayLike<Item = Value>;
 
-    /// The callers of the running expression, each as what is left of it and the whole of it.
+    /// The callers of the running expression, each as the bytes that are left of it and all of its bytes.
     type ExpressionStack: ArrayLike<Item = (R, R)>;
 
     /// The pieces.
     type Result: ArrayLike<Item = Piece<R>>;
 }
 
-/// Lists over slices that the caller lends.
+/// Keeps the lists of an evaluation in slices that the caller lends.
 #[derive(Clone, Copy, Debug, PartialEq, Eq)]
 pub struct StoreInSlices<'a>(PhantomData<&'a ()>);
 
@@ -108,10 +108,10 @@ impl<'a, R: Reader + 'a> EvaluationStorage<R> for StoreInSlices<'a> {
     type Result = SliceVec<'a, Piece<R>>;
 }
 
-/// What an evaluation of the sources keeps its values or its callers in.
+/// The list in which an evaluation of the sources keeps its values or its callers.
 pub(crate) type ListOf<A> = <A as ArrayLike>::List;
 
-/// What it keeps its pieces in.
+/// The list in which it keeps its pieces.
 pub(crate) type PiecesOf<A> = <A as ArrayLike>::Pieces;
 
 impl<T: Clone + fmt::Debug> fmt::Debug for SliceVec<'_, T> {

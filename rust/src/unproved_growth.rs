@@ -1,4 +1,4 @@
-//! The list on the heap, which isn't proved: std's `Vec` has no push that gives the item back if memory is refused.
+//! The list on the heap. It isn't proved: std's `Vec` has no push that hands the item back if memory is refused.
 
 use crate::sources::eval::store::List;
 use alloc::vec::Vec;
@@ -31,8 +31,8 @@ impl<T: Clone> List for Vec<T> {
     }
 }
 
-/// Makes room for one more item; `false` if memory is refused. It isn't handed the item, which would have to be written
-/// to memory for it.
+/// Makes room for one more item; `false` if memory is refused. The item isn't passed in, since it would have to be
+/// written to memory for the call.
 #[cold]
 #[inline(never)]
 fn grow<T>(list: &mut Vec<T>) -> bool {

@@ -1,4 +1,4 @@
-//! The calls on values that take the mask of an address: those of the sources, after a check of the mask.
+//! The calls on values that take an address mask. Each checks the mask, and then makes the call of the sources.
 
 use crate::{Result, Value, ValueType, is_addr_mask};
 
@@ -9,7 +9,7 @@ fn refuse(addr_mask: u64) -> ! {
     panic!("{addr_mask:#x} isn't the mask of an address: two to a width from 1 to 64, less one")
 }
 
-/// Calls of a type, each with the name of that of the sources.
+/// Calls of a type, each with the name of the call in the sources.
 macro_rules! checked {
     ($type:ident: $($(#[$doc:meta])+ $name:ident = $unchecked:ident($($argument:ident: $of:ty)?) -> $result:ty;)+) => {
         impl $type {
@@ -18,8 +18,8 @@ macro_rules! checked {
                 ///
                 /// # Panics
                 ///
-                /// If `addr_mask` isn't two to a width from 1 to 64, less one: for addresses of `n` bytes
-                /// `!0 >> (64 - 8 * n)`.
+                /// If `addr_mask` isn't 2^`n` - 1 for a width `n` from 1 to 64. For addresses of `size` bytes it is `!0
+                /// >> (64 - 8 * size)`.
                 #[inline]
                 #[track_caller]
                 pub fn $name(self, $($argument: $of,)? addr_mask: u64) -> $result {
@@ -39,17 +39,17 @@ checked! { ValueType:
 }
 
 checked! { Value:
-    /// The value as 64 bits: a signed one with its sign extended, a generic one cut to an address. There is no error.
+    /// The value as 64 bits. A signed value is sign-extended; a generic value is cut to an address. It never fails.
     to_u64 = to_u64_unchecked() -> Result<u64>;
-    /// The value converted to a type (`DW_OP_convert`). There is no error.
+    /// The value converted to a type (`DW_OP_convert`). It never fails.
     convert = convert_unchecked(value_type: ValueType) -> Result<Value>;
     /// The value's bits as a value of a type (`DW_OP_reinterpret`). `TypeMismatch` if the sizes differ.
     reinterpret = reinterpret_unchecked(value_type: ValueType) -> Result<Value>;
-    /// The absolute value, wrapped (`DW_OP_abs`). There is no error.
+    /// The absolute value, wrapped (`DW_OP_abs`). It never fails.
     abs = abs_unchecked() -> Result<Value>;
     /// The negation, wrapped (`DW_OP_neg`). `UnsupportedTypeOperation` if the type is unsigned.
     neg = neg_unchecked() -> Result<Value>;
-    /// The bitwise complement (`DW_OP_not`). There is no error.
+    /// The bitwise complement (`DW_OP_not`). It never fails.
     not = not_unchecked() -> Result<Value>;
     /// The sum, wrapped (`DW_OP_plus`). `TypeMismatch` if the types differ.
     add = add_unchecked(rhs: Value) -> Result<Value>;

@@ -1,4 +1,4 @@
-//! Evaluations in slices that are lent. They need no heap, and so no feature.
+//! Evaluations in borrowed slices. They need no heap, and so no feature.
 
 use dwexpr::EvaluationResult::*;
 use dwexpr::{

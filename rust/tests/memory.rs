@@ -6,12 +6,12 @@ use std::cell::Cell;
 use std::ptr::null_mut;
 
 thread_local! {
-    /// How many bytes of memory this thread is given from now on.
+    /// How many bytes this thread may still allocate.
     static LEFT: Cell<usize> = const { Cell::new(usize::MAX) };
 }
 
 thread_local! {
-    /// How often this thread has asked for memory.
+    /// How often this thread has tried to allocate.
     static ASKED: Cell<usize> = const { Cell::new(0) };
 }
 
@@ -24,7 +24,7 @@ impl Refusing {
     }
 }
 
-// SAFETY: memory is the system's, or refused.
+// SAFETY: the memory is the system's, or refused.
 unsafe impl GlobalAlloc for Refusing {
     unsafe fn alloc(&self, layout: Layout) -> *mut u8 {
         if Refusing::takes(layout.size()) { unsafe { System.alloc(layout) } } else { null_mut() }
@@ -42,7 +42,7 @@ unsafe impl GlobalAlloc for Refusing {
 #[global_allocator]
 static ALLOCATOR: Refusing = Refusing;
 
-/// What a call gives if the thread is given so many bytes of memory.
+/// Makes a call while the thread may allocate this many bytes.
 fn with_memory<T>(bytes: usize, call: impl FnOnce() -> T) -> T {
     LEFT.set(bytes);
     let result = call();
@@ -61,7 +61,7 @@ fn refused_memory_is_an_error() {
     // A value: DW_OP_lit1.
     let mut evaluation = with_memory(0, || Evaluation::new(little(&[0x31]), ENCODING));
     assert_eq!(with_memory(0, || evaluation.evaluate()), Err(Error::StackFull));
-    // It is kept.
+    // The fault is kept.
     assert_eq!(evaluation.evaluate(), Err(Error::StackFull));
     evaluation.restart(little(&[0x31]), ENCODING);
     assert_eq!(evaluation.evaluate(), Ok(EvaluationResult::Complete));
@@ -72,7 +72,7 @@ fn refused_memory_is_an_error() {
     let many = [0x31; 10_000];
     evaluation.restart(little(&many), ENCODING);
     assert_eq!(with_memory(5_000, || evaluation.evaluate()), Err(Error::StackFull));
-    // One piece takes none before `result`, and two do: DW_OP_reg0, and DW_OP_piece 4 after it, twice.
+    // A single piece allocates nothing before `result`, and two pieces do: DW_OP_reg0 and DW_OP_piece 4, twice.
     let pieces = [0x50, 0x93, 4, 0x50, 0x93, 4];
     let pieces_of_one = [pieces[0]];
     let mut evaluation = Evaluation::new(little(&pieces_of_one), ENCODING);
@@ -93,7 +93,7 @@ fn refused_memory_is_an_error() {
     assert_eq!(called, Err(Error::StackFull));
 }
 
-/// A list that is full grows by a part of its length: so many items take memory as often as they have bits.
+/// A full list grows in proportion to its length: n items allocate about log2(n) times.
 #[test]
 fn a_list_seldom_grows() {
     // DW_OP_lit1, and DW_OP_reg0 with a DW_OP_piece 1.

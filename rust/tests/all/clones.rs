@@ -1,4 +1,4 @@
-//! How often a reader is cloned, beside gimli: over an `Arc` each clone and its end count up and down.
+//! How often each crate clones a reader. With an `Arc`, each clone and each drop changes its count.
 
 use super::interop::ENCODING;
 use dwexpr::{Evaluation, GimliReader};
@@ -12,7 +12,7 @@ thread_local! {
     static CLONES: Cell<u32> = const { Cell::new(0) };
 }
 
-/// A reader that counts its clones. A part of it isn't one.
+/// A reader that counts its clones. Taking a part of it counts as none.
 #[derive(Debug)]
 struct Counting<'a>(gimli::EndianSlice<'a, gimli::LittleEndian>);
 
@@ -23,7 +23,7 @@ impl Clone for Counting<'_> {
     }
 }
 
-/// Calls of a reader that do what those of the slice in it do.
+/// Calls of a reader that are those of the slice in it.
 macro_rules! of_slice {
     ($($name:ident($($argument:ident: $type:ty)?) -> $result:ty;)+) => {
         $(fn $name(&self, $($argument: $type)?) -> $result {
@@ -83,7 +83,8 @@ fn clones_of(call: impl FnOnce()) -> u32 {
     CLONES.get()
 }
 
-/// Evaluates to the end or to a fault by either crate. Each request is answered by a plain value, and a call by `called`.
+/// Evaluates to the end or to a fault with either crate. Each request is answered by a plain value, and a call by
+/// `called`.
 macro_rules! evaluate {
     ($of:ident, $layer:ident, $reader:expr, $encoding:expr, $bytes:expr, $called:expr) => {{
         use $layer::EvaluationResult::*;
@@ -107,7 +108,7 @@ macro_rules! evaluate {
     }};
 }
 
-/// How often each crate clones a reader to evaluate an expression: this one, and gimli.
+/// How often each crate clones a reader to evaluate an expression: this one first, then gimli.
 fn clones_of_both(bytes: &[u8], called: &[u8]) -> (u32, u32) {
     let ours = |bytes| GimliReader(counting(bytes));
     let encoding = dwexpr::Encoding::from(ENCODING);
@@ -139,7 +140,7 @@ fn no_evaluation_clones_a_reader_more_often_than_gimlis() {
     }
 }
 
-/// A number of three bytes or more is read on a copy, so that a slice needn't stand in memory. Nothing else is.
+/// Only a number of three bytes or more is read from a copy, so that a slice can stay in registers.
 #[test]
 fn an_operation_is_read_with_a_clone_for_each_long_number() {
     for opcode in 0..=255 {
@@ -162,16 +163,16 @@ fn an_operation_is_read_with_a_clone_for_each_long_number() {
     }
 }
 
-/// Whatever an evaluation was at, only the new reader is left after a restart.
+/// At whatever point an evaluation is restarted, it drops every reader but the new one.
 #[test]
 fn a_restart_lets_go_of_each_reader() {
     let reader = |bytes: &Arc<[u8]>| GimliReader(EndianArcSlice::new(bytes.clone(), LittleEndian));
     for text in [
-        // Bytes, also in two pieces, and in a location that isn't followed by a piece.
+        // Bytes, also in two pieces, and in a location that no piece follows.
         &[0x9e, 2, 1, 2][..],
         &[0x9e, 1, 1, 0x93, 1, 0x9e, 1, 2, 0x93, 1],
         &[0x9e, 1, 1, 0x96],
-        // A literal of a type, which is cut off; an entry value, before and after its answer; and calls.
+        // A literal of a type, cut off; an entry value, before and after its answer; and calls.
         &[0xa4, 3, 1, 2],
         &[0xa3, 1, 0x50, 0x9f],
         &[0x98, 5, 0, 0x31],

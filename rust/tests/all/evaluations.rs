@@ -1,4 +1,4 @@
-//! Turns, settings and results.
+//! Calls in and out of turn, settings and results.
 
 use super::{ENCODING, evaluation, little, panics};
 use dwexpr::EvaluationResult::*;
@@ -29,13 +29,13 @@ fn a_call_out_of_turn_panics() {
     assert_eq!(empty.evaluate(), Err(Error::NotEnoughStackItems));
     assert!(panics(|| empty.as_result().len()));
     assert!(panics(|| empty.set_initial_value(1)));
-    // DW_OP_addr, which takes no address of 3 bytes.
+    // DW_OP_addr, which can't read an address of 3 bytes.
     let mut addr = Evaluation::new(little(&[0x03, 1, 2, 3]), Encoding { address_size: 3, ..ENCODING });
     assert_eq!(addr.evaluate(), Err(Error::UnsupportedAddressSize(3)));
     assert!(panics(|| addr.set_initial_value(1)));
 }
 
-/// No call that makes an evaluation sets a maximum: each evaluates a million operations and more.
+/// No call that makes an evaluation sets a maximum: each can evaluate more than a million operations.
 #[test]
 fn an_unset_maximum_is_large() {
     // DW_OP_const4u 0x40000; then DW_OP_lit1, DW_OP_minus, DW_OP_dup, and DW_OP_bra back to the DW_OP_lit1.
@@ -106,7 +106,7 @@ fn evaluations_stand_side_by_side_and_cross_threads() {
     }
 }
 
-/// docs/GUIDE.md says so.
+/// docs/GUIDE.md gives this size.
 #[test]
 #[cfg(target_pointer_width = "64")]
 fn an_evaluation_on_the_heap_takes_some_300_bytes() {

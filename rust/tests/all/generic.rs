@@ -8,12 +8,12 @@ use dwexpr::{
 use std::collections::{BTreeSet, HashSet};
 use std::fmt::Debug;
 
-/// All operations of an expression, shown.
+/// All operations of an expression, as `Debug` shows them.
 fn shown<R: Reader>(expression: Expression<R>) -> Vec<String> {
     expression.operations(ENCODING).map(|operation| format!("{operation:?}")).collect()
 }
 
-/// A request, shown.
+/// The request of an expression, as `Debug` shows it.
 fn asked<R: Reader>(bytes: R) -> String {
     format!("{:?}", Expression(bytes).evaluation(ENCODING).evaluate())
 }
@@ -24,7 +24,7 @@ fn operations_and_requests_of_any_reader_are_shown() {
     assert_eq!(asked(little(&[0x91, 0x6c])), "Ok(RequiresFrameBase)");
 }
 
-/// The lowest and the highest of some offsets, and how many there are.
+/// The lowest and the highest of some offsets, and the number of different ones.
 fn ends<O: ReaderOffset>(offsets: &[UnitOffset<O>]) -> (UnitOffset<O>, UnitOffset<O>, usize) {
     let ordered: BTreeSet<_> = offsets.iter().copied().collect();
     let hashed: HashSet<_> = offsets.iter().copied().collect();
@@ -39,7 +39,7 @@ fn offsets_of_any_reader_are_ordered_and_hashed() {
     assert_eq!(ends(&[7_u32, 7].map(UnitOffset)), (UnitOffset(7), UnitOffset(7), 1));
 }
 
-/// Whether the next operation of both begins with the same bytes in the same order.
+/// Whether two expressions begin with the same bytes in the same order.
 fn are_equal<E: Endianity>(one: EndianSlice<'_, E>, other: EndianSlice<'_, E>) -> bool {
     assert_eq!(one.endian().is_little_endian(), !one.endian().is_big_endian());
     one == other && E::default() == E::default()

@@ -23,7 +23,7 @@ fn an_expression_of_gimlis_is_evaluated() {
 
 #[test]
 fn an_error_tells_where_gimlis_does() {
-    // DW_OP_const4u of two bytes, DW_OP_implicit_value of one and DW_OP_addr of none; addresses of 3 bytes.
+    // DW_OP_const4u with two bytes, DW_OP_implicit_value with one and DW_OP_addr with none; addresses of 3 bytes.
     for bytes in [&[0x0c, 1, 2][..], &[0x9e, 2, 1], &[0x03], &[]] {
         let ours = Operation::parse(&mut GimliReader(little(bytes)), ENCODING.into());
         let theirs = gimli::Operation::parse(&mut little(bytes), ENCODING);
@@ -57,12 +57,12 @@ fn a_reader_is_gimlis_too() {
     assert_eq!(reader, GimliReader(little(&[1, 2, 3])));
 }
 
-/// A reader whose addresses and offsets are relocated by as much as they are far from its end. It is `Clone`, and not
-/// `Copy`, as gimli's `RelocateReader` is.
+/// A reader that adds to each address and offset its distance from the end. It is `Clone` but not `Copy`, as gimli's
+/// `RelocateReader` is.
 #[derive(Clone, Debug)]
 struct Relocating<'a>(gimli::EndianSlice<'a, gimli::LittleEndian>);
 
-/// Calls of a reader that do what those of the slice in it do.
+/// Calls of a reader that are those of the slice in it.
 macro_rules! of_slice {
     ($($name:ident($($argument:ident: $type:ty)?) -> $result:ty;)+) => {
         $(fn $name(&self, $($argument: $type)?) -> $result {
@@ -107,7 +107,7 @@ impl gimli::Reader for Relocating<'_> {
     }
 
     fn read_slice(&mut self, buf: &mut [u8]) -> gimli::Result<()> {
-        // An error that this crate has no name for.
+        // An error without a name in this crate.
         if self.len() < buf.len() { Err(gimli::Error::OffsetOutOfBounds) } else { self.0.read_slice(buf) }
     }
 
@@ -119,7 +119,7 @@ impl gimli::Reader for Relocating<'_> {
     fn read_offset(&mut self, format: gimli::Format) -> gimli::Result<usize> {
         let left = self.len();
         let offset = self.0.read_offset(format)?;
-        // As a reader does whose offsets have 32 bits.
+        // As in a reader whose offsets have 32 bits.
         if offset as u64 >> 32 == 0 { Ok(offset + left) } else { Err(gimli::Error::UnsupportedOffset) }
     }
 }
@@ -164,11 +164,11 @@ fn an_address_of_each_size_is_relocated() {
     }
 }
 
-/// gimli's reader forgets where it was once it is empty.
+/// gimli's reader forgets its place when it is empty.
 #[test]
 fn the_place_of_operations_is_known_after_an_error() {
     for length in (0..=24).flat_map(|power| [(1_usize << power) - 1, 1 << power, (1 << power) + 1]) {
-        // DW_OP_nop, and an opcode that isn't one, before as many bytes.
+        // DW_OP_nop, and an unknown opcode before `length` bytes.
         let text = [vec![0x96, 0x01], vec![0; length]].concat();
         let expression = Expression(GimliReader(little(&text)));
         let mut operations = expression.operations(ENCODING.into());
@@ -183,7 +183,7 @@ fn the_place_of_operations_is_known_after_an_error() {
 #[test]
 fn an_evaluation_keeps_relocations() {
     let evaluate = |bytes| Evaluation::new(GimliReader(Relocating(little(bytes))), ENCODING.into());
-    // DW_OP_addr, and the DW_OP_plus_uconst 1 that is called by the DW_OP_call_ref after it. The whole has 14 bytes.
+    // DW_OP_addr, and DW_OP_call_ref, which calls DW_OP_plus_uconst 1. The expression has 14 bytes.
     let mut evaluation = evaluate(&[0x03, 0x40, 0, 0, 0, 0, 0, 0, 0, 0x9a, 0x20, 0, 0, 0]);
     let Ok(RequiresRelocatedAddress(address)) = evaluation.evaluate() else { panic!() };
     assert_eq!(address, 0x40 + 13);
@@ -192,7 +192,7 @@ fn an_evaluation_keeps_relocations() {
     let called = GimliReader(Relocating(little(&[0x23, 1])));
     assert!(matches!(evaluation.resume_with_at_location(called), Ok(Complete)));
     assert_eq!(evaluation.value_result(), Some(Value::Generic(0x40 + 13 + 1)));
-    // DW_OP_addr in the text that is called, of which 9 bytes are there.
+    // DW_OP_addr in a called expression; its 9 bytes are all there.
     let mut evaluation = evaluate(&[0x98, 5, 0]);
     assert!(matches!(evaluation.evaluate(), Ok(RequiresAtLocation(_))));
     let called = GimliReader(Relocating(little(&[0x03, 0x40, 0, 0, 0, 0, 0, 0, 0])));

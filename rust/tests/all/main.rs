@@ -1,4 +1,4 @@
-//! What gimli's own tests don't show: calls out of turn, storages, readers of the user's, errors.
+//! What gimli's own tests don't show: calls out of turn, storages, a user's readers, errors.
 
 #[cfg(feature = "gimli")]
 mod clones;

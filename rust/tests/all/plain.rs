@@ -8,7 +8,7 @@ use dwexpr::{
 use std::collections::{BTreeMap, HashSet};
 use std::fmt::Debug;
 
-/// Each error, and what it says.
+/// Each error, and its message.
 pub const ERRORS: [(Error, &str); 21] = [
     (Error::UnexpectedEof(ReaderOffsetId(5)), "the bytes end within an operation or a value"),
     (Error::BadUnsignedLeb128, "an unsigned LEB128 number is too large"),
@@ -50,7 +50,7 @@ fn constants_have_their_names() {
     assert_eq!(DwOp(0xff).to_string(), "Unknown DwOp: 255");
     assert_eq!(format!("{:>20}|{:<20}|", DwAte(0x7f), DW_ATE_UTF), "  Unknown DwAte: 127|DW_ATE_UTF          |");
     assert_eq!(DwAte(0x7f).static_string(), None);
-    // Those of DWARF 5, and GNU's and WebAssembly's.
+    // The opcodes of DWARF 5, of GNU and of WebAssembly.
     for number in 0..=255 {
         let is_standard = matches!(number, 0x03..=0xa9) && !matches!(number, 0x04 | 0x05 | 0x07);
         let is_extension = matches!(number, 0xe0 | 0xed | 0xf0 | 0xf2..=0xf7 | 0xf9..=0xfd);
@@ -82,7 +82,7 @@ fn encodings_have_the_standards_numbers() {
     }
 }
 
-/// `cmp`, `partial_cmp`, a sort and a map have the order of the numbers, of which these are in order.
+/// `cmp`, `partial_cmp`, a sort and a map all order `all` by its numbers, which ascend.
 fn assert_ordered<T: Ord + Copy + Debug>(all: &[T]) {
     let step = all.len().div_ceil(256);
     for (i, x) in all.iter().enumerate().step_by(step) {

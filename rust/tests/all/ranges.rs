@@ -1,11 +1,11 @@
-//! Lengths and counts about each power of two.
+//! Lengths and counts around each power of two.
 
 use super::{ENCODING, evaluation, little};
 use dwexpr::EvaluationResult::*;
 use dwexpr::{Encoding, Error, Evaluation, Expression, Location, Operation, Piece, SliceVec, StoreInSlices, Value};
 use std::hash::{DefaultHasher, Hash, Hasher};
 
-/// Each power of two up to this one, one less, and one more.
+/// Each power of two up to 2^`highest`, and both numbers beside it.
 fn about_powers(highest: u32) -> impl Iterator<Item = usize> {
     (0..=highest).flat_map(|power| [(1 << power) - 1, 1 << power, (1 << power) + 1])
 }
@@ -21,7 +21,7 @@ fn uleb(mut number: usize) -> Vec<u8> {
     bytes
 }
 
-/// A text that is kept for ever.
+/// A text that is never freed.
 fn text(bytes: Vec<u8>) -> super::Little<'static> {
     little(bytes.leak())
 }
@@ -57,7 +57,7 @@ fn a_block_has_its_length() {
 fn a_branch_leads_to_its_place() {
     let data = bytes((1 << 24) + 1);
     for length in about_powers(24) {
-        // An entry value, and DW_OP_skip over a byte that isn't an operation to DW_OP_stack_value.
+        // An entry value, and DW_OP_skip over a byte that is no opcode to DW_OP_stack_value.
         let text = [&[0xa3][..], &uleb(length), &data[..length], &[0x2f, 1, 0, 0x01, 0x9f]].concat();
         let mut it = evaluation(&text);
         assert!(matches!(it.evaluate(), Ok(RequiresEntryValue(_))));
@@ -70,13 +70,13 @@ fn a_branch_leads_to_its_place() {
         let target = text.len() as u64 + 1;
         assert_eq!(it.resume_with_entry_value(Value::Generic(1)), Err(Error::BadBranchTarget(target)));
     }
-    // DW_OP_skip of each distance over bytes that aren't operations, and back to DW_OP_lit7 before it.
+    // DW_OP_skip of each distance over bytes that are no opcodes, and back to DW_OP_lit7 before it.
     for distance in about_powers(14).filter(|it| *it > 0) {
         let over = [&[0x2f][..], &(distance as i16).to_le_bytes(), &vec![0x01; distance], &[0x37]].concat();
         let mut it = evaluation(&over);
         assert_eq!(it.evaluate(), Ok(Complete));
         assert_eq!(it.value_result(), Some(Value::Generic(7)));
-        // DW_OP_skip to the last operation, which goes back to DW_OP_lit7; and from there to the end.
+        // DW_OP_skip to the last operation, which skips back to DW_OP_lit7; from there a skip to the end.
         let [to_last, to_end, to_lit7] = [distance as i16 + 4, distance as i16 + 3, -(distance as i16) - 7];
         let mut text = vec![0x2f];
         text.extend(to_last.to_le_bytes());
@@ -106,7 +106,7 @@ fn a_place_in_memory_is_found() {
     }
 }
 
-/// How many operations are counted about each power of two: a DW_OP_skip to itself.
+/// Counts operations around each power of two: a DW_OP_skip to itself.
 #[test]
 fn a_maximum_is_exact() {
     for count in about_powers(18) {
@@ -124,19 +124,19 @@ fn a_maximum_is_exact() {
     }
 }
 
-/// Values, callers and pieces about each power of two, after which a restart has none.
+/// Values, callers and pieces around each power of two. After a restart there are none.
 #[test]
 fn a_list_holds_what_was_put_there_until_a_restart() {
     let mut kept = evaluation(&[]);
     for count in about_powers(16) {
-        // DW_OP_lit1 so often, and DW_OP_plus but once.
+        // `count` times DW_OP_lit1, and one DW_OP_plus less.
         kept.restart(text([vec![0x31; count], vec![0x22; count.saturating_sub(1)]].concat()), ENCODING);
         let sum = (count > 0).then_some(Value::Generic(count as u64));
         assert_eq!(kept.evaluate().is_ok(), count > 0);
         if count > 0 {
             assert_eq!(kept.value_result(), sum);
         }
-        // So many values are left: none may be, after a restart.
+        // `count` values are left. After a restart none may be.
         kept.restart(text(vec![0x31; count]), ENCODING);
         assert_eq!(kept.evaluate().is_ok(), count > 0);
         kept.restart(little(&[0x13]), ENCODING);
@@ -163,7 +163,7 @@ fn a_list_holds_what_was_put_there_until_a_restart() {
     }
 }
 
-/// A lent list takes as many items as it has slots.
+/// A lent list takes one item per slot.
 #[test]
 fn a_lent_list_has_its_capacity() {
     for count in about_powers(16) {
@@ -186,7 +186,7 @@ fn a_lent_list_has_its_capacity() {
     }
 }
 
-/// No list that is handed over may hold anything.
+/// A list that is handed over has to be empty.
 #[test]
 fn each_list_that_is_handed_over_is_empty() {
     let text = little(&[0x31]);
@@ -202,7 +202,7 @@ fn each_list_that_is_handed_over_is_empty() {
     }
 }
 
-/// How many hashes there are of some values.
+/// The number of different hashes of some values.
 fn hashes<T: Hash>(values: impl IntoIterator<Item = T>) -> usize {
     let hash = |value: T| {
         let mut hasher = DefaultHasher::new();

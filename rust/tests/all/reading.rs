@@ -1,4 +1,4 @@
-//! Operations, values, slices, and a reader of the user's.
+//! Operations, values, slices, and a user's reader.
 
 use super::{ENCODING, little, panics};
 use dwexpr::constants::*;
@@ -54,7 +54,7 @@ fn each_byte_order_is_read() {
 
 #[test]
 fn versions_but_2_read_alike() {
-    // DW_OP_implicit_pointer has an address in version 2, and else an offset.
+    // DW_OP_implicit_pointer has an address in version 2, and an offset in others.
     let bytes = [0xa0, 1, 0, 0, 0, 0, 0, 0, 0, 5];
     for version in (0..=16).chain([900, u16::MAX]) {
         let (byte_offset, left) = if version == 2 { (5, 0) } else { (0, 4) };
@@ -86,7 +86,7 @@ fn a_slice_has_gimlis_calls() {
     let bytes = [0x96, 0x0c, 1, 2];
     let whole = little(&bytes);
     let mut rest = whole.range_from(1..);
-    // DW_OP_const4u of two bytes: the operand begins at 2.
+    // DW_OP_const4u with two bytes: the operand begins at 2.
     match Operation::parse(&mut rest, ENCODING) {
         Err(Error::UnexpectedEof(id)) => assert_eq!(whole.lookup_offset_id(id), Some(2)),
         other => panic!("{other:?}"),

@@ -1,4 +1,4 @@
-//! Operations and requests, which gimli 0.34 has too.
+//! Operations and requests that gimli 0.34 has too.
 
 use super::interop::{Bytes, ENCODING, little};
 use dwexpr::{Evaluation, EvaluationResult, GimliReader, Operation};
@@ -9,7 +9,7 @@ fn theirs<R: gimli::Reader>(ours: EvaluationResult<GimliReader<R>>) -> gimli::Ev
     ours.into()
 }
 
-/// Every operation of each opcode, with operands that differ, as gimli decodes it.
+/// The operation of each opcode is the one that gimli decodes; operands differ from one another.
 #[test]
 fn operations_convert_and_are_shown_alike() {
     let mut seen = 0;
@@ -32,7 +32,8 @@ fn operations_convert_and_are_shown_alike() {
     assert!(seen > 4 * 160);
 }
 
-/// What each opcode asks, after two literals and with operands that differ, as gimli's evaluation does; and the end.
+/// The request of each opcode is that of gimli's evaluation, after two literals and with operands that differ; so is
+/// the end.
 #[test]
 fn requests_convert() {
     let mut names = HashSet::new();

@@ -1,4 +1,4 @@
-//! Where the lists are: on the heap, in slices that are lent, and in arrays.
+//! Storage on the heap, in borrowed slices and in arrays.
 
 use super::{ENCODING, evaluation, little, panics};
 use dwexpr::EvaluationResult::*;
@@ -7,7 +7,7 @@ use dwexpr::{Error, Evaluation, EvaluationStorage, Location, Piece, SliceVec, St
 #[test]
 fn a_list_on_the_heap_has_no_limit() {
     assert_eq!(evaluation(&[0x31; 200_000]).evaluate(), Ok(Complete));
-    // Each expression is a call, and the last one pushes 1.
+    // Each expression is a call, except the last, which pushes 1.
     let mut it = evaluation(&[0x98, 1, 0]);
     let mut result = it.evaluate();
     for _ in 0..200_000 {
@@ -24,7 +24,7 @@ fn a_list_on_the_heap_has_no_limit() {
     assert_eq!(it.result().len(), 200_000);
 }
 
-/// Two values, one caller and two pieces are held, and one more is refused.
+/// Two values, one caller and two pieces fit, and one more is refused.
 fn has_limits_2_1_2<'a, S: EvaluationStorage<super::Little<'a>>>(mut it: Evaluation<super::Little<'a>, S>) {
     for (bytes, result) in [
         (&[0x31, 0x32][..], Ok(Complete)),

@@ -1,4 +1,4 @@
-//! The operations on integers of tests/rows/integers.json, by the calls of `Value`.
+//! The operations on integers in tests/rows/integers.json, by the calls of `Value`.
 
 use crate::json::Json;
 use crate::said::{fault, type_in, value_in, value_word};
@@ -26,12 +26,12 @@ const BINARY: [(&str, Binary); 17] = [
     ("ne", Value::ne),
 ];
 
-/// A value of a row; a mere number is a generic one.
+/// A value of a row; a number alone is a generic value.
 fn operand(word: &str) -> Value {
     if word.contains(':') { value_in(word) } else { value_in(&format!("generic:{word}")) }
 }
 
-/// What an operation gives; `None` if it is no call of `Value`.
+/// The result of an operation. `None` if no call of `Value` does it.
 fn result(name: &str, left: &str, right: &str, mask: u64) -> Option<Result<Value>> {
     let value = operand(left);
     Some(match name {
@@ -44,7 +44,7 @@ fn result(name: &str, left: &str, right: &str, mask: u64) -> Option<Result<Value
     })
 }
 
-/// Has each operation of an entry give what the entry says. Gives how many there were.
+/// Expects each operation of an entry to give what the entry says. Returns their number.
 pub fn assert_entry(entry: &Json) -> usize {
     let words = |name| entry.get(name).unwrap().items().iter().map(Json::text).collect::<Vec<_>>();
     let size: u64 = entry.get("size").unwrap().text().parse().unwrap();

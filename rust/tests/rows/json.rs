@@ -1,4 +1,4 @@
-//! As much of JSON as the rows have.
+//! The part of JSON that the rows use.
 
 use std::iter::Peekable;
 use std::str::Chars;
@@ -12,7 +12,7 @@ pub enum Json {
 }
 
 impl Json {
-    /// The value of a text.
+    /// Parses a text.
     pub fn of(text: &str) -> Json {
         value(&mut text.chars().peekable())
     }
@@ -35,7 +35,7 @@ impl Json {
     }
 }
 
-/// The next sign that isn't white space. It stays.
+/// The next sign that isn't white space. It isn't taken.
 fn peek(signs: &mut Peekable<Chars>) -> char {
     while signs.next_if(|it| it.is_whitespace()).is_some() {}
     *signs.peek().expect("the text ends too early")
@@ -55,7 +55,7 @@ fn value(signs: &mut Peekable<Chars>) -> Json {
     }
 }
 
-/// What stands between brackets, with commas.
+/// The items up to a bracket, with commas between them.
 fn until<T>(signs: &mut Peekable<Chars>, end: char, item: impl Fn(&mut Peekable<Chars>) -> T) -> Vec<T> {
     let mut items = Vec::new();
     signs.next();

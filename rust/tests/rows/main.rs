@@ -1,4 +1,5 @@
-//! The rows and vectors of the program `dwexpr`, over each reader: what decodes or evaluates has to give what they say.
+//! The rows and vectors of the program `dwexpr`, over each reader. What the program decodes or evaluates has to come
+//! out the same.
 
 mod integers;
 mod json;
@@ -12,7 +13,7 @@ use std::fmt::Debug;
 use std::fs;
 use std::path::{Path, PathBuf};
 
-/// What is decoded, or evaluated by some steps.
+/// An expression to decode, or to evaluate by some steps.
 struct Case {
     encoding: Encoding,
     order: RunTimeEndian,
@@ -22,7 +23,7 @@ struct Case {
 }
 
 impl Case {
-    /// The words of an encoding, and the digits of the bytes; `None` if the program refuses them.
+    /// A case, by the words of an encoding and the digits of the bytes. `None` if the program refuses them.
     fn of(words: &[&str], steps: Option<String>, wanted: String) -> Option<Case> {
         let [address_size, offset_size, version, order, digits] = *words else { return None };
         let in_range = |word: &str, range: std::ops::RangeInclusive<u16>| {
@@ -45,7 +46,7 @@ impl Case {
         Some(Case { encoding: Encoding { address_size, format, version }, order, bytes, steps, wanted })
     }
 
-    /// The line that says it to the program of tests/beside_archive.
+    /// The case as a line for the program of tests/beside_archive.
     #[cfg(archive)]
     fn line(&self) -> String {
         let Encoding { address_size, format, version } = self.encoding;
@@ -57,7 +58,7 @@ impl Case {
         format!("{address_size}\t{offset_size}\t{version}\t{order}\t{digits}{steps}\n")
     }
 
-    /// What is said over a reader.
+    /// The lines that the case gives over a reader.
     fn said<R: Reader + Debug>(&self, read: impl Fn(&[u8]) -> R) -> String {
         match &self.steps {
             Some(steps) => said::evaluation(&self.bytes, self.encoding, steps, read),
@@ -66,7 +67,7 @@ impl Case {
     }
 }
 
-/// The text that a row has: itself, or parts, of which one may stand several times; `None` if it is bytes.
+/// The text of a row: a string, or parts that may repeat. `None` if it is bytes.
 fn text_of(json: &Json) -> Option<String> {
     match json {
         Json::Text(text) => Some(text.clone()),
@@ -82,7 +83,7 @@ fn part(json: &Json) -> String {
     }
 }
 
-/// The case of a row; `None` if the row is about other things, such as words that the program refuses.
+/// The case of a row. `None` if the row is about something else, such as words that the program refuses.
 fn case_of(row: &Json) -> Option<Case> {
     if ["by", "program", "input_from", "output_to", "megabytes"].iter().any(|it| row.get(it).is_some()) {
         return None;
@@ -98,7 +99,7 @@ fn case_of(row: &Json) -> Option<Case> {
     if wanted.starts_with("bad ") { None } else { Case::of(&words[1..], steps, wanted) }
 }
 
-/// A vector's name of a variant or of a fault: `PlusConstant` of `PLUS_CONSTANT`.
+/// The variant or fault in a vector's name: `PlusConstant` for `PLUS_CONSTANT`.
 fn variant_of(name: &str) -> String {
     let capitalized = |word: &str| {
         if matches!(word, "TLS" | "CFA") { word.into() } else { word[..1].to_owned() + &word[1..].to_lowercase() }
@@ -127,7 +128,7 @@ fn json_in(path: &Path) -> Json {
     Json::of(&fs::read_to_string(path).unwrap())
 }
 
-/// All cases, each with its name.
+/// All cases, with their names.
 fn cases() -> Vec<(String, Case)> {
     let tests = tests();
     let vectors = json_in(&tests.join("vectors/decode.json"));
@@ -135,7 +136,7 @@ fn cases() -> Vec<(String, Case)> {
         (0..).zip(vectors.items()).map(|(at, it)| (format!("vector {at}"), case_of_vector(it))).collect();
     for file in fs::read_dir(tests.join("rows")).unwrap() {
         let path = file.unwrap().path();
-        // These are in a form of their own.
+        // The integers have a form of their own.
         if !path.ends_with("integers.json") {
             let rows = json_in(&path);
             let named = |row: &Json| Some((format!("{}: {}", path.display(), row.get("name")?.text()), case_of(row)?));
@@ -145,7 +146,7 @@ fn cases() -> Vec<(String, Case)> {
     cases
 }
 
-/// Has each case over a reader give what is wanted. A step out of turn panics.
+/// Expects each case over a reader to give its lines. A step out of turn panics.
 fn assert_all<R: Reader + Debug>(read: impl Fn(&[u8], RunTimeEndian) -> R) {
     let cases = cases();
     let said: Vec<String> = cases.iter().map(|it| it.1.said(|bytes| read(bytes, it.1.order))).collect();
@@ -164,7 +165,7 @@ fn integers_are_as_they_say() {
 
 #[test]
 fn rows_and_vectors_are_as_they_say() {
-    // The bytes live as long as the program, which is short.
+    // The bytes are never freed; the program is short.
     assert_all(|bytes, order| dwexpr::EndianSlice::new(bytes.to_vec().leak(), order));
     #[cfg(feature = "gimli")]
     {
@@ -181,7 +182,7 @@ fn rows_and_vectors_are_as_they_say() {
     }
 }
 
-/// Of the rows and vectors, of a million made-up cases of each kind, and of as many values.
+/// The rows and vectors, a million made-up cases of each kind, and as many values.
 #[test]
 #[cfg_attr(not(archive), ignore = "the variable DWEXPR_ARCHIVE has to name the archive for C, libdwexpr_c.a")]
 fn the_archive_gives_the_same() {

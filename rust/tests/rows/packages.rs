@@ -1,9 +1,9 @@
-//! Tests that are packages of their own, since they want what isn't in the repository.
+//! Tests that are packages of their own, since they need files outside of the repository.
 
 use std::path::Path;
 use std::process::Command;
 
-/// Has Cargo do something with a package of the folder `tests`.
+/// Runs Cargo on a package in the folder `tests`.
 #[cfg_attr(not(any(archive, gimli_tests)), allow(dead_code))]
 pub fn run(package: &str, words: &[&str]) {
     let folder = Path::new(env!("CARGO_MANIFEST_DIR")).join("tests").join(package);

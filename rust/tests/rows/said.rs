@@ -1,4 +1,4 @@
-//! What decoding and evaluating give, in the lines of the program `dwexpr`.
+//! Decoding and evaluating, as the lines of the program `dwexpr`.
 
 use dwexpr::{
     DieReference, Encoding, Error, Evaluation, EvaluationResult, Location, Operation, Piece, Reader, ReaderOffset,
@@ -20,7 +20,7 @@ const TYPES: [(&str, ValueType); 9] = [
     ("i64", ValueType::I64),
     ("u64", ValueType::U64),
 ];
-/// The most operations, if no step says how many.
+/// The maximum of operations, if no step sets it.
 const MAXIMUM: u32 = 1_000_000;
 
 pub fn bytes_in(digits: &str) -> Vec<u8> {
@@ -58,13 +58,13 @@ pub fn value_word(value: Value) -> String {
     }
 }
 
-/// The bytes that are left of a reader.
+/// The word for the bytes that are left in a reader.
 fn block_word<R: Reader>(mut reader: R) -> String {
     let bytes: Vec<u8> = std::iter::from_fn(|| reader.read_u8().ok()).collect();
     digits_of(&bytes)
 }
 
-/// The name of a variant, by what `Debug` shows of it.
+/// The name of a variant, from its `Debug`.
 fn name_of(shown: &impl Debug) -> String {
     format!("{shown:?}").split(|it: char| !it.is_alphanumeric()).next().unwrap().into()
 }
@@ -177,8 +177,8 @@ fn take<R: Reader>(it: &mut Evaluation<R>, step: &str, read: &impl Fn(&[u8]) -> 
     })
 }
 
-/// The lines of `dwexpr eval`: each reply, up to a step out of turn, and of a complete evaluation the pieces and the
-/// value.
+/// The lines of `dwexpr eval`: each reply, up to a step out of turn, and the pieces and the value if the evaluation is
+/// complete.
 pub fn evaluation<R: Reader>(bytes: &[u8], encoding: Encoding, steps: &str, read: impl Fn(&[u8]) -> R) -> String {
     let (mut evaluation, mut said) = (Evaluation::new(read(bytes), encoding), String::new());
     evaluation.set_max_iterations(MAXIMUM);

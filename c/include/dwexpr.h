@@ -10,15 +10,15 @@
  *
  * Each result of these is proved. dwexpr_run.h has plain C over them: one call, with callbacks that answer.
  *
- * No call takes memory, waits, or touches errno, a global or a thread-local variable. Only dwexpr_evaluation_* keep a
- * pointer. So each may be made from any thread and from a signal handler; 16 KiB of stack suffice.
+ * No call allocates, waits, or touches errno, a global or a thread-local variable. Only dwexpr_evaluation_* keep a
+ * pointer. So each call may be made from any thread and from a signal handler; 16 KiB of stack suffice.
  *
- * No call can test these, so the caller sees to them:
- *   - a pointer that is given with a count points to that many items, aligned, which nothing else writes during the
- *     call; if the count is 0 it may be NULL;
- *   - each other pointer is not NULL and points to one item;
+ * No call can check these, so the caller has to ensure them:
+ *   - a pointer with a count points to that many aligned items, which nothing else writes during the call; if the count
+ *     is 0, it may be NULL;
+ *   - any other pointer points to one item, and isn't NULL;
  *   - a call's results overlap nothing else that it is given.
- * All else is tested, and a code says if it is bad: any bits may stand in any struct.
+ * Everything else is checked, and a code tells what is bad: any struct may have any bits.
  */
 #ifndef DWEXPR_H
 #define DWEXPR_H
@@ -37,8 +37,8 @@ extern "C" {
 
 /* ---------------------------------------------------------------- codes */
 
-/* A call answers with one of these. 1 to 21 are faults of the expression, 64 and above of the arguments. Some faults
- * carry a number, in the field `detail` of the struct that the call wrote. */
+/* Each call returns one of these. 1 to 21 are faults of the expression; 64 and above are faults of the arguments.
+ * Some faults carry a number, in the field `detail` of the struct that the call wrote. */
 enum dwexpr_code {
     DWEXPR_OK = 0,
     DWEXPR_UNEXPECTED_EOF = 1,                  /* an operation is cut off */
@@ -162,14 +162,14 @@ typedef struct dwexpr_operation {
     uint64_t detail;          /* the bit offset of a piece; if the code isn't 0, the number that it carries */
 } dwexpr_operation;
 
-/* Decodes the operation that begins at `offset` of `length` bytes. All operations of an expression:
+/* Decodes the operation that begins at `offset` of `length` bytes. This decodes all operations of an expression:
  *
  *     for (size_t at = 0; at < length; at += operation.size)
  *         if (dwexpr_decode(bytes, length, encoding, at, &operation) != DWEXPR_OK)
  *             break;
  *
- * Answers 0; a fault of the bytes; DWEXPR_BAD_ENCODING; or DWEXPR_BAD_OFFSET if offset >= length. `operation` is
- * written in each case. */
+ * Returns 0; a fault of the bytes; DWEXPR_BAD_ENCODING; or DWEXPR_BAD_OFFSET if offset >= length. `operation` is
+ * always written. */
 uint32_t dwexpr_decode(const uint8_t *bytes, size_t length, dwexpr_encoding encoding, size_t offset,
                        dwexpr_operation *operation);
 
@@ -369,20 +369,21 @@ uint32_t dwexpr_evaluation_resume(dwexpr_evaluation *evaluation, const dwexpr_te
 
 /* ---------------------------------------------------------------- values */
 
-/* The operations of an evaluation on values, each as a call: to convert or compare values that it gave. No evaluation
- * needs them. */
+/* The operations on values that evaluations do, as calls: to convert or compare values that an evaluation gave. An
+ * evaluation itself needs none of these calls. */
 typedef struct dwexpr_value {
     uint32_t value_type; /* DWEXPR_GENERIC to DWEXPR_U64; DWEXPR_NO_TYPE if a call gives no value */
     uint64_t content;    /* in an argument the lowest bits count, as many as its type has; a result is extended to 64
                             bits by its sign */
 } dwexpr_value;
 
-/* An operation, by its kind: DWEXPR_OP_ABS, _NEG or _NOT of one value; of two, whose second was on top of the stack,
- * DWEXPR_OP_AND to _MUL, _OR, _PLUS, _SHL to _XOR or _EQ to _NE; DWEXPR_OP_CONVERT by the number or _REINTERPRET by the
- * bits in another type. `addr_mask` has a one for each bit of an address: 0xffffffff if it has 4 bytes.
+/* An operation, by its kind. On one value: DWEXPR_OP_ABS, _NEG or _NOT. On two values, of which `right` stands for
+ * the top of the stack: DWEXPR_OP_AND to _MUL, _OR, _PLUS, _SHL to _XOR or _EQ to _NE. To another type:
+ * DWEXPR_OP_CONVERT by the number, or _REINTERPRET by the bits. `addr_mask` has a one for each bit of an address:
+ * 0xffffffff for an address of 4 bytes.
  *
- * Answers 0, a fault, or DWEXPR_BAD_VALUE if a number isn't allowed. `result` is written in each case, and
- * has the type DWEXPR_NO_TYPE and the content 0 if the answer isn't 0. */
+ * Returns 0, a fault, or DWEXPR_BAD_VALUE if a number isn't allowed. `result` is always written; if the call doesn't
+ * return 0, it has the type DWEXPR_NO_TYPE and the content 0. */
 uint32_t dwexpr_value_unary(uint32_t operation, dwexpr_value value, uint64_t addr_mask, dwexpr_value *result);
 
 uint32_t dwexpr_value_binary(uint32_t operation, dwexpr_value left, dwexpr_value right, uint64_t addr_mask,
@@ -391,16 +392,16 @@ uint32_t dwexpr_value_binary(uint32_t operation, dwexpr_value left, dwexpr_value
 uint32_t dwexpr_value_convert(uint32_t operation, dwexpr_value value, uint32_t value_type, uint64_t addr_mask,
                               dwexpr_value *result);
 
-/* The value of a type at the front of `length` bytes, in the order that `big_endian` names as in dwexpr_encoding. The
- * generic type is DWEXPR_UNSUPPORTED_TYPE_OPERATION. Answers as above. */
+/* The value of a type in the first of `length` bytes. `big_endian` is the byte order, as in dwexpr_encoding. The
+ * generic type is refused with DWEXPR_UNSUPPORTED_TYPE_OPERATION. Returns the same codes as the calls above. */
 uint32_t dwexpr_value_parse(uint32_t value_type, const uint8_t *bytes, size_t length, uint8_t big_endian,
                             dwexpr_value *result);
 
-/* How many bits the values of a type have; 0 if there is no such type or mask. */
+/* The size of a type's values in bits; 0 if there is no such type or mask. */
 uint32_t dwexpr_type_bit_size(uint32_t value_type, uint64_t addr_mask);
 
-/* The type of an integer by DW_AT_encoding of its base type, 5 for signed and 7 for unsigned ones, and its size in
- * bytes; DWEXPR_NO_TYPE if there is no such type. */
+/* The type of an integer, by the DW_AT_encoding of its base type, which is 5 if it is signed and 7 if it is
+ * unsigned, and its size in bytes. DWEXPR_NO_TYPE if there is no such type. */
 uint32_t dwexpr_type_from_encoding(uint8_t encoding, uint64_t byte_size);
 
 /* ---------------------------------------------------------------- blocks and names */
@@ -437,7 +438,7 @@ static inline dwexpr_text dwexpr_piece_block(const dwexpr_piece *piece, const dw
     return dwexpr_block_of(texts, texts_length, piece->block_text, piece->block_offset, piece->block_length);
 }
 
-/* What a code says, in a few words; NULL if there is no such code. */
+/* A short message for a code; NULL if there is no such code. */
 static inline const char *dwexpr_code_name(uint32_t code)
 {
     switch (code) {
@@ -493,8 +494,8 @@ static inline const char *dwexpr_opcode_name(uint32_t opcode)
 
 /* ---------------------------------------------------------------- layout */
 
-/* The library was built for structs of just this layout: with words of 64 bits, with words of 32 bits where numbers of
- * 64 bits stand at multiples of 8, as on ARM, and where they stand at multiples of 4, as on i386. */
+/* The library was built for structs of exactly this layout: with 64-bit words; with 32-bit words and 64-bit numbers
+ * at multiples of 8, as on ARM; or with 32-bit words and 64-bit numbers at multiples of 4, as on i386. */
 #ifdef __cplusplus
 #define DWEXPR_ASSERT(name, holds) static_assert(holds, #name)
 #else

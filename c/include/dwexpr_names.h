@@ -1,5 +1,5 @@
-/* Names for people to read: of requests, of kinds of pieces, and of operations with their operands; and the forms of
- * operands. This is plain C over dwexpr.h, which has dwexpr_code_name and dwexpr_opcode_name, and isn't proved. */
+/* Readable names of requests, of kinds of pieces, and of operations with their operands; and the forms of operands.
+ * This is plain C over dwexpr.h, and isn't proved. dwexpr.h itself has dwexpr_code_name and dwexpr_opcode_name. */
 #ifndef DWEXPR_NAMES_H
 #define DWEXPR_NAMES_H
 
@@ -51,8 +51,7 @@ static inline const char *dwexpr_piece_name(uint32_t kind)
     }
 }
 
-/* Adds to a line of which `length` characters are there. Gives back the new length, which may be more than there is
- * room for. */
+/* Appends to a line of `length` characters. Returns the new length, which may exceed `room`. */
 #ifdef __GNUC__
 __attribute__((format(printf, 4, 5)))
 #endif
@@ -67,7 +66,7 @@ static inline size_t dwexpr_add_to_line(char *line, size_t room, size_t length, 
     return length + (more > 0 ? (size_t)more : 0);
 }
 
-/* The same of a block's length and bytes. */
+/* Appends the length and the bytes of a block, and returns the new length. */
 static inline size_t dwexpr_add_block(char *line, size_t room, size_t length, dwexpr_text block)
 {
     size_t i;
@@ -92,8 +91,8 @@ static inline char dwexpr_operand_form(uint32_t opcode)
 /* Writes an operation with its operands as a line, much as readelf and libdw do: "DW_OP_fbreg -20". An offset of an
  * entry is "<0x2f>". `bytes` are those that were decoded.
  *
- * Gives back the length of the whole line, as snprintf does: the line is cut off if there isn't room for one character
- * more. An operation that has a fault gets no operands, and one without an opcode the name "fault". */
+ * Returns the length of the whole line, as snprintf does. The line is cut off if `room` isn't greater than that. An
+ * operation with a fault is written without operands, and one without an opcode as "fault". */
 static inline size_t dwexpr_operation_line(char *line, size_t room, const uint8_t *bytes,
                                            const dwexpr_operation *operation)
 {

@@ -1,5 +1,5 @@
-/* The opcodes of operations, each with its name and the form of its operands. `bin/numbers` of the repository writes
- * the numbers and the names, of the proved sources; the forms are written here:
+/* The opcodes of operations, each with its name and the form of its operands. The repository's `bin/numbers` writes
+ * the numbers and the names from the proved sources; the forms are written by hand:
  *   -  none                  a  address
  *   B H I Q  1, 2, 4 and 8 bytes without a sign         b h i q  with one
  *   u  unsigned LEB128       s  signed LEB128           R  register
@@ -13,7 +13,7 @@
 #ifndef DWEXPR_OPCODES_H
 #define DWEXPR_OPCODES_H
 
-/* Hands a macro all of them: its number, its name, and the form of its operands. */
+/* Passes each opcode to a macro, with its name and the form of its operands. */
 #define DWEXPR_OPCODES(row) \
     row(0x03, "DW_OP_addr", 'a') \
     row(0x06, "DW_OP_deref", '-') \

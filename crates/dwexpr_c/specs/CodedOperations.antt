@@ -43,7 +43,7 @@ with_signed_number kind number = record (of_kind kind) { signed_number = number 
 abbrev pub with_base_type : (kind base_type : ℕ) → DwexprOperation
 with_base_type kind base_type = record (of_kind kind) { base_type = base_type }
 
--- 1 if it is so
+-- 1 if it is true, else 0
 abbrev pub flag_of : Bool → ℕ
 flag_of true = 1
 flag_of false = 0
@@ -74,7 +74,7 @@ binary_kind Le = kinds.LE
 binary_kind Lt = kinds.LT
 binary_kind Ne = kinds.NE
 
--- the kind and the operands, but for a block
+-- the kind and the operands, except for a block
 abbrev pub operands_of : meaning.Operation → DwexprOperation
 operands_of (meaning.Deref base_type size space) =
     record (with_base_type kinds.DEREF base_type) { deref_size = size; flag = flag_of space }
@@ -129,11 +129,11 @@ block_in _ = None
 
 -- ---- decoding
 
--- nothing was decoded at this offset, and the code says why
+-- nothing was decoded at this offset; the code says why
 abbrev pub undecoded_operation : (offset code : ℕ) → DwexprOperation
 undecoded_operation offset code = record blank_operation { offset = offset; fault = code }
 
--- a block is the last part of its operation, which ends here
+-- adds the block of an operation that ends here
 abbrev pub with_block : (end : ℕ) → Option (List ℕ) → DwexprOperation → DwexprOperation
 with_block end None shown = shown
 with_block end (Some block) shown = record shown { block_offset = end - length block; block_length = length block }
@@ -143,14 +143,14 @@ abbrev pub decoded_operation : (offset opcode size : ℕ) → Operation → Dwex
 decoded_operation offset opcode size op =
     record (with_block (offset + size) (block_in op) (operands_of op)) { offset = offset; opcode = opcode; size = size }
 
--- what is shown of what is read from the offset on, if this many bytes are left
+-- what is shown, by what is read from the offset on; `left` bytes are left there
 abbrev pub Decodes : (offset opcode left : ℕ) → Result (Operation × List ℕ) Fault → DwexprOperation → Type 0
 Decodes offset opcode left (Ok read) shown = shown ≡ decoded_operation offset opcode (left - length read.1) read.0
 Decodes offset opcode left (Err fault) shown =
     shown
     ≡ record (undecoded_operation offset (code_of_fault fault)) { opcode = opcode; detail = number_of_fault fault }
 
--- the bytes at the place that is shown are the block of what was read, if it has one
+-- the shown place has the block of what was read, if it has one
 abbrev pub IsBlockAt : (bytes : List ℕ) → DwexprOperation → Result (Operation × List ℕ) Fault → Type 0
 IsBlockAt bytes shown answer =
     let at = slice_range bytes shown.block_offset (shown.block_offset + shown.block_length) in

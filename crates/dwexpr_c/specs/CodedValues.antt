@@ -14,7 +14,7 @@ use Rattle.dwexpr_c.specs.declared.kinds.TheConstants as kinds
 use Rattle.dwexpr_c.specs.declared.faults.TheConstants as codes
 use Rattle.dwexpr_c.specs.declared.types.TheConstants as types
 
--- the type of a code
+-- the type with a code
 abbrev pub type_coded : (code : ℕ) → Option ValueType
 type_coded code =
     if code == types.GENERIC then Some value_type.Generic
@@ -28,7 +28,7 @@ type_coded code =
     else if code == types.U64 then Some value_type.U64
     else None
 
--- the code of a type, or 0
+-- the code of a type, or 0 if there is none
 abbrev pub type_code : Option ValueType → ℕ
 type_code None = types.NO_TYPE
 type_code (Some value_type.Generic) = types.GENERIC
@@ -41,11 +41,11 @@ type_code (Some value_type.U32) = types.U32
 type_code (Some value_type.I64) = types.I64
 type_code (Some value_type.U64) = types.U64
 
--- the value that a type's code and a content say: the content wraps to the type
+-- the value with this type's code and this content, which wraps to the type
 abbrev pub value_coded : (code content : ℕ) → Option Value
 value_coded code content = option_map (λ t. from_u64_of t content) (type_coded code)
 
--- a value as a caller sees it; a signed content is extended to 64 bits
+-- a value as a caller sees it; a signed content is sign-extended to 64 bits
 abbrev pub shown_value : Value → DwexprValue
 shown_value (value.Generic content) = record { value_type = types.GENERIC; content = content }
 shown_value (value.I8 number) = record { value_type = types.I8; content = residue 64 number }
@@ -59,7 +59,7 @@ shown_value (value.U64 number) = record { value_type = types.U64; content = numb
 
 -- ---- calls on values
 
--- what a call comes to; `None` if its numbers say no call
+-- the result of a call; `None` if its numbers stand for no call
 abbrev pub Computed : Type 0
 Computed = Option (Result Value Fault)
 
@@ -67,13 +67,13 @@ Computed = Option (Result Value Fault)
 abbrev pub no_value : DwexprValue
 no_value = record { value_type = types.NO_TYPE; content = 0 }
 
--- the code that is answered, and the value that is written
+-- a call returns this code and writes this value
 abbrev pub Answers : Computed → (code : ℕ) → DwexprValue → Type 0
 Answers None code shown = (code ≡ codes.BAD_VALUE) × (shown ≡ no_value)
 Answers (Some (Err fault)) code shown = (code ≡ code_of_fault fault) × (shown ≡ no_value)
 Answers (Some (Ok value)) code shown = (code ≡ 0) × (shown ≡ shown_value value)
 
--- the value that numbers say
+-- the value that numbers stand for
 abbrev pub value_in : DwexprValue → Option Value
 value_in numbers = value_coded numbers.value_type numbers.content
 
@@ -104,7 +104,7 @@ binary_in operation w None right = None
 binary_in operation w (Some x) None = None
 binary_in operation w (Some x) (Some y) = binary_coded operation w x y
 
--- a value in another type, by its number or by its bits
+-- a value converted to another type, by its number or by its bits
 abbrev pub conversion_of : (operation w : ℕ) → ValueType → Value → Computed
 conversion_of operation w t x =
     if operation == kinds.CONVERT then Some (convert_of w t x)
@@ -119,12 +119,12 @@ conversion_in operation w (Some t) (Some x) = conversion_of operation w t x
 
 -- ---- types and bytes
 
--- the value at the front of bytes, if there are a type and an order
+-- the value in the first bytes, if there are a type and a byte order
 abbrev pub parsed_in : Option ValueType → (order : ℕ) → List ℕ → Computed
 parsed_in None order bytes = None
 parsed_in (Some t) order bytes = if order == 0 || order == 1 then Some (parse_of t (order == 1) bytes) else None
 
--- how many bits a type's values have, or 0
+-- the size of a type's values in bits, or 0 if there is no type
 abbrev pub bit_size_in : (w : ℕ) → Option ValueType → ℕ
 bit_size_in w None = 0
 bit_size_in w (Some t) = bit_size_of w t

@@ -4,7 +4,7 @@ use Rattle.dwarf_base.specs.declared.common.Encoding.{Encoding}
 use Rattle.dwarf_base.specs.declared.common.Format.TheVariants.{Dwarf32, Dwarf64}
 use Rattle.dwexpr_c.specs.declared.encodings.DwexprEncoding.{DwexprEncoding}
 
--- the numbers say an encoding
+-- the numbers stand for an encoding
 pub record IsEncoding (e : DwexprEncoding) : Type 0 where
   pub some_address : 0 < e.address_size
   pub address_size : e.address_size ≤ 8
@@ -13,7 +13,7 @@ pub record IsEncoding (e : DwexprEncoding) : Type 0 where
   pub first_version : 2 ≤ e.version
   pub last_version : e.version ≤ 5
 
--- the one that they say
+-- the encoding that the numbers stand for
 abbrev pub encoding_in : DwexprEncoding → Encoding
 encoding_in e = record {
   address_size = e.address_size;

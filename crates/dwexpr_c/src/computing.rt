@@ -15,14 +15,14 @@ use crate::values::{
 use dwarf_base::{DwAte, EndianSlice, Result, RunTimeEndian};
 use dwarf_value::{Value, ValueType, is_addr_mask};
 
-/// The value that numbers say.
+/// The value that these numbers stand for.
 fn value_in(numbers: DwexprValue) -> Option<Value>
     ensures { result ≡ calls.value_in numbers }
 {
     value_of(numbers.value_type, numbers.content)
 }
 
-/// Shows what a call came to: the code, and the value.
+/// Shows the result of a call: its code, and its value.
 fn show(computed: Option<Result<Value>>, shown: &mut DwexprValue) -> u32
     ensures { calls.Answers computed result shown.new }
 {
@@ -102,8 +102,8 @@ fn parse(value_type: ValueType, bytes: &[u8], order: RunTimeEndian, shown: &mut 
 
 /// An operation on one value: `Abs`, `Neg` or `Not`, by the code of its kind (DWARF 5, section 2.5.1.4).
 ///
-/// It answers 0, the code of a fault, or 71 if the numbers say no operation, no value or no mask. `shown` is written
-/// in each case, and has the type 0 if the answer isn't 0.
+/// It returns 0, the code of a fault, or 71 if the numbers stand for no operation, no value or no mask. `shown` is
+/// always written; its type is 0 if the result isn't 0.
 #[unsafe(no_mangle)]
 pub extern "C" fn dwexpr_value_unary(
     operation: u32,
@@ -122,7 +122,8 @@ pub extern "C" fn dwexpr_value_unary(
     }
 }
 
-/// An operation on two values, by the code of its kind (DWARF 5, section 2.5.1.4). It answers as `dwexpr_value_unary`.
+/// An operation on two values, by the code of its kind (DWARF 5, section 2.5.1.4). It returns what `dwexpr_value_unary`
+/// does.
 #[unsafe(no_mangle)]
 pub extern "C" fn dwexpr_value_binary(
     operation: u32,
@@ -145,8 +146,8 @@ pub extern "C" fn dwexpr_value_binary(
     }
 }
 
-/// A value in another type: `Convert` by its number, or `Reinterpret` by its bits (DWARF 5, section 2.5.1.6). It
-/// answers as `dwexpr_value_unary`.
+/// Converts a value to another type: `Convert` by its number, or `Reinterpret` by its bits (DWARF 5, section 2.5.1.6).
+/// It returns what `dwexpr_value_unary` does.
 #[unsafe(no_mangle)]
 pub extern "C" fn dwexpr_value_convert(
     operation: u32,
@@ -169,7 +170,7 @@ pub extern "C" fn dwexpr_value_convert(
     }
 }
 
-/// The value at the front of bytes, in an order as `DwexprEncoding` names it. It answers as `dwexpr_value_unary`.
+/// The value in the first bytes, in a byte order as in `DwexprEncoding`. It returns what `dwexpr_value_unary` does.
 #[unsafe(no_mangle)]
 pub extern "C" fn dwexpr_value_parse(
     value_type: u32,
@@ -189,7 +190,7 @@ pub extern "C" fn dwexpr_value_parse(
     parse(value_type, bytes, order, shown)
 }
 
-/// How many bits a type's values have; 0 if the numbers say no type or no mask.
+/// The size of a type's values in bits; 0 if the numbers stand for no type or no mask.
 #[unsafe(no_mangle)]
 pub extern "C" fn dwexpr_type_bit_size(value_type: u32, addr_mask: u64) -> u32
     ensures mask { (IsAddressMask addr_mask → ⊥) → result ≡ 0 }
@@ -205,7 +206,7 @@ pub extern "C" fn dwexpr_type_bit_size(value_type: u32, addr_mask: u64) -> u32
     }
 }
 
-/// The type of a base type's values, by its `DW_AT_encoding` and its size in bytes; 0 if there is none (DWARF 5,
+/// The type of the values of a base type, by its `DW_AT_encoding` and its size in bytes; 0 if there is none (DWARF 5,
 /// section 5.1).
 #[unsafe(no_mangle)]
 pub extern "C" fn dwexpr_type_from_encoding(encoding: u8, byte_size: u64) -> u32

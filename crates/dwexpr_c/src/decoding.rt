@@ -13,7 +13,7 @@ use crate::operations::{DwexprOperation, disallow, show, show_fault};
 use dwarf_base::{Encoding, EndianSlice, Reader, RunTimeEndian};
 use dwarf_op::Operation;
 
-/// Shows what stands at an offset that has a byte.
+/// Shows the operation at an offset that has a byte.
 fn decode_at(
     bytes: &[u8],
     encoding: Encoding,
@@ -37,8 +37,8 @@ fn decode_at(
 
 /// Decodes the operation that begins at an offset of the bytes (DWARF 5, sections 2.5 and 7.7.1).
 ///
-/// It answers 0, the code of a fault of the bytes, 1 to 21, or of an argument: 64 if the encoding's numbers say none,
-/// then 65 if there is no byte at the offset. `operation` is written in each case; its `fault` is the code.
+/// It returns 0 or a code. A fault of the bytes has a code from 1 to 21. An encoding that isn't allowed is 64; else an
+/// offset that has no byte is 65. `operation` is always written; its `fault` is the code.
 #[tactic(auto, using(crate::proofs::DecodedBlocks::block_shown))]
 #[unsafe(no_mangle)]
 pub extern "C" fn dwexpr_decode(

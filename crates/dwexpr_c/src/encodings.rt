@@ -1,4 +1,4 @@
-//! An encoding in numbers, and how it is read.
+//! An encoding as numbers.
 
 ghost use Rattle.std.specs.Prelude.{◌≡◌, ◌<◌, ◌≤◌, ◌⊎◌, IfSome, IfNone, ◌==◌, if◌then◌else◌};
 ghost use Rattle.dwarf_base.specs.ByteOrder.{is_big_of};
@@ -6,7 +6,7 @@ ghost use Rattle.dwexpr_c.specs.Encodings.{IsEncoding, encoding_in, is_big_in};
 
 use dwarf_base::{Encoding, Format, RunTimeEndian};
 
-/// How bytes are to be read, in the numbers of a caller, of which any may be wrong.
+/// How to read bytes, as a caller's numbers. Any of them may be wrong.
 #[repr(C)]
 #[derive(Clone, Copy)]
 pub struct DwexprEncoding {
@@ -33,7 +33,7 @@ fn format_of(offset_size: u8) -> Option<Format>
     }
 }
 
-/// The byte order of a number.
+/// The byte order with this number.
 pub(crate) fn order_of(big_endian: u8) -> Option<RunTimeEndian>
     ensures some { IfSome result
         (λ order. (big_endian ≤ 1)
@@ -47,7 +47,7 @@ pub(crate) fn order_of(big_endian: u8) -> Option<RunTimeEndian>
     }
 }
 
-/// The encoding and the byte order that the numbers say, if they say both.
+/// The encoding and the byte order that the numbers stand for, if both are allowed.
 pub(crate) fn reading_of(numbers: DwexprEncoding) -> Option<(Encoding, RunTimeEndian)>
     ensures some { IfSome result
         (λ reading. IsEncoding numbers × (reading.0 ≡ encoding_in numbers)

@@ -1,4 +1,4 @@
-//! An evaluation in memory of the caller's.
+//! An evaluation in the caller's memory.
 
 ghost use Rattle.std.specs.Prelude.{◌≡◌, Option, None, Some};
 ghost use Rattle.dwexpr_c.specs.declared.held.Held.{Held};
@@ -13,7 +13,7 @@ use dwarf_op::Piece;
 use dwarf_value::Value;
 use std::marker::Model;
 
-/// Lists of fixed capacities: no memory is taken.
+/// Lists of fixed capacities, so that nothing is allocated.
 pub(crate) struct Fixed;
 
 impl<R: Reader + Copy + Default> EvaluationStorage<R> for Fixed {
@@ -31,7 +31,7 @@ pub struct Held<'a> {
     pub(crate) order: RunTimeEndian,
 }
 
-/// An evaluation of no bytes, before it is started with a text.
+/// An evaluation of no bytes, as it is before its first start.
 pub(crate) fn fresh_held<'a>() -> Held<'a>
     ensures { IsUnstarted result }
 {
@@ -53,14 +53,14 @@ pub(crate) fn fresh_held<'a>() -> Held<'a>
     }
 }
 
-/// Memory of a caller's.
+/// The caller's memory for an evaluation.
 #[repr(C)]
 #[derive(Drop)]
 pub struct DwexprMemory {
     byte: u8,
 }
 
-/// What a caller has of an evaluation that is held: where it lies. Contracts alone see the evaluation.
+/// A caller's handle of an evaluation: the address of its memory. Only contracts see the evaluation.
 #[repr(C)]
 #[derive(Drop)]
 pub struct DwexprEvaluation {
@@ -90,7 +90,7 @@ impl DwexprEvaluation {
         unsafe { &mut *(self.memory as *mut Held<'static>) }
     }
 
-    /// Puts an evaluation into the memory.
+    /// Writes an evaluation to the memory.
     pub(crate) fn fill(&mut self, held: Held<'static>)
         requires { self.old.held ≡ None }
         ensures { self.new.held ≡ Some held.entry }

@@ -1,4 +1,4 @@
-//! The kinds of operations, by the numbers that C has for them.
+//! The kinds of operations, by their numbers in C.
 
 pub(crate) const DEREF: u32 = 1;
 

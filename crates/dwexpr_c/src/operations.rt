@@ -1,4 +1,4 @@
-//! An operation in numbers.
+//! An operation as numbers.
 
 ghost use Rattle.std.specs.Prelude.{◌≡◌, ◌+◌, ◌-◌, ◌^◌, ◌<◌};
 ghost use Rattle.dwarf_base.specs.EndianSlice.{slice_text};
@@ -10,38 +10,38 @@ use crate::kinds;
 use dwarf_base::{EndianSlice, Reader, RunTimeEndian};
 use dwarf_op::{DieReference, Operation};
 
-/// Bytes in the order that a caller names.
+/// Bytes in the byte order that a caller names.
 pub(crate) type Bytes<'a> = EndianSlice<'a, RunTimeEndian>;
 
-/// An operation, or why there is none. What the kind doesn't name is 0.
+/// An operation, or why there is none. Fields that its kind doesn't name are 0.
 #[repr(C)]
 #[derive(Clone, Copy)]
 pub struct DwexprOperation {
-    /// Where in the bytes it begins.
+    /// The offset in the bytes at which it begins.
     pub offset: usize,
-    /// How many bytes it has; 0 if there is none.
+    /// The number of its bytes; 0 if there is no operation.
     pub size: usize,
     /// Its first byte; 0 if none was read.
     pub opcode: u32,
-    /// Its kind; 0 if there is none.
+    /// Its kind; 0 if there is no operation.
     pub kind: u32,
     /// A constant, an address, an index, a size in bits or an offset of an entry.
     pub number: u64,
-    /// A constant, an offset in bytes, or how far a branch goes from after the operation.
+    /// A constant, an offset in bytes, or the distance of a branch from the end of the operation.
     pub signed_number: i64,
     /// The offset of the base type in the unit; 0 for the generic type.
     pub base_type: u64,
     /// The register.
     pub register_number: u32,
-    /// How many bytes are read from memory.
+    /// The number of bytes that are read from memory.
     pub deref_size: u32,
     /// 1 if an address space is popped too, a bit offset is given, or a call is into `.debug_info`.
     pub flag: u32,
-    /// The code that the call answers.
+    /// The code that the call returns.
     pub fault: u32,
-    /// Where in the bytes the block begins.
+    /// The offset in the bytes at which the block begins.
     pub block_offset: usize,
-    /// How many bytes the block has.
+    /// The number of bytes in the block.
     pub block_length: usize,
     /// The bit offset, or the number that the fault carries.
     pub detail: u64,
@@ -64,7 +64,7 @@ const NOTHING: DwexprOperation = DwexprOperation {
     detail: 0,
 };
 
-/// What is shown if an argument isn't allowed.
+/// Shows that an argument isn't allowed.
 pub(crate) fn disallow(offset: usize, code: u32) -> DwexprOperation
     ensures { result ≡ undecoded_operation offset code }
 {
@@ -75,7 +75,7 @@ pub(crate) fn disallow(offset: usize, code: u32) -> DwexprOperation
     }
 }
 
-/// What is shown of a fault.
+/// Shows a fault.
 pub(crate) fn show_fault(offset: usize, opcode: u8, fault: FaultNumbers) -> DwexprOperation
     ensures { result
         ≡ record (undecoded_operation offset fault.code)
@@ -124,7 +124,7 @@ fn with_base_type(kind: u32, base_type: usize) -> DwexprOperation
     }
 }
 
-/// The operation with its block, which ends here.
+/// Adds the block, which ends at `end`.
 fn with_block(shown: DwexprOperation, length: usize, end: usize) -> DwexprOperation
     ensures { result ≡ record shown { block_offset = end - length; block_length = length } }
 {
@@ -135,8 +135,8 @@ fn with_block(shown: DwexprOperation, length: usize, end: usize) -> DwexprOperat
     }
 }
 
-/// Shows the kind and the operands of an operation that ends here.
-// Each arm writes where the caller wants it: a value that all of them give would be copied there field by field.
+/// Shows the kind and the operands of an operation that ends at `end`.
+// Each arm writes to the caller's struct. A value that all arms return would be copied there field by field.
 fn show_operands(operation: Operation<Bytes<'_>>, end: usize, shown: &mut DwexprOperation)
     ensures { let op = operation_of slice_text (λ x. x) operation.entry in shown.new
         ≡ with_block end (block_in op) (operands_of op) }

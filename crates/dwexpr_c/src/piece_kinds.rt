@@ -1,4 +1,4 @@
-//! The kinds of pieces, by the numbers that C has for them.
+//! The kinds of pieces, by their numbers in C.
 
 pub(crate) const EMPTY: u32 = 1;
 

@@ -1,4 +1,4 @@
-//! What an outcome shows, by the numbers that C has for it.
+//! What an outcome shows, by its number in C.
 
 pub(crate) const NOTHING: u32 = 0;
 

@@ -1,4 +1,4 @@
-//! The types of values, by the numbers that C has for them.
+//! The types of values, by their numbers in C.
 
 pub(crate) const NO_TYPE: u32 = 0;
 

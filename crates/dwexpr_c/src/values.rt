@@ -1,4 +1,4 @@
-//! Types and values in numbers.
+//! Types and values as numbers.
 
 ghost use Rattle.std.specs.Prelude.{◌≡◌};
 ghost use Rattle.dwexpr_c.specs.CodedValues.{shown_value, type_code, type_coded, value_coded};
@@ -6,7 +6,7 @@ ghost use Rattle.dwexpr_c.specs.CodedValues.{shown_value, type_code, type_coded,
 use crate::types;
 use dwarf_value::{Value, ValueType};
 
-/// The type of a code.
+/// The type with a code.
 #[inline(always)]
 pub(crate) fn type_of_code(code: u32) -> Option<ValueType>
     ensures { result ≡ type_coded code }
@@ -43,13 +43,14 @@ pub(crate) fn code_of_type(value_type: Option<ValueType>) -> u32
     }
 }
 
-/// A value as callers see it, in numbers of which any may be wrong.
+/// A value as callers see it. Any of its numbers may be wrong.
 #[repr(C)]
 #[derive(Clone, Copy)]
 pub struct DwexprValue {
     /// The code of its type; 0 if there is no value.
     pub value_type: u32,
-    /// Its content. A signed one that is shown is extended to 64 bits; of one that is given the lowest bits count.
+    /// Its content. In a result, a signed content is sign-extended to 64 bits. In an argument, only the lowest bits
+    /// count, as many as the type has.
     pub content: u64,
 }
 
@@ -81,7 +82,7 @@ pub(crate) fn numbers_of_value(value: Value) -> DwexprValue
     }
 }
 
-/// The value of the type of this code that the content wraps to.
+/// The value of the type with this code that the content wraps to.
 #[inline(always)]
 pub(crate) fn value_of(code: u32, content: u64) -> Option<Value>
     ensures { result ≡ value_coded code content }

@@ -21,27 +21,27 @@ pub struct Bytes<'a> {
 
 impl<'a> Bytes<'a> {
     pub(crate) fn slice(&self) -> &'a [u8] {
-        // SAFETY: it stands in a text of a caller's, which points to as many bytes, and they stay.
+        // SAFETY: it is in a caller's text, whose pointer leads to that many bytes, which stay.
         unsafe { items(self.at, self.length) }
     }
 }
 
 /// # Safety
-/// The pointer leads to as many items, aligned, which nothing writes while they are used; or the count is 0.
+/// The pointer leads to this many aligned items, which nothing writes while they are used; or the count is 0.
 unsafe fn items<'a, T>(at: *const T, count: usize) -> &'a [T] {
-    // SAFETY: it is what the caller sees to.
+    // SAFETY: the caller ensures it.
     if count == 0 { &[] } else { unsafe { from_raw_parts(at, count) } }
 }
 
 /// # Safety
-/// The pointer leads to room for as many items, aligned, which nothing else uses; or the count is 0. The items may be
-/// any bits, and bits that were never set: they are written, and not read.
+/// The pointer leads to room for this many aligned items, which nothing else uses; or the count is 0. The items may
+/// have any bits, even bits that were never set: they are written, and not read.
 unsafe fn room<'a, T>(at: *mut T, count: usize) -> &'a mut [T] {
-    // SAFETY: it is what the caller sees to.
+    // SAFETY: the caller ensures it.
     if count == 0 { &mut [] } else { unsafe { from_raw_parts_mut(at, count) } }
 }
 
-/// An export calls the proved function of its name, with references for what C hands over.
+/// An export calls the proved function of its name, with references in place of C's pointers.
 macro_rules! exports {
     ($($(#[$duty:meta])* fn $name:ident($($argument:ident: $type:ty),*) $(-> $out:ty)? = ($($given:expr),*);)*) => {$(
         #[doc = "# Safety"]
@@ -49,7 +49,7 @@ macro_rules! exports {
         #[allow(unused_unsafe)]
         #[unsafe(no_mangle)]
         pub unsafe extern "C" fn $name($($argument: $type),*) $(-> $out)? {
-            // SAFETY: it is what the caller sees to.
+            // SAFETY: the caller ensures it.
             unsafe { c::$name($($given),*) }
         }
     )*};

@@ -44,7 +44,7 @@ fn rename_calls_of_evaluation(sources: &mut Sources) {
     }
 }
 
-/// Appends the pages in a folder, each of which has an example, to the docs of public items: `base/Reader.md` goes to
+/// Appends the pages in a folder, which have an example each, to the docs of public items: `base/Reader.md` goes to
 /// the item `Reader` in the module `base`.
 fn add_pages(sources: &mut Sources, folder: &str) {
     let folder = sources.top.join(folder);

@@ -47,7 +47,7 @@ impl<R> Deref for GimliReader<R> {
 #[derive(Clone, Copy, PartialEq, Eq, PartialOrd, Ord, Hash)]
 pub struct GimliOffset<T>(pub T);
 
-/// Shows these types as what is in them.
+/// These types are shown as what is in them.
 macro_rules! shown_as_gimlis {
     ($($type:ident)+) => {
         $(

@@ -3,7 +3,7 @@ use Rattle.std.specs.Prelude.{ℕ, Result, Ok, Err, ◌≡◌}
 use Rattle.dwarf_base.specs.declared.errors.Error.{Error}
 use Rattle.dwarf_base.specs.declared.errors.Error.TheVariants.{UnexpectedEof, InvalidExpression}
 
--- an error whose identifier, if it has one, is always the same
+-- an error; if it has an identifier, that is always 0
 abbrev pub Fault : Type 0
 Fault = Error
 

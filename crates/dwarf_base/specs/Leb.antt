@@ -72,7 +72,7 @@ pub record IsTooLong {A : Type 0} (form : LebForm A) (bytes : List ℕ) : Type 0
   pub are_nine : length nine ≡ 9
   pub refused : form.allows_tenth tenth ≡ false
 
--- no prefix of the bytes spells a number, for this fault
+-- no prefix of the bytes spells a number, and this is the fault
 abbrev pub MalformedLeb : {A : Type 0} → LebForm A → List ℕ → Fault → Type 0
 MalformedLeb form bytes fault =
     (IsCutOff bytes × (fault ≡ past_the_end)) ⊎ (IsTooLong form bytes × (fault ≡ form.fault))

@@ -231,7 +231,7 @@ pub fn copy_of<T: Copy>(it: &T) -> T
     *it
 }
 
-// The integer in the last byte of a signed number: the seven low bits, of which the highest is the sign.
+// The seven low bits of a signed number's last byte, as an integer in two's complement.
 #[inline(always)]
 fn last_byte(byte: u8) -> i64
     requires { byte < 128 }

@@ -135,8 +135,8 @@ pub fn twin_rows()
 /// Worked rows of `inlining`: calls, and the texts that answer them.
 ///
 /// It does nothing. Each clause of its contract gives the bytes before and after a call, and the bytes that answer it;
-/// the answers before and after that one; the requests before and after the call; and the outcomes of the outer text
-/// and the inlined one. It states that every premise of the law holds.
+/// the other answers, before and after it; the requests before and after it; and the outcomes of the outer text and the
+/// inlined one. It states that every premise of the law holds.
 pub fn called_rows()
     ensures sum { IsWorked (call_site (0x31 ∷ []) (0x22 ∷ []) (0x32 ∷ []))
         [] []

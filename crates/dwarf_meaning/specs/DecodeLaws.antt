@@ -8,7 +8,7 @@ use Rattle.dwarf_meaning.specs.Operands.{Context, as_text}
 use Rattle.dwarf_meaning.specs.Spelling.{Spells, Malformed}
 use Rattle.dwarf_meaning.specs.Splitting.{Splitting, Joined, items_of, items_at}
 
--- either exactly one prefix spells an operation, and only one, or the bytes are malformed by exactly one fault
+-- the bytes begin with exactly one operation, whose spelling has one length, or are malformed by exactly one fault
 pub record IsDecided (context : Context) (bytes : List ℕ) : Type 0 where
   pub either : ((op : Operation) × ((rest : List ℕ) × Begins (Spells context) bytes op rest))
       ⊎ ((fault : Fault) × Malformed context bytes fault)
@@ -28,7 +28,7 @@ pub record SplitsOnce (context : Context) (bytes : List ℕ) : Type 0 where
   pub same : (ops others : List Operation) (fault other : Option Fault)
       → Splitting context bytes ops fault → Splitting context bytes others other → (ops ≡ others) × (fault ≡ other)
 
--- A splitting has no more items than there are bytes. It is what is read item by item. No prefix of the bytes spells a
+-- A splitting has no more items than there are bytes. It is read item by item. No prefix of the bytes spells a
 -- longer list of operations.
 pub record IsSplitting (context : Context) (bytes : List ℕ) (ops : List Operation) (fault : Option Fault) : Type 0 where
   pub items : items_at context.encoding context.offset_bits (as_text context bytes) ≡ items_of ops fault

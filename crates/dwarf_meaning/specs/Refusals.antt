@@ -9,8 +9,8 @@ pub record Limits : Type 0 where
   pub callers : Option ℕ
   pub pieces : Option ℕ
 
--- Which push on a list without a limit is refused: none, or one that is still to come. `After inputs pushes` refuses
--- the push that comes after this many more inputs, and then after this many more pushes on such lists.
+-- Which push on a list without a limit is refused: none, or one. Before the refused push come this many more inputs,
+-- and then this many more pushes on such lists.
 pub data Refusal : Type 0 where
   Never : Refusal
   After : (inputs pushes : ℕ) → Refusal

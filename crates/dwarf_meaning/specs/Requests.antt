@@ -6,7 +6,7 @@ use Rattle.dwarf_value.specs.declared.types.ValueType.{ValueType}
 use Rattle.dwarf_meaning.specs.Operations.{DieReference}
 use Rattle.dwarf_meaning.specs.declared.kinds.WaitingKind.{WaitingKind}
 
--- what is asked
+-- a request, with what it asks for
 pub data Request : Type 0 where
   RequiresMemory : (address size : ℕ) (space : Option ℕ) (base_type : ℕ) → Request
   RequiresRegister : (register base_type : ℕ) → Request
@@ -19,7 +19,7 @@ pub data Request : Type 0 where
   RequiresIndexedAddress : (index : ℕ) (relocate : Bool) → Request
   RequiresBaseType : (base_type : ℕ) → Request
 
--- what is done with the answer to a request
+-- how the answer to a request is used
 pub data OnAnswer : Type 0 where
   -- a value or a number is pushed as it is, and a text is run
   Push : OnAnswer

@@ -17,7 +17,7 @@ pub data SpellsNumber (big : Bool) : Layout → List ℕ → ℕ → Type 0 wher
   in_leb128 : (bytes : List ℕ) (number : ℕ) → SpellsLeb unsigned_leb bytes number
       → SpellsNumber big Leb128 bytes number
 
--- no prefix of the bytes spells an unsigned number, for this fault
+-- no prefix of the bytes spells an unsigned number, and this is the fault
 pub data MalformedNumber : Layout → List ℕ → Fault → Type 0 where
   few_bytes : (size : ℕ) (bytes : List ℕ) → is_fixed_size size ≡ true → length bytes < size
       → MalformedNumber (Bytes size) bytes past_the_end
@@ -33,7 +33,7 @@ pub data SpellsInteger (big : Bool) : Layout → List ℕ → ℤ → Type 0 whe
   in_signed_leb128 : (bytes : List ℕ) (number : ℤ) → SpellsLeb signed_leb bytes number
       → SpellsInteger big Leb128 bytes number
 
--- no prefix of the bytes spells a signed number, for this fault
+-- no prefix of the bytes spells a signed number, and this is the fault
 pub data MalformedInteger : Layout → List ℕ → Fault → Type 0 where
   few_signed_bytes : (size : ℕ) (bytes : List ℕ) → length bytes < size
       → MalformedInteger (Bytes size) bytes past_the_end
@@ -46,7 +46,7 @@ pub data SpellsUnsigned (context : Context) (form : Layout × Range) : List ℕ 
       → SpellsNumber context.is_big form.0 bytes number → operand_value context.offset_bits form.1 number ≡ Ok value
       → SpellsUnsigned context form bytes value
 
--- no prefix of the bytes spells a number, or it spells one that is out of the operand's range
+-- no prefix of the bytes spells a number, or the number is out of the operand's range; this is the fault
 pub data MalformedUnsigned (context : Context) (form : Layout × Range) : List ℕ → Fault → Type 0 where
   no_number : (bytes : List ℕ) (fault : Fault) → MalformedNumber form.0 bytes fault
       → MalformedUnsigned context form bytes fault
@@ -91,7 +91,7 @@ pub data Spells (context : Context) : List ℕ → Operation → Type 0 where
   spelled : (opcode : ℕ) (operands : List ℕ) (op : Operation)
       → SpellsOperands context (row_of context.encoding opcode) operands op → Spells context (opcode ∷ operands) op
 
--- no prefix of the bytes spells an operation, for this fault
+-- no prefix of the bytes spells an operation, and this is the fault
 pub data Malformed (context : Context) : List ℕ → Fault → Type 0 where
   no_opcode : Malformed context [] past_the_end
   bad_operands : (opcode : ℕ) (bytes : List ℕ) (fault : Fault)

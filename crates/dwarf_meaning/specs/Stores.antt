@@ -66,7 +66,7 @@ module _ (setup : Setup) where
   push_piece piece s = push_with_room setup.limits.pieces (length s.pieces) s.refusal
       >>= λ left. Ok (record s { pieces = s.pieces ++ piece ∷ []; refusal = left })
 
-  -- a caller, above `depth` others
+  -- a caller, on top of `depth` others
   unfoldable pub push_caller : (depth : ℕ) → Store → Result Store Fault
   push_caller depth s = push_with_room setup.limits.callers depth s.refusal >>= λ left. Ok (record s { refusal = left })
 

@@ -50,8 +50,7 @@ impl Word {
         Word::new(number.cast_unsigned(), width, true)
     }
 
-    /// The word of a generic value. It takes as many of the lowest bits as an address has, as a signed or an unsigned
-    /// number.
+    /// The word of a generic value: its lowest bits, as many as an address has, as a signed or an unsigned number.
     #[inline(always)]
     fn of_address(content: u64, addr_mask: u64, signed: bool) -> Word
         requires { IsAddressMask addr_mask }

@@ -32,7 +32,7 @@ fn operations_convert_and_are_shown_alike() {
     assert!(seen > 4 * 160);
 }
 
-/// The request of each opcode is that of gimli's evaluation, after two literals and with operands that differ; so is
+/// The request of each opcode is that of gimli's evaluation, after two literals and with different operands; so is
 /// the end.
 #[test]
 fn requests_convert() {

@@ -213,7 +213,7 @@ fn expect_over_arrays<
     expect(rt, eval, answers, steps, case, row);
 }
 
-// Runs the case over arrays of its capacities, each of which is a constant.
+// Runs the case over arrays. Their capacities are constants.
 fn expect_over_fixed<'a>(rt: &impl Abort, steps: &[Step<Bytes<'a>>], case: &Case<'a>, row: usize)
     requires some { 0 < case.now.encoding.address_size }
     requires fits { case.now.encoding.address_size ≤ 8 }

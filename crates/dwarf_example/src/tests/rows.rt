@@ -255,7 +255,7 @@ static ROWS: [Case<'static>; 29] = [
         status: Status::Failed(Error::TooManyIterations),
         ..FRESH
     },
-    // One value, one caller and two pieces: each list is too short in turn.
+    // One value, one caller and two pieces. In each case another list is too short.
     Case {
         text: PIECES,
         limits: [Some(0), Some(1), Some(2), None],

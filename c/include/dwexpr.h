@@ -156,7 +156,7 @@ typedef struct dwexpr_operation {
     uint32_t register_number;
     uint32_t deref_size;      /* bytes */
     uint32_t flag;            /* 0 or 1 */
-    uint32_t fault;           /* the code that the call answered */
+    uint32_t fault;           /* the code that the call returned */
     size_t block_offset;      /* where its block begins, from the start of the bytes */
     size_t block_length;
     uint64_t detail;          /* the bit offset of a piece; if the code isn't 0, the number that it carries */
@@ -242,7 +242,7 @@ enum dwexpr_request {
     DWEXPR_WANTS_TLS = 5,           /* number: offset in thread-local storage */
     DWEXPR_WANTS_CFA = 6,           /* the canonical frame address */
     DWEXPR_WANTS_LOCATION = 7,      /* number: offset of an entry in the unit, or, with flag, in .debug_info */
-    DWEXPR_WANTS_ENTRY_VALUE = 8,   /* block: an expression, whose value on entry of the function is wanted */
+    DWEXPR_WANTS_ENTRY_VALUE = 8,   /* block: an expression; its value on entry to the function is wanted */
     DWEXPR_WANTS_PARAMETER = 9,     /* number: offset of an entry in the unit */
     DWEXPR_WANTS_RELOCATED = 10,    /* number: address */
     DWEXPR_WANTS_INDEXED = 11,      /* number: index in .debug_addr; flag: relocated, as an address */
@@ -276,8 +276,8 @@ enum dwexpr_piece_kind {
     DWEXPR_EMPTY = 1,               /* it was optimized away */
     DWEXPR_IN_REGISTER = 2,         /* number: the register */
     DWEXPR_AT_ADDRESS = 3,          /* number: the address */
-    DWEXPR_HOLDS_VALUE = 4,         /* value_type, number: it has this value and no place */
-    DWEXPR_HOLDS_BYTES = 5,         /* block: it has these bytes and no place */
+    DWEXPR_HOLDS_VALUE = 4,         /* value_type, number: it isn't in memory, and has this value */
+    DWEXPR_HOLDS_BYTES = 5,         /* block: it isn't in memory, and has these bytes */
     DWEXPR_POINTS_INTO = 6,         /* number: offset of an object's entry in .debug_info; byte_offset into it */
 };
 
@@ -286,8 +286,8 @@ typedef struct dwexpr_piece {
     uint32_t kind;
     uint32_t has_size;        /* 0: it is the whole variable */
     uint64_t size_in_bits;
-    uint64_t bit_offset;      /* where in its location it begins */
-    uint32_t has_bit_offset;  /* 0: that isn't said */
+    uint64_t bit_offset;      /* the bit of its location at which it begins */
+    uint32_t has_bit_offset;  /* 0: no bit offset is given */
     uint32_t value_type;
     uint64_t number;
     int64_t byte_offset;

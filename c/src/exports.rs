@@ -10,7 +10,7 @@ use core::slice::{from_raw_parts, from_raw_parts_mut};
 
 type Text = DwexprText<'static>;
 
-/// The bytes of a text. The pointer may be null if there are none, which that of a slice never is.
+/// The bytes of a text. The pointer may be null if there are none; that of a slice never is.
 #[repr(C)]
 #[derive(Clone, Copy)]
 pub struct Bytes<'a> {

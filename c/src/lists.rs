@@ -1,12 +1,12 @@
 //! The list of a fixed capacity that the sources take from the crate `arrayvec`.
 
-/// Items in an array. Slots after the first `len` have old items.
+/// Items in an array. Those after the first `len` are left over.
 pub(crate) struct ArrayVec<T, const CAP: usize> {
     slots: [T; CAP],
     len: usize,
 }
 
-/// An item that a full list refused.
+/// An item that a full list doesn't take.
 pub(crate) struct CapacityError<T>(T);
 
 impl<T> CapacityError<T> {

@@ -65,8 +65,9 @@ static int answer(const dwexpr_outcome *asked, const dwexpr_texts *texts, const 
     }
 }
 
-/* The index of a text in the table, to which it is added if it isn't there; the table's room if there is none. As long
- * as there is room only the last texts are looked at, so that a call doesn't take longer the more were called. */
+/* The index of a text in the table. A text that isn't there is added; if there is no room, this returns the table's
+ * room. While there is room, only the last texts are compared, so that a call doesn't take longer the more texts
+ * there are. */
 static size_t index_of(dwexpr_texts *texts, dwexpr_text called)
 {
     const int has_room = texts->length < texts->room;

@@ -76,7 +76,7 @@ pub enum Operation<R: Reader, O = <R as Reader>::Offset> {
     Xor,
     /// Pop a value and branch if it isn't zero: `DW_OP_bra`.
     Bra {
-        /// How many bytes, from the end of the operation.
+        /// The distance in bytes, from the end of the operation.
         target: i16,
     },
     /// Whether the second equals the top: `DW_OP_eq`.
@@ -93,7 +93,7 @@ pub enum Operation<R: Reader, O = <R as Reader>::Offset> {
     Ne,
     /// Branch: `DW_OP_skip`.
     Skip {
-        /// How many bytes, from the end of the operation.
+        /// The distance in bytes, from the end of the operation.
         target: i16,
     },
     /// Push an unsigned constant: `DW_OP_lit0` to `DW_OP_lit31`, `DW_OP_const1u` to `DW_OP_const8u`, `DW_OP_constu`.

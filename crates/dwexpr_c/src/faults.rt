@@ -6,7 +6,7 @@ ghost use Rattle.dwexpr_c.specs.Codes.{code_of_fault, number_of_fault};
 
 use dwarf_base::Error;
 
-/// The code of what went well.
+/// The code of success.
 pub(crate) const OK: u32 = 0;
 
 // The codes of faults.
@@ -53,7 +53,7 @@ pub(crate) const INVALID_EXPRESSION_TERMINATOR: u32 = 20;
 
 pub(crate) const STACK_FULL: u32 = 21;
 
-/// The code of an encoding whose numbers say none.
+/// The code for an encoding that isn't allowed.
 pub(crate) const BAD_ENCODING: u32 = 64;
 
 /// The code of an offset at which there is no byte.
@@ -72,7 +72,7 @@ pub(crate) const MISPLACED: u32 = 68;
 /// it.
 pub(crate) const LOST_TEXT: u32 = 69;
 
-/// The code of numbers that say no value, no operation on values or no mask; 70 is a code of the driver in C.
+/// The code for numbers that stand for no value, no operation on values or no mask; 70 is a code of the driver in C.
 pub(crate) const BAD_VALUE: u32 = 71;
 
 /// A fault as callers see it.

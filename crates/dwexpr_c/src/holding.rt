@@ -60,7 +60,7 @@ fn resume(
     }
 }
 
-/// How many bytes of memory an evaluation takes that is held.
+/// The number of bytes that a held evaluation takes.
 #[unsafe(no_mangle)]
 pub extern "C" fn dwexpr_evaluation_size() -> usize
     ensures { result ≡ type_size held_row }
@@ -68,7 +68,7 @@ pub extern "C" fn dwexpr_evaluation_size() -> usize
     size_of::<Held<'static>>()
 }
 
-/// Makes memory an evaluation that can be started.
+/// Makes an evaluation in the memory, which can then be started.
 #[unsafe(no_mangle)]
 pub extern "C" fn dwexpr_evaluation_begin(evaluation: &mut DwexprEvaluation)
     requires { evaluation.old.held ≡ None }

@@ -1,4 +1,4 @@
-//! An outcome in numbers.
+//! An outcome as numbers.
 
 ghost use Rattle.std.specs.Prelude.{◌≡◌, true, false};
 ghost use Rattle.dwarf_eval.specs.Evaluation.{ok_reply};
@@ -16,11 +16,11 @@ use dwarf_eval::op::EvaluationResult;
 use dwarf_op::DieReference;
 use dwarf_value::Value;
 
-/// What an evaluation came to. What a request doesn't name is 0.
+/// The outcome of an evaluation. Fields that its request doesn't name are 0.
 #[repr(C)]
 #[derive(Clone, Copy)]
 pub struct DwexprOutcome {
-    /// The code that the call answers.
+    /// The code that the call returns.
     pub code: u32,
     /// What is asked for, or that the evaluation is complete; 0 if nothing was evaluated, or the code isn't 0.
     pub request: u32,
@@ -46,11 +46,11 @@ pub struct DwexprOutcome {
     pub value: u64,
     /// The index of the text in which the block is.
     pub block_text: usize,
-    /// Where in that text the block begins.
+    /// The offset in that text at which the block begins.
     pub block_offset: usize,
-    /// How many bytes the block has.
+    /// The number of bytes in the block.
     pub block_length: usize,
-    /// How many pieces a complete evaluation has.
+    /// The number of pieces of a complete evaluation.
     pub pieces: usize,
 }
 
@@ -106,7 +106,7 @@ fn memory_outcome(address: u64, size: u8, base_type: usize) -> DwexprOutcome
     }
 }
 
-/// Shows a request; `false` if it asks of a block that is nowhere.
+/// Shows a request; `false` if its block is nowhere in the texts.
 #[inline(always)]
 pub(crate) fn show_request(
     texts: &[DwexprText<'_>],
@@ -207,14 +207,14 @@ pub(crate) fn show_request(
     true
 }
 
-/// What is shown of a complete evaluation.
+/// Shows a complete evaluation.
 #[inline(always)]
 pub(crate) fn show_complete(pieces: usize, value: Option<Value>) -> DwexprOutcome
     ensures { result ≡ complete_outcome pieces value }
 {
     let numbers = match value {
         None => NO_VALUE,
-        // Most are.
+        // Most values are generic.
         Some(Value::Generic(content)) => DwexprValue {
             value_type: types::GENERIC,
             content,

@@ -1,4 +1,4 @@
-//! Pieces in numbers.
+//! Pieces as numbers.
 
 ghost use Rattle.std.specs.Prelude.{◌≡◌, ◌<◌, is_some, true, false, map, option_map, slice_get, unwrap_or};
 ghost use Rattle.dwarf_meaning.specs.Locations.{HoldsBytes};
@@ -15,31 +15,31 @@ use dwarf_base::Reader;
 use dwarf_op::{Location, Piece};
 use dwarf_value::Value;
 
-/// A piece of a variable. What its kind doesn't name is 0.
+/// A piece of a variable. Fields that its kind doesn't name are 0.
 #[repr(C)]
 #[derive(Clone, Copy)]
 pub struct DwexprPiece {
-    /// Where it is, or what it holds.
+    /// Where it is, or what it contains.
     pub kind: u32,
-    /// 1 if it has a size; without one it is the whole variable.
+    /// 1 if it has a size; 0 if it is the whole variable.
     pub has_size: u32,
     /// Its size in bits.
     pub size_in_bits: u64,
-    /// Where it begins in its location, in bits.
+    /// The bit of its location at which it begins.
     pub bit_offset: u64,
-    /// 1 if that is said.
+    /// 1 if the bit offset is given.
     pub has_bit_offset: u32,
     /// The type of its value.
     pub value_type: u32,
     /// A register, an address, a value or an offset of an entry.
     pub number: u64,
-    /// Where in the object it points to, in bytes.
+    /// The offset in the object to which it points, in bytes.
     pub byte_offset: i64,
     /// The index of the text in which its bytes are.
     pub block_text: usize,
-    /// Where in that text they begin.
+    /// The offset in that text at which they begin.
     pub block_offset: usize,
-    /// How many they are.
+    /// The number of its bytes.
     pub block_length: usize,
 }
 
@@ -61,7 +61,7 @@ fn piece_of_kind(kind: u32, size_in_bits: Option<u64>, bit_offset: Option<u64>) 
     }
 }
 
-/// Writes a piece that holds bytes; `false` if they are nowhere.
+/// Writes a piece with bytes; `false` if they are nowhere in the texts.
 fn show_bytes(
     texts: &[DwexprText<'_>],
     bytes: &Placed<'_>,
@@ -90,7 +90,7 @@ fn show_bytes(
     true
 }
 
-/// Writes a piece; `false` if its bytes are nowhere.
+/// Writes a piece; `false` if it has bytes that are nowhere in the texts.
 #[inline(always)]
 fn show_piece(texts: &[DwexprText<'_>], piece: &Piece<Placed<'_>>, shown: &mut DwexprPiece) -> bool
     ensures some { result ≡ true
@@ -134,7 +134,7 @@ fn piece_at<'a, 'b>(pieces: &'b [Piece<Placed<'a>>], index: usize) -> Option<&'b
     pieces.get(index)
 }
 
-/// Writes as many pieces as there is room for; `false` if the bytes of one are nowhere.
+/// Writes the pieces for which there is room; `false` if one of these has bytes that are nowhere in the texts.
 #[inline(always)]
 pub(crate) fn write_pieces(
     texts: &[DwexprText<'_>],

@@ -1,4 +1,4 @@
-//! A reader that knows its place in a text.
+//! A reader that knows where in a text it is.
 
 ghost use Rattle.std.specs.Prelude.{◌≡◌, ◌==◌, ◌≤◌, ◌-◌, ◌/◌, ◌%◌, length, drop};
 ghost use Rattle.dwarf_base.specs.ByteOrder.{is_big_of};
@@ -7,15 +7,15 @@ ghost use Rattle.dwexpr_c.specs.CallerTexts.{text_of_placed};
 
 use dwarf_base::{EndianSlice, Reader, Result, RunTimeEndian};
 
-/// Bytes of one of a caller's texts, and the place in the texts where they should end.
-// Each field is a whole word, and there are four: the compiler keeps such a reader in registers.
+/// Bytes of one of a caller's texts, and where in the texts they should end.
+// Each field is whole words, and they are four: the compiler keeps such a reader in registers.
 #[derive(Clone, Copy, Debug, Default)]
 pub(crate) struct Placed<'a> {
     bytes: &'a [u8],
-    /// The offset in the text at which they should end.
+    /// Where in the text they should end.
     end: usize,
-    /// Twice the index of the text, and 1 more if the byte order is big. No memory has more texts than this tells
-    /// apart.
+    /// Twice the index of the text, and 1 more if the byte order is big. Memory has no room for more texts than that
+    /// tells apart.
     home: usize,
 }
 
@@ -48,7 +48,7 @@ impl<'a> Placed<'a> {
         self.home / 2
     }
 
-    /// The offset in that text at which they should begin.
+    /// Where in that text they should begin.
     pub(crate) fn place(&self) -> usize
         ensures { result ≡ self.now.end - length self.now.bytes.now }
     {

@@ -15,7 +15,7 @@ past_the_end = UnexpectedEof (record { 0 = 0 })
 abbrev pub invalid_expression : (opcode : ℕ) → Fault
 invalid_expression opcode = InvalidExpression (record { 0 = opcode })
 
--- the error as a fault: its identifier, if it has one, is replaced
+-- the error as a fault: its identifier, if it has one, becomes 0
 abbrev pub fault_of : Error → Fault
 fault_of (UnexpectedEof id) = past_the_end
 fault_of error = error

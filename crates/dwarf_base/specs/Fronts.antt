@@ -10,7 +10,7 @@ pub record Begins {A : Type 0} (Spells : List ℕ → A → Type 0) (bytes : Lis
   pub whole : front ++ rest ≡ bytes
   pub spells : Spells front value
 
--- a read gives a value exactly if a prefix spells it, and a fault exactly if the bytes are malformed in its way
+-- a read gives a value exactly if a prefix spells it, and a fault exactly if the bytes are malformed with it
 pub record ReadsExactly {A : Type 0} (Spells : List ℕ → A → Type 0) (Malformed : List ℕ → Fault → Type 0)
     (read : List ℕ → Result (A × List ℕ) Fault) : Type 0 where
   pub ok : (bytes : List ℕ) (value : A) (rest : List ℕ) → (read bytes ≡ Ok (value, rest))

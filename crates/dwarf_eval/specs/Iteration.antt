@@ -38,7 +38,7 @@ abbrev pub item_of : {X : Type 0} → (X → meaning.Operation) → Result X Err
 item_of view (Ok x) = Ok (view x)
 item_of view (Err e) = Err (fault_of e)
 
--- the items that are left: those into which the bytes split that are left
+-- the items that are left: the splitting of the bytes that are left
 abbrev pub items_left : {R P : Type 0} → (R → Text) → (offset_bits : ℕ) → OperationIter R P
     → List (Result meaning.Operation Fault)
 items_left text offset_bits iterator = items_at (encoding_of iterator) offset_bits (text (unread_of iterator))

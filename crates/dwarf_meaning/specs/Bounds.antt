@@ -61,7 +61,7 @@ pub record DecodesOnce (x : State) : Type 0 where
   pub given : IsTrue (list_all is_given (waiting x.store.last x.status))
 
 -- From the old state to the new one, each counted operation added at most one item, one caller and two decodings. Up to
--- `more` items may have been added besides. If the old state decoded once, so did the new one.
+-- `more` items may have been added besides. `DecodesOnce` of the old state gives that of the new one.
 pub record Spends (more : ℕ) (old new : State) : Type 0 where
   pub items : item_count new + old.store.count ≤ item_count old + new.store.count + more
   pub callers : caller_count new + old.store.count ≤ caller_count old + new.store.count

@@ -108,8 +108,7 @@ SameForOne result = (w : ℕ) (x x' : Value) → Agree w x x' → result w x ≡
 abbrev pub SameForTwo : (ℕ → Value → Value → Result Value Error) → Type 0
 SameForTwo result = (w : ℕ) (x x' y y' : Value) → Agree w x x' → Agree w y y' → result w x y ≡ result w x' y'
 
--- agreeing arguments give equal results. Only those of `reinterpret`, which reads all bits of a generic value, need but
--- agree
+-- agreeing arguments give equal results; those of `reinterpret`, which reads all bits of a generic value, only agree
 pub record AgreementIsKept : Type 0 where
   pub to_u64 : (w : ℕ) (x x' : Value) → Agree w x x' → to_u64_of w x ≡ to_u64_of w x'
   pub convert : (t : ValueType) → SameForOne (λ w. convert_of w t)

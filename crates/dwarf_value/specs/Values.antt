@@ -50,7 +50,7 @@ bit_size_of w t = (shape_of false w t).1
 unfoldable pub is_same : ValueType → ValueType → Bool
 is_same = sameb the_type
 
--- the integer that k bits spell: in two's complement, or from 0 up
+-- the integer in k bits: in two's complement if it is signed, else from 0 up
 unfoldable pub word_integer : (signed : Bool) (k : ℕ) → ℕ → ℤ
 word_integer signed k n = if signed then signed_of k n else pos n
 

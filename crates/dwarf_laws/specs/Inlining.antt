@@ -77,7 +77,7 @@ pub record IsInlinable (setup : Setup) (site : CallSite) : Type 0 where
   pub bytes : AreBytes site.callee
   pub short : length (inlined_text site).bytes + 32768 < 2 ^ setup.offset_bits
 
--- The earlier inputs lead to the call, are all taken by then, and no text but the outer one is open. `requests` were
+-- The earlier inputs lead to the call: all of them are taken by then, and only the outer text is open. `requests` were
 -- asked before the call.
 pub record LeadsToCall (setup : Setup) (site : CallSite) (offset : DieReference) (first : First)
     (earlier : List Input) (requests : List Request) : Type 0 where

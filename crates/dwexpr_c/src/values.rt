@@ -82,7 +82,7 @@ pub(crate) fn numbers_of_value(value: Value) -> DwexprValue
     }
 }
 
-/// The value of the type with this code that the content wraps to.
+/// The content as a value of the type with this code, wrapped to its size.
 #[inline(always)]
 pub(crate) fn value_of(code: u32, content: u64) -> Option<Value>
     ensures { result ≡ value_coded code content }

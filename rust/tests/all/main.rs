@@ -4,6 +4,7 @@
 mod clones;
 mod evaluations;
 mod generic;
+mod integers;
 #[cfg(feature = "gimli")]
 mod interop;
 mod plain;

@@ -47,7 +47,7 @@ FIGURES = [
 ]
 
 # The files of the repository, those that aren't committed yet too; an editor's are none.
-FILES = [it.relative_to(TOP) for it in TOP.rglob("*") if it.is_file() and not re.match(r"#|.*(?:\.sw.|~)$", it.name)]
+FILES = [it.relative_to(TOP) for it in TOP.rglob("*") if it.is_file() and not re.match(r"\.?#|.*(?:\.sw.|~)$", it.name)]
 FILES = sorted(str(it) for it in FILES if not BESIDE.intersection(it.parent.parts))
 PLACES = {*FILES, *(str(folder) for name in FILES for folder in pathlib.PurePath(name).parents)}
 PAGES = {

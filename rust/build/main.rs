@@ -47,7 +47,7 @@ fn rename_calls_of_evaluation(sources: &mut Sources) {
 /// item `Reader` somewhere in the module `base`.
 fn add_pages(sources: &mut Sources, folder: &str) {
     let folder = sources.top.join(folder);
-    for page in files_in(&folder) {
+    for page in files_in(&folder, "md") {
         let module = page.parent().and_then(|it| it.strip_prefix(&folder).ok()?.to_str()).expect("it is in the folder");
         let name = page.file_stem().and_then(|it| it.to_str()).expect("it has a name");
         let items = ["trait", "struct", "enum", "fn"].map(|kind| format!("pub {kind} {name}"));

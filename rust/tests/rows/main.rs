@@ -121,6 +121,9 @@ fn cases() -> Vec<(String, Case)> {
         (0..).zip(vectors.items()).map(|(at, it)| (format!("vector {at}"), case_of_vector(it))).collect();
     for file in fs::read_dir(tests.join("rows")).unwrap() {
         let path = file.unwrap().path();
+        if path.extension().is_none_or(|it| it != "json") {
+            continue;
+        }
         let rows = json_in(&path);
         let named = |row: &Json| Some((format!("{}: {}", path.display(), row.get("name")?.text()), case_of(row)?));
         cases.extend(rows.items().iter().filter_map(named));

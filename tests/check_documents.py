@@ -3,7 +3,8 @@
 
 - Each path in a page leads to a file or folder of the repository; what is built, gimli's files and the web aside. Each
   link to a part of a page finds its heading.
-- Each name in docs/DEFINITIONS.md is one of the code, of the definitions or of a file of theirs.
+- Each name in the part of docs/PROOFS.md on how to read a contract is one of the code, of the definitions or of a file
+  of theirs.
 - Each block whose fence names a file is what stands in that file, byte for byte.
 - docs/GUIDE.md names exactly the operations that are known and aren't the standard's, and docs/ARCHITECTURE.md each
   crate. Figures are those of the sources and of docs/SPEED.md.
@@ -101,15 +102,16 @@ def figures(page, text):
 
 
 def names():
-    """Each name in DEFINITIONS.md is one of the code, of the definitions, or of a crate, file or module of theirs."""
+    """Each name in what says how to read a contract is one of the code, of the definitions, or of a file of theirs."""
     known = set()
     for path in FILES:
         if re.match(r"crates/\w+/(?:src|specs)/", path):
             known.update(re.findall(r"\w+", path.rpartition(".")[0] + COMMENT.sub("", read(path))))
-    for quoted in sorted(set(QUOTED.findall(PAGES["docs/DEFINITIONS.md"]))):
+    part = PAGES["docs/PROOFS.md"].partition("\n## How to read a contract\n")[2].partition("\n## ")[0]
+    for quoted in sorted(set(QUOTED.findall(part or PAGES["docs/DEFINITIONS.md"]))):
         words = quoted.split("::")
         if all(re.fullmatch(r"[A-Za-z_]\w*", word, re.ASCII) for word in words):
-            expect(known.issuperset(words), f"docs/DEFINITIONS.md names `{quoted}`, which no crate names")
+            expect(known.issuperset(words), f"a page names `{quoted}`, which no crate names")
 
 
 def operations():

@@ -5,7 +5,7 @@ reader, which goes by tokens.
 - Each file that is written has the tokens of its source without contracts and after the rows, docs too, and each line
   has its number.
 - No row adds code: what a function does, and each number, stays as it is proved but for the rows in CODE.
-- The preconditions of public functions are in the lists, which say what checks each.
+- What has a precondition isn't public, as its name says.
 - It refuses each change of WRONG.
 
 It wants rustc, and no Rattle kit. The last line is `N passed, M failed`.
@@ -33,10 +33,9 @@ ATTRIBUTE = r"#\n(?:!\n)?\[\n(?:tactic\n(?:[^]].*\n)*|derive\n\(\nDrop\n\)\n)\]\
 COPY = r"fn clone ( & self ) - > Result < Self , AllocError > { Ok ( * self ) } }".replace(" ", "\n") + "\n"
 MODEL = rf"impl\n{HEAD}(?:Model\nfor\n{HEAD}{BLOCK}|Clone\nfor\n{HEAD}\{{\n(?:{GHOST})*{re.escape(COPY)})"
 IMPORT = r"use\nstd\n:\n:\n(?:marker\n:\n:\nModel|alloc\n:\n:\nAllocError)\n;\n"
-CONTRACT = re.compile(f"^(?:{CLAUSE}|{GHOST}|{ATTRIBUTE}|{MODEL}|{IMPORT}|final\n)", re.MULTILINE)
+CONTRACT = re.compile(f"^(?:{CLAUSE}|{GHOST}|{ATTRIBUTE}|{MODEL}|{IMPORT}|final\n(?=fn\n))", re.MULTILINE)
 BODY = re.compile(rf"^fn\n(\w+)\n{HEAD}({BLOCK})", re.MULTILINE)
 NUMBER = re.compile(r"^\d\w*$", re.MULTILINE)
-REQUIRES = re.compile(rf"^requires\n(?:[^{{].*\n)?({BLOCK})", re.MULTILINE)
 
 # The rows that change code, by what they replace.
 CODE = {
@@ -51,15 +50,11 @@ CODE = {
 }
 # What each file ends with.
 ADDED = "use crate::casts::{IntoSigned as _, IntoUnsigned as _};\n"
-# Of each package its build script, its folder, its rows, its preconditions, and the sources whose public functions have
-# them.
-PACKAGES = {
-    "rust": ("rust/build/main.rs", ".", ["both", "rust"], "rust/build/preconditions", "crates/"),
-    "c": ("c/build.rs", "c", ["both", "c"], "c/preconditions", "crates/dwexpr_c/"),
-}
+# Of each package its build script, its folder and its rows.
+PACKAGES = {"rust": ("rust/build/main.rs", ".", ["both", "rust"]), "c": ("c/build.rs", "c", ["both", "c"])}
 CLAUSE_OF_FROM = "ensures { Returns (λ r. r.0) result (register_of register) }"
 MAXIMUM = ("self.iteration >= self.max_iterations", "self.iteration >= self.max_iterations - 1")
-# Changes that are refused, in one package or in both: of what is written, of rows, or of sources.
+# Changes that are refused: of what is written, of rows, or of sources.
 WRONG = {
     "a token of code is deleted": [("base/reading.rs", "Ok(number as u8)", "Ok(number)")],
     "a contract is left": [("base/common.rs", f"/* {CLAUSE_OF_FROM} */", CLAUSE_OF_FROM)],
@@ -79,12 +74,6 @@ WRONG = {
     "a row changes a constant": [
         ("rows/both", "# A clone", "crates/dwarf_base/src/constants.rt\n- DwOp(0x03)\n+ DwOp(0x04)\n\n# A clone"),
         ("base/constants.rs", "DwOp(0x03)", "DwOp(0x04)"),
-    ],
-    "rust: a precondition without a check": [
-        ("crates/dwarf_value/src/masks.rt", "ensures {", "requires { addr_mask ≡ 1 } ensures {")
-    ],
-    "c: an export with a precondition more": [
-        ("crates/dwexpr_c/src/decoding.rt", "ensures code {", "requires { offset ≡ 0 } ensures code {")
     ],
     "a clone that does something": [("crates/dwarf_op/src/operations.rt", "Ok(*self)", "Ok(self.copied())")],
 }
@@ -143,27 +132,12 @@ def differ(what, ours, theirs):
         raise Wrong(f"{what}: {ours[max(at - 3, 0) : at + 3]}, and {theirs[max(at - 3, 0) : at + 3]} is wanted")
 
 
-def preconditions(text):
-    """The name of each public function that has a precondition, and the precondition."""
-    for clause in REQUIRES.finditer(text):
-        before, _, head = text[: clause.start()].rpartition("\nfn\n")
-        if before.endswith(('\npub', '\n"\nC\n"')):
-            yield head.split("\n")[0], "".join(clause[1].split()[1:-1])
-
-
 def judge(package, texts):
     """Refuses texts, by their paths, of which what is written isn't that of the sources and rows."""
-    _, _, rows, listed, public = PACKAGES[package]
-    rows = [row for name in rows for row in rows_in(texts[f"rows/{name}"])]
-    lines = [it.rpartition(": ") for it in texts[listed].splitlines() if it[:1] != "#"]
-    allowed = {(name, "".join(code(condition).split())) for condition, _, names in lines for name in names.split()}
+    rows = [row for name in PACKAGES[package][2] for row in rows_in(texts[f"rows/{name}"])]
     proved, changed, written = {}, {}, {}
     for path in [it for it in texts if it.startswith("crates/")]:
-        whole = code(texts[path])
-        for name, condition in preconditions(whole) if path.startswith(public) else ():
-            if not allowed & {(name, condition), ("*", condition)}:
-                raise Wrong(f"{path}: {name} has a precondition that {listed} doesn't name: {condition}")
-        proved[path] = changed[path] = CONTRACT.sub("", whole)
+        proved[path] = changed[path] = CONTRACT.sub("", code(texts[path]))
         place = re.sub(r"crates/[a-z]+_(\w+)/src/(.*)\.rt", r"\1/\2.rs", path).replace("/lib.rs", "/mod.rs")
         text = texts[place]
         if text.count("\n") != texts[path].count("\n") + 1 or not text.endswith(ADDED):
@@ -182,7 +156,7 @@ def judge(package, texts):
 
 def texts_of(package, folder):
     """What the build script of a package writes, without pages of docs, and what it reads."""
-    script, home, rows, listed, _ = PACKAGES[package]
+    script, home, rows = PACKAGES[package]
     out = folder / package
     commands.run("rustc", "--edition=2024", TOP / script, "-o", f"{out}.script")
     out.mkdir()
@@ -190,7 +164,6 @@ def texts_of(package, folder):
     variables |= {"CARGO_MANIFEST_DIR": str(TOP / home), "OUT_DIR": str(out)}
     commands.run(f"{out}.script", env={**os.environ, **variables})
     texts = {f"rows/{name}": (TOP / "rust/build/rows" / name).read_text(encoding="utf-8") for name in rows}
-    texts[listed] = (TOP / listed).read_text(encoding="utf-8")
     for file in sorted((out / "sources").rglob("*/*.rs")):
         place = str(file.relative_to(out / "sources"))
         texts[place] = re.sub(r'#\[doc = "(?:[^"\\]|\\.)*"\] ', "", file.read_text(encoding="utf-8"))
@@ -215,8 +188,6 @@ def main():
             said = refused(package, texts)
             expect(len(texts) > 80 and not said, f"{package}: {said}")
             for name, changes in WRONG.items():
-                if name.partition(": ")[0] in PACKAGES.keys() - {package}:
-                    continue
                 other = dict(texts)
                 for file, old, new in changes:
                     other[file] = other[file].replace(old, new, 1)

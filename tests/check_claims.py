@@ -4,26 +4,17 @@
 - Each command after a `$` prints the lines that follow it. `bin/test` is the gate itself, and isn't run.
 - Each program in C, a fence with a `main`, is built from what CMake installs by the command in front of it, in which
   DIR is where that is. It prints what the remarks after `printf` say. So does each program in Rust, with the crate.
-- What README.md says of gdb is so: gdb prints variables of a file that is made by hand, of two units, one with addresses
-  of 8 bytes and one of 4.
 
-It wants the program built, cc, CMake, pkg-config, rustc, rustfmt, and the gdb that README.md names. What is
-missing is left out, and said so. The last line is `N passed, M failed`.
+It wants the program built, cc, CMake, pkg-config and Cargo. What is missing is left out, and said so. The last line is
+`N passed, M failed`.
 """
 
 import re
-import signal
-import subprocess
-import sys
 import textwrap
 
 import checks
-from checks import check, commands, expect, lacks, left_out, prints, run
-
+from checks import commands, expect, lacks, prints, run
 from commands import ARCHIVE, TOP
-
-sys.path.insert(0, str(TOP / "c/libdw/tests"))
-from unit import Unit  # noqa: E402
 
 PAGES = {name: (TOP / name).read_text(encoding="utf-8") for name in ("README.md", "docs/GUIDE.md")}
 # A command and what it prints, up to an empty line or the next command.
@@ -33,27 +24,8 @@ FENCE = re.compile(r"^```(\w+)\n(.*?)^```$", re.MULTILINE | re.DOTALL)
 PRINTED = re.compile(r"print(?:f|ln!)\(.*;.*?(?:/\*|//) (.*?)(?: \*/)?$", re.MULTILINE)
 # The command that builds a program in C, by its last line.
 BUILD = re.compile(r"((?:^    .+\n)*^    cc program\.c .+\n)", re.MULTILINE)
+MANIFEST = '[package]\nname = "app"\nedition = "2024"\n[dependencies]\ndwexpr.path = "{}"\n[workspace]\n'
 checks.SECONDS = 600
-
-# By the size of an address: each variable's expression, and a pattern for what gdb prints, None if it doesn't end.
-VARIABLES = {
-    8: {
-        "sane": ("359f", r"\$1 = 5\n"),
-        # The operand has one byte of eight. The address that gdb makes has it lowest; the others are what follows.
-        "cut": ("0e01", r"Cannot access memory at address 0x[0-9a-f]{10,}01\n"),
-        "loop": ("2ffdff", None),
-    },
-    4: {
-        "high": ("0effffffff010000009f", r"\$1 = 4294967295\n"),
-        "shifted": ("310e0100000001000000249f", r"\$1 = 2\n"),
-    },
-}
-# How long an endless expression is waited for.
-PATIENCE = 5
-
-# A unit, a base type with its encoding and size, and a variable with its type and location (DWARF 4, section 7.5.3).
-ABBREVIATIONS = bytes([1, 0x11, 1, 0x03, 0x08, 0, 0, 2, 0x24, 0, 0x03, 0x08, 0x3E, 0x0B, 0x0B, 0x0B, 0, 0])
-ABBREVIATIONS += bytes([3, 0x34, 0, 0x03, 0x08, 0x49, 0x13, 0x02, 0x18, 0, 0, 0])
 
 
 def sessions():
@@ -87,67 +59,21 @@ def in_c():
 
 def in_rust():
     """Each program in Rust prints what it says."""
-    if lacks("the programs in Rust", "rustc"):
+    if lacks("the programs in Rust", "cargo"):
         return
     with commands.temporary() as folder:
-        # Without Cargo, which would look for the crates of the features. It would turn on the default one.
-        words = ["rustc", "--edition", "2024", "--cfg", 'feature="alloc"']
-        library = ["--crate-type", "lib", "--crate-name", "dwexpr", TOP / "rust/src/lib.rs"]
-        check("the crate by rustc", [*words, *library], cwd=folder, env=checks.strip("rust", TOP, folder))
+        (folder / "src").mkdir()
+        (folder / "Cargo.toml").write_text(MANIFEST.format(TOP))
         for page, _, program, wanted in programs("rust", "fn main("):
-            (folder / "program.rs").write_text(program)
-            if check(f"{page}: rustc", [*words, "--extern", "dwexpr=libdwexpr.rlib", "program.rs"], cwd=folder):
-                prints(f"{page}: a program in Rust", ["./program"], wanted, cwd=folder)
-
-
-def units():
-    """The object file for gdb."""
-    info = b""
-    for size, variables in VARIABLES.items():
-        unit, entries = Unit(size, 4, 4, "le"), b"\1unit\0"
-        kind = unit.pack("I", len(unit.length(0) + unit.header() + entries))
-        entries += b"\2number\0\5\10"
-        for name, (digits, _) in variables.items():
-            block = bytes.fromhex(digits)
-            entries += b"\3" + name.encode() + b"\0" + kind + bytes([len(block)]) + block
-        info += unit.info(entries + b"\0")
-    return Unit(8, 4, 4, "le").elf({".debug_abbrev": ABBREVIATIONS, ".debug_info": info})
-
-
-def is_printed(file, name, pattern):
-    """Whether gdb prints this of a variable, or with no pattern goes on until it is interrupted."""
-    words = ["gdb", "-q", "-nx", "-batch", "-ex", f"print {name}", file]
-    with subprocess.Popen(words, stdout=subprocess.PIPE, stderr=subprocess.STDOUT, text=True) as ran:
-        try:
-            said = ran.communicate(timeout=checks.SECONDS if pattern else PATIENCE)[0]
-            return bool(pattern) and bool(re.fullmatch(pattern, said))
-        except subprocess.TimeoutExpired:
-            ran.send_signal(signal.SIGINT)
-            return "Quit" in ran.communicate(timeout=checks.SECONDS)[0] and not pattern
-
-
-def of_gdb():
-    """gdb prints what the table says."""
-    if lacks("what gdb prints", "gdb"):
-        return
-    version = run(["gdb", "--version"]).stdout.split("\n")[0]
-    named = re.search(r"gdb (\d+\.\d+)", PAGES["README.md"])[1]
-    if not version.endswith(f" {named}"):
-        left_out(f"what gdb prints, since {version} is there", f"gdb {named}")
-        return
-    with commands.temporary() as folder:
-        made = folder / "units.o"
-        made.write_bytes(units())
-        for variables in VARIABLES.values():
-            for name, (digits, pattern) in variables.items():
-                expect(is_printed(made, name, pattern), f"what gdb prints for {digits}")
+            (folder / "src/main.rs").write_text(program)
+            words = ["cargo", "run", "--quiet", *commands.patches()]
+            prints(f"{page}: a program in Rust", words, wanted, cwd=folder)
 
 
 def main():
     sessions()
     in_c()
     in_rust()
-    of_gdb()
 
 
 if __name__ == "__main__":

@@ -1,12 +1,11 @@
 """What the scripts that run programs share: a count of checks, runs that end, and how C is compiled."""
 
-import os
+import re
 import shutil
 import subprocess
 import sys
 
 import commands
-import sources
 from commands import TOP
 
 # How C and C++ are compiled here, with no warning; and how else the headers are, as a user may do it.
@@ -74,7 +73,8 @@ def prints(name, words, wanted, status=0, **more):
 def count_of(name, words, **more):
     """Runs a program, and counts what it says in its last line, which has to fit its status. What it printed."""
     done = run(words, **more)
-    good, bad = sources.counted(done.stdout)
+    found = re.search(r"^(\d+) passed, (\d+) failed\n\Z", done.stdout, re.MULTILINE)
+    good, bad = map(int, found.groups()) if found else (0, 1)
     count(good, bad or int(done.returncode != 0), name, done.stdout + done.stderr)
     return done.stdout
 
@@ -112,53 +112,14 @@ def check_headers(*names):
             check(what, [compiler, *words], input=text)
 
 
-# The build script of each package, and its folder.
-SCRIPTS = {"rust": ("rust/build/main.rs", "."), "c": ("c/build.rs", "c")}
-
-
-def copy_packages(folder):
-    """Copies what the build scripts of the Rust crate and of the library for C read, and the code by hand."""
-    ignored = shutil.ignore_patterns("out", "specs", "proofs", "target", "Cargo.lock")
-    for it in ("crates", "rust", "c"):
-        shutil.copytree(commands.TOP / it, folder / it, ignore=ignored)
-
-
-def script_environment(package, out):
-    """The variables that Cargo sets for the build script of a package, and its code."""
-    env = {**os.environ, "CARGO_MANIFEST_DIR": str(package), "OUT_DIR": str(out)}
-    return env | {"CARGO_PKG_VERSION_MAJOR": "0", "CARGO_PKG_VERSION_MINOR": "0", "CARGO_CFG_TARGET_OS": ""}
-
-
-def strip(name, top, folder):
-    """Runs the build script of a package without Cargo. The variables that its code is built with."""
-    script, package = SCRIPTS[name]
-    commands.run("rustc", "--edition=2024", top / script, "-o", folder / "script")
-    env = script_environment(top / package, folder / "stripped")
-    commands.run(folder / "script", env=env)
-    return env
-
-
-def path_with(folder, *programs):
-    """A PATH with these programs alone."""
-    folder.mkdir()
-    for program in programs:
-        if found := shutil.which(program):
-            (folder / program).symlink_to(sys.executable if program == "python3" else found)
-    return str(folder)
-
-
 def end_with(main, doc=None):
     """Ends with the count of checks, to which a failure of the script itself is added. With a text for --help it takes
     no other words."""
-
-    def counted():
-        if doc:
-            commands.parser(doc).parse_args()
-        try:
-            main()
-        except commands.Failure as failure:
-            expect(False, failure, failure.said)
-        print(f"{passed} passed, {failed} failed")
-        return 1 if failed else 0
-
-    commands.end_with(counted)
+    if doc:
+        commands.parser(doc).parse_args()
+    try:
+        main()
+    except commands.Failure as failure:
+        expect(False, failure, failure.said)
+    print(f"{passed} passed, {failed} failed")
+    sys.exit(failed > 0)

@@ -1,18 +1,15 @@
 """How the tests run programs: what a program printed, and a failure if it ended otherwise than it should."""
 
 import argparse
-import json
+import contextlib
 import os
 import pathlib
 import subprocess
-import sys
 import tempfile
 
 TOP = pathlib.Path(__file__).resolve().parent.parent
 # The archive for C, as bin/archive builds it.
 ARCHIVE = TOP / "crates/dwexpr_c/out/libdwexpr_c.a"
-# The crates that features of the Rust crate need, each with the variable that names its folder.
-NEEDED = {"gimli": "DWEXPR_GIMLI", "arrayvec": "DWEXPR_ARRAYVEC"}
 
 
 class Failure(Exception):
@@ -21,11 +18,6 @@ class Failure(Exception):
     def __init__(self, why, said=""):
         super().__init__(why)
         self.said = said
-
-
-def ended(status):
-    """How a program ended, in words."""
-    return f"ended with status {status}" if status >= 0 else f"was killed by signal {-status}"
 
 
 def done(*words, given=None, seconds=None, **settings):
@@ -46,42 +38,25 @@ def run(*words, **settings):
     """Runs a program to its end. What it printed; a failure if it ended otherwise than with status 0."""
     ran = done(*words, **settings)
     if ran.returncode:
-        raise Failure(f"{pathlib.Path(words[0]).name} {ended(ran.returncode)}", ran.stdout + ran.stderr)
+        raise Failure(f"{words[0]} ended with status {ran.returncode}", ran.stdout + ran.stderr)
     return ran.stdout
 
 
-def features():
-    """The features of the Rust crate whose crates are in folders that are named."""
-    return [name for name, variable in NEEDED.items() if os.environ.get(variable)]
-
-
 def patches():
-    """What tells Cargo where those crates are, since there is no network. Without a folder an empty package stands in."""
-    stand_ins = TOP / "tests/crate/stand_ins"
-    places = {name: os.environ.get(variable) or str(stand_ins / name) for name, variable in NEEDED.items()}
-    return ["--offline", *(f"--config=patch.crates-io.{name}.path={json.dumps(it)}" for name, it in places.items())]
+    """What tells Cargo where gimli and arrayvec are, since there may be no network: an empty package stands in."""
+    yield "--offline"
+    for name in ("gimli", "arrayvec"):
+        folder = os.environ.get(f"DWEXPR_{name.upper()}") or TOP / "tests/crate/stand_ins" / name
+        yield f"--config=patch.crates-io.{name}.path='{folder}'"
 
 
-def temporary(**settings):
+@contextlib.contextmanager
+def temporary():
     """A folder that is there within a block."""
-    return TemporaryFolder(**settings)
-
-
-class TemporaryFolder(tempfile.TemporaryDirectory):
-    def __enter__(self):
-        return pathlib.Path(super().__enter__())
+    with tempfile.TemporaryDirectory() as folder:
+        yield pathlib.Path(folder)
 
 
 def parser(doc):
     """What reads the words of a script, and answers --help with this text."""
-    return argparse.ArgumentParser(
-        description=doc, formatter_class=argparse.RawDescriptionHelpFormatter, allow_abbrev=False
-    )
-
-
-def end_with(main):
-    """Ends with the status that `main` returns, or says why it can't."""
-    try:
-        sys.exit(main())
-    except Failure as failure:
-        sys.exit(f"{failure.said}{failure}")
+    return argparse.ArgumentParser(description=doc, formatter_class=argparse.RawDescriptionHelpFormatter)

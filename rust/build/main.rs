@@ -48,7 +48,7 @@ fn rename_calls_of_evaluation(sources: &mut Sources) {
 /// the item `Reader` in the module `base`.
 fn add_pages(sources: &mut Sources, folder: &str) {
     let folder = sources.top.join(folder);
-    for page in files_in(&folder) {
+    for page in files_in(&folder, "md") {
         let module = page.parent().and_then(|it| it.strip_prefix(&folder).ok()?.to_str()).expect("it is in the folder");
         let name = page.file_stem().and_then(|it| it.to_str()).expect("it has a name");
         let items = ["trait", "struct", "enum", "fn"].map(|kind| format!("pub {kind} {name}"));
@@ -59,19 +59,7 @@ fn add_pages(sources: &mut Sources, folder: &str) {
     }
 }
 
-/// Enables the tests that need files outside of the repository, if a variable names them.
-fn allow_tests() {
-    for (variable, cfg) in [("GIMLI_TESTS", "gimli_tests"), ("DWEXPR_ARCHIVE", "archive")] {
-        println!("cargo::rerun-if-env-changed={variable}");
-        println!("cargo::rustc-check-cfg=cfg({cfg})");
-        if std::env::var_os(variable).is_some() {
-            println!("cargo::rustc-cfg={cfg}");
-        }
-    }
-}
-
 fn main() {
-    allow_tests();
     let mut sources = Sources::read("", CRATES, BY_HAND);
     sources.check_preconditions("rust/build/preconditions", |_| true);
     sources.apply("rust/build/rows/both");

@@ -48,13 +48,15 @@ pub fn read(path: &Path) -> String {
     text.replace("\r\n", "\n")
 }
 
-/// The files in a folder and in all folders below it, in order.
-pub fn files_in(folder: &Path) -> Vec<PathBuf> {
+/// The files with an extension in a folder and the folders in it, in order. An editor's, such as `.#lib.rt`, are none.
+pub fn files_in(folder: &Path, extension: &str) -> Vec<PathBuf> {
     println!("cargo::rerun-if-changed={}", folder.display());
     let entries = fs::read_dir(folder).unwrap_or_else(|error| panic!("{}: {error}", folder.display()));
     let mut paths: Vec<_> = entries.map(|it| it.expect("the folder is read").path()).collect();
     paths.sort();
-    paths.into_iter().flat_map(|it| if it.is_dir() { files_in(&it) } else { vec![it] }).collect()
+    paths.retain(|it| !it.file_name().is_some_and(|name| name.as_encoded_bytes().starts_with(b".")));
+    paths.retain(|it| it.is_dir() || it.extension().is_some_and(|its| its == extension));
+    paths.into_iter().flat_map(|it| if it.is_dir() { files_in(&it, extension) } else { vec![it] }).collect()
 }
 
 fn write(path: &Path, text: &str) {
@@ -88,7 +90,7 @@ impl Sources {
         let mut sources = Vec::new();
         for (name, module) in crates {
             let folder = top.join("crates").join(name).join("src");
-            for file in files_in(&folder) {
+            for file in files_in(&folder, "rt") {
                 let place = file.strip_prefix(&folder).expect("it is in the folder");
                 if by_hand.iter().any(|it| file.ends_with(it)) {
                     continue;

@@ -2,8 +2,7 @@
 
 use super::interop::ENCODING;
 use dwexpr::{Evaluation, GimliReader};
-use gimli::{EndianArcSlice, LittleEndian, ReaderOffsetId};
-use std::borrow::Cow;
+use gimli::{EndianArcSlice, LittleEndian};
 use std::cell::Cell;
 use std::sync::Arc;
 
@@ -23,50 +22,7 @@ impl Clone for Counting<'_> {
     }
 }
 
-/// Calls of a reader that are those of the slice in it.
-macro_rules! of_slice {
-    ($($name:ident($($argument:ident: $type:ty)?) -> $result:ty;)+) => {
-        $(fn $name(&self, $($argument: $type)?) -> $result {
-            gimli::Reader::$name(&self.0, $($argument)?)
-        })+
-    };
-}
-
-impl gimli::Reader for Counting<'_> {
-    type Endian = gimli::LittleEndian;
-    type Offset = usize;
-
-    of_slice! {
-        endian() -> gimli::LittleEndian;
-        len() -> usize;
-        offset_id() -> ReaderOffsetId;
-        lookup_offset_id(id: ReaderOffsetId) -> Option<usize>;
-        find(byte: u8) -> gimli::Result<usize>;
-        to_slice() -> gimli::Result<Cow<'_, [u8]>>;
-        to_string() -> gimli::Result<Cow<'_, str>>;
-        to_string_lossy() -> gimli::Result<Cow<'_, str>>;
-    }
-
-    fn empty(&mut self) {
-        self.0.empty();
-    }
-
-    fn truncate(&mut self, len: usize) -> gimli::Result<()> {
-        self.0.truncate(len)
-    }
-
-    fn offset_from(&self, base: &Self) -> usize {
-        self.0.offset_from(base.0)
-    }
-
-    fn skip(&mut self, len: usize) -> gimli::Result<()> {
-        self.0.skip(len)
-    }
-
-    fn split(&mut self, len: usize) -> gimli::Result<Self> {
-        self.0.split(len).map(Counting)
-    }
-
+over_slice! { Counting:
     fn read_slice(&mut self, buf: &mut [u8]) -> gimli::Result<()> {
         self.0.read_slice(buf)
     }

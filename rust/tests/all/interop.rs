@@ -4,7 +4,6 @@ use super::plain::ERRORS;
 use dwexpr::EvaluationResult::*;
 use dwexpr::{Error, Evaluation, Expression, GimliOffset, GimliReader, Location, Operation, Piece, Value, ValueType};
 use gimli::Reader as _;
-use std::borrow::Cow;
 
 pub const ENCODING: gimli::Encoding = gimli::Encoding { address_size: 8, format: gimli::Format::Dwarf32, version: 5 };
 
@@ -62,50 +61,7 @@ fn a_reader_is_gimlis_too() {
 #[derive(Clone, Debug)]
 struct Relocating<'a>(gimli::EndianSlice<'a, gimli::LittleEndian>);
 
-/// Calls of a reader that are those of the slice in it.
-macro_rules! of_slice {
-    ($($name:ident($($argument:ident: $type:ty)?) -> $result:ty;)+) => {
-        $(fn $name(&self, $($argument: $type)?) -> $result {
-            gimli::Reader::$name(&self.0, $($argument)?)
-        })+
-    };
-}
-
-impl gimli::Reader for Relocating<'_> {
-    type Endian = gimli::LittleEndian;
-    type Offset = usize;
-
-    of_slice! {
-        endian() -> gimli::LittleEndian;
-        len() -> usize;
-        offset_id() -> gimli::ReaderOffsetId;
-        lookup_offset_id(id: gimli::ReaderOffsetId) -> Option<usize>;
-        find(byte: u8) -> gimli::Result<usize>;
-        to_slice() -> gimli::Result<Cow<'_, [u8]>>;
-        to_string() -> gimli::Result<Cow<'_, str>>;
-        to_string_lossy() -> gimli::Result<Cow<'_, str>>;
-    }
-
-    fn empty(&mut self) {
-        self.0.empty();
-    }
-
-    fn truncate(&mut self, len: usize) -> gimli::Result<()> {
-        self.0.truncate(len)
-    }
-
-    fn offset_from(&self, base: &Self) -> usize {
-        self.0.offset_from(base.0)
-    }
-
-    fn skip(&mut self, len: usize) -> gimli::Result<()> {
-        self.0.skip(len)
-    }
-
-    fn split(&mut self, len: usize) -> gimli::Result<Self> {
-        self.0.split(len).map(Relocating)
-    }
-
+over_slice! { Relocating:
     fn read_slice(&mut self, buf: &mut [u8]) -> gimli::Result<()> {
         // An error without a name in this crate.
         if self.len() < buf.len() { Err(gimli::Error::OffsetOutOfBounds) } else { self.0.read_slice(buf) }

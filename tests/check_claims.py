@@ -4,11 +4,11 @@
 - Each command after a `$` prints the lines that follow it. `bin/test` is the gate itself, and isn't run.
 - Each program in C, a fence with a `main`, is built from what CMake installs by the command in front of it, in which
   DIR is where that is. It prints what the remarks after `printf` say. So does each program in Rust, with the crate.
-- What README.md says of gdb is so: gdb prints variables of a file that is made by hand, of two units, one with addresses
-  of 8 bytes and one of 4.
+- What docs/GUIDE.md says of gdb is so: gdb prints variables of a file that is made by hand, of two units, one with
+  addresses of 8 bytes and one of 4.
 
-It wants the program built, cc, CMake, pkg-config, rustc, rustfmt, and the gdb that README.md names. What is
-missing is left out, and said so. The last line is `N passed, M failed`.
+It wants the program built, cc, CMake, pkg-config, rustc, rustfmt, and the gdb that docs/GUIDE.md names. What is missing
+is left out, and said so. The last line is `N passed, M failed`.
 """
 
 import re
@@ -131,7 +131,7 @@ def of_gdb():
     if lacks("what gdb prints", "gdb"):
         return
     version = run(["gdb", "--version"]).stdout.split("\n")[0]
-    named = re.search(r"gdb (\d+\.\d+)", PAGES["README.md"])[1]
+    named = re.search(r"gdb (\d+\.\d+)", PAGES["docs/GUIDE.md"])[1]
     if not version.endswith(f" {named}"):
         left_out(f"what gdb prints, since {version} is there", f"gdb {named}")
         return

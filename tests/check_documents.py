@@ -2,7 +2,8 @@
 """What the documents name is there, and what they have to name is named.
 
 - The first definition of each file under `specs/` has a comment right above it, which those after it may share.
-- Each name in docs/DEFINITIONS.md is one of the code, of the definitions or of a file of theirs.
+- Each name in the part of docs/PROOFS.md on how to read a contract is one of the code, of the definitions or of a file
+  of theirs.
 - Each path in README.md, CHANGELOG.md, CONTRIBUTING.md, SECURITY.md and docs/ leads to a file or folder of the
   repository; what is built, gimli's files and the web aside. Each link to a part of a page finds its heading.
 - docs/GUIDE.md names exactly the operations that are known and aren't the standard's. The number of faults, the limits
@@ -29,7 +30,6 @@ from commands import TOP
 from sources import read
 
 README = "README.md"
-DEFINITIONS = "docs/DEFINITIONS.md"
 PROOFS = "docs/PROOFS.md"
 SPEED = "docs/SPEED.md"
 # Folders of what is built or kept beside the repository, and no part of it; and those of a package.
@@ -101,11 +101,12 @@ def known():
 
 
 def unknown():
-    """Each name in DEFINITIONS.md: it is one of those."""
-    for quoted in sorted(set(QUOTED.findall(read(DEFINITIONS)))):
+    """Each name in the part of PROOFS.md on how to read a contract: it is one of those."""
+    of_page = read(PROOFS).split("\n## How to read a contract\n")[1].split("\n## ")[0]
+    for quoted in sorted(set(QUOTED.findall(of_page))):
         words = quoted.split("::")
         if all(map(WORD.fullmatch, words)):
-            expect(known().issuperset(words), f"{DEFINITIONS} names `{quoted}`, which no crate names")
+            expect(known().issuperset(words), f"{PROOFS} names `{quoted}`, which no crate names")
 
 
 def is_there(path, near):

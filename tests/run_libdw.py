@@ -385,7 +385,7 @@ def refused(folder):
             count_of("refused.c", [program, core, 100], env=BUT_FOR_LIBDW)
     program = built("tests/functions.c", folder / "functions_refused", *SANITIZERS[:-1])
     if program:
-        count_of("functions.c, refused", [program, 37, *folder.glob("*.functions")], env=BUT_FOR_LIBDW)
+        count_of("functions.c, refused", [program, 11, *folder.glob("*.functions")], env=BUT_FOR_LIBDW)
 
 
 # At most so many lines of 100 that no test takes, in the builds of the library together.

@@ -581,7 +581,9 @@ static dwexpr_libdw_frame *enclosing_frame(dwexpr_libdw_frame *inner, const Dwar
     const int has_link = dwarf_attr_integrate(&inner->place.function, DW_AT_static_link, &attribute) &&
                          !attribute_number(FOR_VALUE, inner, &attribute, NULL, NULL, &left, &base);
     for (frame = inner->source.caller; frame; frame = frame->source.caller) {
-        if (dwexpr_libdw_find_place(frame) || frame->place.function.addr != function->addr)
+        if (dwexpr_libdw_find_place(frame) == DWEXPR_LIBDW_NO_MEMORY)
+            return NULL;
+        if (frame->place.function.addr != function->addr)
             continue;
         if (has_link && !find_base(frame, &left) && frame->base == base)
             return frame;

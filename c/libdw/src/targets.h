@@ -19,9 +19,9 @@ struct dwexpr_libdw_target {
     Elf *core;    /* NULL for a process */
     Elf *opened;  /* `core` if it was opened here */
     int file;     /* the memory of a process, or the core dump if it was opened here; -1 if there is none */
-    pid_t *threads;
-    size_t thread_count, thread_room;
-    unsigned char ident[EI_NIDENT];
+    struct dwexpr_libdw_list threads; /* of pid_t */
+    int big_endian;
+    size_t word;  /* the bytes of an address */
     unsigned machine;
     Dwarf_Addr program; /* an address in the program itself, 0 if it isn't known */
 };
@@ -36,8 +36,8 @@ struct dwexpr_libdw_sets {
 };
 
 uint32_t dwexpr_libdw_keep_set(struct dwexpr_libdw_sets *sets, enum set set, const uint8_t *bytes, size_t length);
-/* The sets of a thread in a core dump. */
-uint32_t dwexpr_libdw_read_sets(const dwexpr_libdw_target *target, pid_t thread, struct dwexpr_libdw_sets *sets);
+/* Reads the notes of a core dump: the program's address, and the sets of a thread unless `sets` is NULL. */
+uint32_t dwexpr_libdw_read_notes(dwexpr_libdw_target *target, pid_t thread, struct dwexpr_libdw_sets *sets);
 /* The address of an offset in a module's thread-local storage, of the thread with a thread pointer. */
 int dwexpr_libdw_find_block(const dwexpr_libdw_target *target, Dwfl_Module *module, uint64_t pointer, uint64_t offset,
                             uint64_t *address);

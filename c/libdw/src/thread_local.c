@@ -8,12 +8,11 @@ static int find_segment(Dwfl_Module *module, unsigned type, GElf_Phdr *segment, 
 {
     Elf *elf = dwfl_module_getelf(module, bias);
     size_t count = 0, i;
-    if (elf)
-        elf_getphdrnum(elf, &count);
-    for (i = 0; i < count && gelf_getphdr(elf, (int)i, segment); i++)
-        if (segment->p_type == type)
-            return 1;
-    return 0;
+    elf_getphdrnum(elf, &count);
+    segment->p_type = PT_NULL;
+    for (i = 0; i < count && segment->p_type != type; i++)
+        gelf_getphdr(elf, (int)i, segment);
+    return segment->p_type == type;
 }
 
 /* ---- what glibc keeps of other modules */
@@ -89,7 +88,7 @@ static int is_current(struct reader *reader, uint64_t vector, uint64_t number)
 static int find_library_block(const dwexpr_libdw_target *target, Dwfl_Module *module, uint64_t pointer,
                               uint64_t offset, uint64_t *address)
 {
-    struct reader reader = {target, target->ident[EI_CLASS] == ELFCLASS32 ? 4 : 8, 0};
+    struct reader reader = {target, target->word, 0};
     const uint64_t none = reader.word == 4 ? 0xffffffff : UINT64_MAX;
     const uint64_t map = find_map(&reader, module);
     const uint64_t distance = map ? word_at(&reader, map + offset_of(&reader, "_thread_db_link_map_l_tls_offset")) : 0;

@@ -18,6 +18,7 @@ CONSTANTS = {"udata": (6, 0x0F), "sdata": (7, 0x0D), "data1": (8, 0x0B), "block1
 CONSTANTS |= {"string": (11, 0x08), "ref4": (12, 0x13)}
 # the same of a variable with a type
 TYPED = {"udata": 13, "sdata": 14}
+IN_ABBREVIATION = 15
 SIGNED, UNSIGNED, SIGNED_CHAR, UNSIGNED_CHAR, BOOLEAN, FLOAT, COMPLEX = 5, 7, 6, 8, 2, 4, 3
 
 
@@ -72,10 +73,15 @@ class Entries(Unit):
         self.variable("a complex number", "a base type", convert(1, complex8))
         self.variable("a number of 3 bytes", "a base type", convert(1, int3))
         self.variable("no such entry", "a base type", convert(1, 0xFFFF))
+        self.variable("an entry without a size", "a base type", convert(1, self.add(bytes([PLAIN]))))
         half = self.pack("f", 1.5)
         literal = b"\xa4" + unsigned_leb(float4) + b"\4" + half
         self.variable("a float that is only moved", half, literal + b"\x9f")
-        self.variable("a sum of floats", "a base type", 2 * literal + b"\x22\x9f")
+        # abs, neg, not, plus_uconst; and .. xor; eq to ne
+        unary = [b"\x19", b"\x1f", b"\x20", b"\x23\1"]
+        binary = [*range(0x1A, 0x1F), 0x21, 0x22, *range(0x24, 0x28), *range(0x29, 0x2F)]
+        for operation in [*unary, *(literal + bytes([it]) for it in binary)]:
+            self.variable("an operation on floats", "a base type", literal + operation + b"\x9f")
         word = bytes(range(0x10, 0x18))
         deref = b"\x0c" + self.pack("I", 0x1010) + b"\xa6\x08" + unsigned_leb(float8) + b"\x9f"
         wide = "more bytes are read than an address has"
@@ -96,6 +102,11 @@ class Entries(Unit):
         self.variable("3 + call4", eight, sum_of % self.call(five))
         self.variable("3 + call_ref", eight, sum_of % (b"\x9a" + self.offset(five)))
         self.variable("a call of an entry with no location", self.pack("I", 7), b"\x37" + self.call(empty) + b"\x9f")
+        twice = b"\x37" + 2 * self.call(empty) + b"\x9f"
+        self.variable("two calls of an entry with no location", self.pack("I", 7), twice)
+        away = self.add(bytes([VARIABLE]) + b"\0\0")
+        called = b"\x37" + self.call(away) + b"\x9f"
+        self.variable("a call of an entry that is optimized away", self.pack("I", 7), called)
         # DW_OP_lit2 in a list; 70 calls of one text, of which a run has room for 64
         many = b"\x30" + 70 * (self.call(two) + b"\x22") + b"\x9f"
         self.variable("many calls of a list", self.pack("I", 140), many)
@@ -133,6 +144,9 @@ class Entries(Unit):
             self.typed("udata", base, wide(7), unsigned_leb(7))
             top = 2**64 - 9
             self.typed("udata", base, wide(top - 2**64 if kind == SIGNED else top), unsigned_leb(top))
+            if self.version >= 5:
+                name = f"a constant in an abbreviation: {wide(-5).hex()}".encode()
+                self.add(bytes([IN_ABBREVIATION]) + name + b"\0" + self.pack("I", base))
         self.typed("udata", self.base_type(65, UNSIGNED), self.pack("I", 7), unsigned_leb(7))
 
     def addresses(self):
@@ -149,6 +163,9 @@ class Entries(Unit):
             abbreviations += bytes([code, 0x34, 0, 0x03, 0x08, 0x1C, form, 0, 0])
         for form, code in TYPED.items():
             abbreviations += bytes([code, 0x34, 0, 0x03, 0x08, 0x49, 0x13, 0x1C, CONSTANTS[form][1], 0, 0])
+        if self.version >= 5:  # DW_FORM_implicit_const
+            abbreviations += bytes([IN_ABBREVIATION, 0x34, 0, 0x03, 0x08, 0x49, 0x13, 0x1C, 0x21])
+            abbreviations += signed_leb(-5) + b"\0\0"
         pointer = b"\xa0" + self.offset(0) + b"\x40"
 
         def list_of(expression):

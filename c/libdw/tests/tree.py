@@ -20,14 +20,15 @@ ATTRIBUTES = {
     "allocated": 0x4E, "associated": 0x4F, "data_location": 0x50, "byte_stride": 0x51, "ranges": 0x55,
     "data_bit_offset": 0x6B, "linkage_name": 0x6E, "length_bytes": 0x70, "rank": 0x71, "return_pc": 0x7D,
     "call_value": 0x7E, "call_origin": 0x7F, "tail_call": 0x82, "call_target": 0x83, "signature": 0x69,
-    "MIPS_linkage_name": 0x2007, "vtable_elem": 0x4D,
+    "MIPS_linkage_name": 0x2007, "vtable_elem": 0x4D, "addr_base": 0x73,
+    "loclists_base": 0x8C,
 }  # fmt: skip
 
 
 class Entry:
     """An entry of a tree: its tag, its children, and its attributes by their names: a number is data or, if it is
-    negative, sdata; text is a string, bytes an expression, True a flag, an entry a reference, and a pair is what it
-    says, a form and its bytes."""
+    negative, sdata; text is a string, bytes an expression, True a flag, an entry a reference, a pair is what it says,
+    a form and its bytes, and a function gives one of them once the places of entries are known."""
 
     def __init__(self, tag, *children, **attributes):
         self.tag, self.children, self.attributes = TAGS[tag], list(children), attributes
@@ -48,6 +49,8 @@ class Tree(Unit):
 
     def content(self, value):
         """The form of an attribute's value, and its bytes."""
+        if callable(value):
+            value = value()
         if value is True:
             return (0x0C, b"\1")
         if isinstance(value, Entry):

@@ -8,12 +8,12 @@ ghost use Rattle.dwarf_meaning.specs.Meaning.{has_pieces};
 ghost use Rattle.dwarf_meaning.specs.Requests as requests;
 ghost use Rattle.dwarf_meaning.specs.Rest.{Start, Running, RequestStatus, CompleteStatus, FaultStatus};
 ghost use Rattle.dwarf_meaning.specs.Run.{read};
-ghost use Rattle.dwarf_meaning.specs.Stores.{Called, Located, Pieced, Plain, Pushed, address_bits, push_value, push_piece, setup_of};
+ghost use Rattle.dwarf_meaning.specs.Stores.{Located, Pieced, address_bits, push_value, push_piece, setup_of};
 ghost use Rattle.dwarf_op.specs.Views.{operation_of, location_of, piece_of};
 ghost use Rattle.dwarf_meaning.specs.Inputs.{fresh_state, with_maximum, with_object, with_status};
 ghost use Rattle.dwarf_eval.specs.Evaluation.{request_in};
 ghost use Rattle.dwarf_eval.specs.inner.Machine.{last_of, on_answer_of, replied_status, status_of};
-ghost use Rattle.dwarf_eval.specs.inner.StateChanges.{Asks, CountsOne, GoesBack, Jumps, Pops, ReadsOperation, TriesChange, TriesToEnter, at_rest, is_free, is_running, read_to, with_last, with_place};
+ghost use Rattle.dwarf_eval.specs.inner.StateChanges.{Asks, CountsOne, GoesBack, Jumps, Pops, ReadsOperation, Tries, TriesToEnter, at_rest, is_free, is_running, read_to, with_fault, with_last, with_place};
 
 use crate::op::EvaluationResult;
 use crate::run::states::{EvaluationState, LastOperation, OnAnswer};
@@ -83,24 +83,23 @@ impl<R: Reader + Copy, S: EvaluationStorage<R>> Machine<R, S> {
         self.state = EvaluationState::Failed(error);
     }
 
-    /// Pushes a value, or keeps the fault of a stack that doesn't take it.
+    /// Pushes a value. `StackFull` if the stack refuses it.
     #[inline(always)]
-    pub(crate) fn push(&mut self, value: Value) -> bool
-        ensures { TriesChange 0 (push_value self.old.setup value) self.old self.new result }
+    pub(crate) fn push(&mut self, value: Value) -> Result<()>
+        ensures { Tries 0 (push_value self.old.setup value) self.old self.new result }
     {
         let Ok(()) = self.stack.push(value) else {
-            self.fail(Error::StackFull);
-            return false;
+            return Err(Error::StackFull);
         };
-        true
+        Ok(())
     }
 
-    /// Pops the top.
+    /// Pops the top. `NotEnoughStackItems` if the stack is empty.
     #[inline(always)]
-    pub(crate) fn pop(&mut self) -> Option<Value>
+    pub(crate) fn pop(&mut self) -> Result<Value>
         ensures { Pops result self.old self.new }
     {
-        self.stack.pop()
+        self.stack.pop().ok_or(Error::NotEnoughStackItems)
     }
 
     /// The value that is this far below the top.
@@ -115,72 +114,47 @@ impl<R: Reader + Copy, S: EvaluationStorage<R>> Machine<R, S> {
         self.stack.get(len - 1 - usize::from(index))
     }
 
-    /// Adds a piece, or keeps the fault of a list that doesn't take it.
+    /// Adds a piece. `StackFull` if the list refuses it.
     #[inline(always)]
-    pub(crate) fn push_piece(&mut self, piece: Piece<R>) -> bool
-        ensures { TriesChange 0 (push_piece self.old.setup (piece_of R.text R.Offset.number piece))
+    pub(crate) fn push_piece(&mut self, piece: Piece<R>) -> Result<()>
+        ensures { Tries 0 (push_piece self.old.setup (piece_of R.text R.Offset.number piece))
             self.old self.new result }
     {
         let Ok(()) = self.pieces.push(piece) else {
-            self.fail(Error::StackFull);
-            return false;
+            return Err(Error::StackFull);
         };
-        true
+        Ok(())
     }
 
-    /// Counts one more operation, or keeps the fault of a maximum that doesn't allow it.
+    /// Counts one more operation. `TooManyIterations` if the maximum doesn't allow it.
     #[inline(always)]
-    pub(crate) fn count(&mut self) -> bool
+    pub(crate) fn count(&mut self) -> Result<()>
         ensures { CountsOne self.old self.new result }
     {
         if self.iteration >= self.max_iterations {
-            self.fail(Error::TooManyIterations);
-            return false;
+            return Err(Error::TooManyIterations);
         }
         self.iteration += 1;
-        true
+        Ok(())
     }
 
-    /// Notes that the last operation was a plain one.
+    /// Notes what the last operation did.
     #[inline(always)]
-    pub(crate) fn mark_plain(&mut self)
-        ensures { self.new ≡ with_last Plain self.old }
+    pub(crate) fn mark(&mut self, last: LastOperation)
+        ensures { (location : _) × (self.new ≡ with_last (last_of last location) self.old) }
     {
-        self.last = LastOperation::Plain;
+        self.last = last;
     }
 
-    /// Notes that the last operation ended a piece.
+    /// Lets a location wait for its piece. It can't fail: its `Ok` is that of the operation.
     #[inline(always)]
-    pub(crate) fn mark_pieced(&mut self)
-        ensures { self.new ≡ with_last Pieced self.old }
-    {
-        self.last = LastOperation::Pieced;
-    }
-
-    /// Notes that an answer is pushed.
-    #[inline(always)]
-    pub(crate) fn mark_pushed(&mut self)
-        ensures { self.new ≡ with_last Pushed self.old }
-    {
-        self.last = LastOperation::Pushed;
-    }
-
-    /// Notes that a call was answered by an empty text.
-    #[inline(always)]
-    pub(crate) fn mark_called(&mut self)
-        ensures { self.new ≡ with_last Called self.old }
-    {
-        self.last = LastOperation::Called;
-    }
-
-    /// Lets a location wait for its piece.
-    #[inline(always)]
-    pub(crate) fn locate(&mut self, location: Location<R>)
-        ensures { self.new
+    pub(crate) fn locate(&mut self, location: Location<R>) -> Result<()>
+        ensures { with_fault result self.new
             ≡ with_last (Located (location_of R.text R.Offset.number location)) self.old }
     {
         self.last = LastOperation::Located;
         self.location = location;
+        Ok(())
     }
 
     /// Of what sort the last operation was.
@@ -209,9 +183,8 @@ impl<R: Reader + Copy, S: EvaluationStorage<R>> Machine<R, S> {
             ≡ Located (location_of R.text R.Offset.number result) }
         ensures pieced { self.new ≡ with_last Pieced self.old }
     {
-        let location = mem::replace(&mut self.location, Location::Empty);
-        self.mark_pieced();
-        location
+        self.last = LastOperation::Pieced;
+        mem::replace(&mut self.location, Location::Empty)
     }
 
     /// Is to start with this value on the stack.
@@ -238,19 +211,24 @@ impl<R: Reader + Copy, S: EvaluationStorage<R>> Machine<R, S> {
         self.state = EvaluationState::Complete(value);
     }
 
-    /// Asks this, to do that with the answer.
+    /// Asks this, to do that with the answer. It can't fail: its `Ok` is that of the operation.
     #[inline(always)]
-    pub(crate) fn ask(&mut self, request: EvaluationResult<R>, on_answer: OnAnswer<R>)
-        ensures alone { self.new
+    pub(crate) fn ask(
+        &mut self,
+        request: EvaluationResult<R>,
+        on_answer: OnAnswer<R>,
+    ) -> Result<()>
+        ensures alone { with_fault result self.new
             ≡ with_status
             (replied_status (request_in R.text R.Offset.number request)
             (on_answer_of R.text on_answer))
             self.old }
         ensures asks { Asks (request_in R.text R.Offset.number request) (on_answer_of R.text on_answer)
-            self.old self.new }
+            self.old (with_fault result self.new) }
     {
         self.state = EvaluationState::Waiting(request);
         self.on_answer = on_answer;
+        Ok(())
     }
 
     /// Where the evaluation stands.
@@ -395,25 +373,24 @@ impl<R: Reader + Copy, S: EvaluationStorage<R>> Machine<R, S> {
         Operation::parse(rest, self.encoding)
     }
 
-    /// Goes to a place of the running text, or keeps the fault of a place that it doesn't have.
+    /// Goes to a place of the running text. `BadBranchTarget` if it lies beyond the end.
     #[inline(always)]
-    pub(crate) fn jump(&mut self, place: R::Offset, rest: &mut R) -> bool
-        requires { IsRestOf (R.text rest.old) self.old.text }
-        ensures jumps { Jumps (R.Offset.number place) (at_rest (R.text rest.old).bytes self.old)
-            (at_rest (R.text rest.new).bytes self.new) result }
-        ensures rest { IsRestOf (R.text rest.new) self.new.text }
+    pub(crate) fn jump(&self, place: R::Offset, rest: &mut R) -> Result<()>
+        requires { IsRestOf (R.text rest.old) self.now.text }
+        ensures jumps { Jumps (R.Offset.number place) (at_rest (R.text rest.old).bytes self.now)
+            (at_rest (R.text rest.new).bytes self.now) result }
+        ensures rest { IsRestOf (R.text rest.new) self.now.text }
     {
         let mut target = copy_of(&self.whole);
         let Ok(()) = target.skip(place) else {
-            self.fail(Error::BadBranchTarget(place.into_u64()));
-            return false;
+            return Err(Error::BadBranchTarget(place.into_u64()));
         };
         *rest = target;
-        true
+        Ok(())
     }
 
-    /// Runs a called text and keeps its caller, or keeps the fault of a list that doesn't take it.
-    pub(crate) fn push_caller(&mut self, callee: R) -> bool
+    /// Runs a called text, and keeps its caller. `StackFull` if the list of callers refuses it.
+    pub(crate) fn push_caller(&mut self, callee: R) -> Result<()>
         ensures { TriesToEnter (R.text callee) self.old self.new result }
     {
         let rest = self.take_rest();
@@ -421,13 +398,12 @@ impl<R: Reader + Copy, S: EvaluationStorage<R>> Machine<R, S> {
         match self.expression_stack.push((rest, whole)) {
             Ok(()) => {
                 self.rest = Some(callee);
-                true
+                Ok(())
             }
             Err((rest, whole)) => {
                 self.rest = Some(rest);
                 self.whole = whole;
-                self.fail(Error::StackFull);
-                false
+                Err(Error::StackFull)
             }
         }
     }

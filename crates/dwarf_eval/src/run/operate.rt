@@ -1,17 +1,19 @@
-ghost use Rattle.std.specs.Prelude.{◌≡◌, [], ◌∷◌};
+//! What operations do to the stack, to pieces and to the place, and what they ask.
+
+ghost use Rattle.std.specs.Prelude.{◌≡◌};
 ghost use Rattle.dwarf_base.specs.Reads.{IsRestOf};
 ghost use Rattle.dwarf_meaning.specs.Acts.{Branches, binary, unary};
 ghost use Rattle.dwarf_meaning.specs.Operations as meaning;
 ghost use Rattle.dwarf_meaning.specs.Rest.{Running};
-ghost use Rattle.dwarf_meaning.specs.Stores.{address_bits, push_values};
+ghost use Rattle.dwarf_meaning.specs.Stores.{address_bits};
 ghost use Rattle.dwarf_value.specs.Values.{from_u64_of, to_u64_of, type_of, unary_of, binary_of, Plus};
 ghost use Rattle.dwarf_eval.specs.inner.Machine.{binary_operator_of, operator_of};
-ghost use Rattle.dwarf_eval.specs.inner.StateChanges.{Performs, PopsNumber, PushesAllPlain, PushesPlain, TriesChange, act_of, at_rest};
+ghost use Rattle.dwarf_eval.specs.inner.StateChanges.{Performs, PopsNumber, PushesPlain, act_of, at_rest, with_fault};
 
 use crate::op::EvaluationResult;
 use crate::run::machine::Machine;
 use crate::run::operators::{BinaryOperator, UnaryOperator};
-use crate::run::states::OnAnswer;
+use crate::run::states::{LastOperation, OnAnswer};
 use crate::store::EvaluationStorage;
 use dwarf_base::{Error, Reader, ReaderOffset, Result, UnitOffset};
 use dwarf_op::{Location, Piece};
@@ -20,85 +22,40 @@ use dwarf_value::Value;
 impl<R: Reader + Copy, S: EvaluationStorage<R>> Machine<R, S> {
     /// Pushes the value of a plain operation.
     #[inline(always)]
-    pub(crate) fn push_plain(&mut self, value: Value)
-        ensures { PushesPlain value self.old self.new }
+    pub(crate) fn push_plain(&mut self, value: Value) -> Result<()>
+        ensures { PushesPlain value self.old self.new result }
     {
-        self.mark_plain();
-        self.push(value);
+        self.mark(LastOperation::Plain);
+        self.push(value)
     }
 
-    /// Pushes two values, the second on top.
-    #[inline(always)]
-    fn push_two(&mut self, first: Value, second: Value) -> bool
-        ensures { TriesChange 1 (push_values self.old.setup (first ∷ second ∷ [])) self.old self.new
-            result }
-    {
-        if !self.push(first) {
-            return false;
-        }
-        self.push(second)
-    }
-
-    /// Pushes two values of a plain operation, the second on top.
-    #[inline(always)]
-    fn push_both(&mut self, first: Value, second: Value)
-        ensures { PushesAllPlain (first ∷ second ∷ []) self.old self.new }
-    {
-        self.mark_plain();
-        self.push_two(first, second);
-    }
-
-    /// Pushes three values of a plain operation, the third on top.
-    #[inline(always)]
-    fn push_three(&mut self, first: Value, second: Value, third: Value)
-        ensures { PushesAllPlain (first ∷ second ∷ third ∷ []) self.old self.new }
-    {
-        self.mark_plain();
-        if self.push(first) {
-            self.push_two(second, third);
-        }
-    }
-
-    /// Puts the call's value in the place of the top.
+    /// Replaces the top by the call's value.
     #[inline(never)]
-    pub(crate) fn compute_unary(&mut self, operator: UnaryOperator)
+    pub(crate) fn compute_unary(&mut self, operator: UnaryOperator) -> Result<()>
         requires { self.old.status ≡ Running }
         ensures { Performs
             (unary (unary_of (operator_of operator) (address_bits self.old.setup))
             self.old.store.values)
-            self.old self.new }
+            self.old (with_fault result self.new) }
     {
-        let Some(value) = self.pop() else {
-            self.fail(Error::NotEnoughStackItems);
-            return;
-        };
-        match operator.apply(value, self.addr_mask()) {
-            Ok(computed) => self.push_plain(computed),
-            Err(error) => self.fail(error),
-        }
+        let value = self.pop()?;
+        let computed = operator.apply(value, self.addr_mask())?;
+        self.push_plain(computed)
     }
 
-    /// Puts the call's value in the place of the two on top.
+    /// Replaces the two on top by the call's value.
     #[inline(never)]
-    pub(crate) fn compute_binary(&mut self, operator: BinaryOperator)
+    pub(crate) fn compute_binary(&mut self, operator: BinaryOperator) -> Result<()>
         requires { self.old.status ≡ Running }
         ensures { Performs
             (binary (binary_of (binary_operator_of operator) (address_bits self.old.setup))
             self.old.store.values)
-            self.old self.new }
+            self.old (with_fault result self.new) }
     {
-        let Some(right) = self.pop() else {
-            self.fail(Error::NotEnoughStackItems);
-            return;
-        };
-        let Some(left) = self.pop() else {
-            self.fail(Error::NotEnoughStackItems);
-            return;
-        };
-        match operator.apply(left, right, self.addr_mask()) {
-            Ok(computed) => self.push_plain(computed),
-            Err(error) => self.fail(error),
-        }
+        let right = self.pop()?;
+        let left = self.pop()?;
+        let computed = operator.apply(left, right, self.addr_mask())?;
+        self.push_plain(computed)
     }
 
     /// A value plus a constant of its type.
@@ -120,214 +77,174 @@ impl<R: Reader + Copy, S: EvaluationStorage<R>> Machine<R, S> {
         value.to_u64(self.addr_mask()).unwrap_or(0)
     }
 
-    /// Pops the top as a number of an address's bits.
+    /// Pops the top as a number of an address's bits. `NotEnoughStackItems` if the stack is empty.
     #[inline(always)]
-    fn pop_number(&mut self) -> Option<u64>
+    fn pop_number(&mut self) -> Result<u64>
         ensures { PopsNumber self.old self.new result }
     {
         let value = self.pop()?;
-        Some(self.number_of(value))
+        Ok(self.number_of(value))
     }
 
     /// Drops the top.
     #[inline(always)]
-    pub(crate) fn drop_top(&mut self)
+    pub(crate) fn drop_top(&mut self) -> Result<()>
         requires { self.old.status ≡ Running }
-        ensures { Performs (act_of self.old meaning.Drop) self.old self.new }
+        ensures { Performs (act_of self.old meaning.Drop) self.old (with_fault result self.new) }
     {
-        let Some(_) = self.pop() else {
-            self.fail(Error::NotEnoughStackItems);
-            return;
-        };
-        self.mark_plain();
+        self.pop()?;
+        self.mark(LastOperation::Plain);
+        Ok(())
     }
 
     /// Pushes a copy of the value that is this far below the top.
     #[inline(always)]
-    pub(crate) fn pick(&mut self, index: u8)
+    pub(crate) fn pick(&mut self, index: u8) -> Result<()>
         requires { self.old.status ≡ Running }
-        ensures { Performs (act_of self.old (meaning.Pick index)) self.old self.new }
+        ensures { Performs (act_of self.old (meaning.Pick index)) self.old
+            (with_fault result self.new) }
     {
-        let Some(value) = self.value_at(index) else {
-            self.fail(Error::NotEnoughStackItems);
-            return;
-        };
+        let value = self.value_at(index).ok_or(Error::NotEnoughStackItems)?;
         self.push_plain(value)
     }
 
     /// Swaps the two on top.
     #[inline(never)]
-    pub(crate) fn swap(&mut self)
+    pub(crate) fn swap(&mut self) -> Result<()>
         requires { self.old.status ≡ Running }
-        ensures { Performs (act_of self.old meaning.Swap) self.old self.new }
+        ensures { Performs (act_of self.old meaning.Swap) self.old (with_fault result self.new) }
     {
-        let Some(top) = self.pop() else {
-            self.fail(Error::NotEnoughStackItems);
-            return;
-        };
-        let Some(next) = self.pop() else {
-            self.fail(Error::NotEnoughStackItems);
-            return;
-        };
-        self.push_both(top, next)
+        let top = self.pop()?;
+        let next = self.pop()?;
+        self.push_plain(top)?;
+        self.push(next)
     }
 
     /// Moves the top under the two below it.
     #[inline(never)]
-    pub(crate) fn rotate(&mut self)
+    pub(crate) fn rotate(&mut self) -> Result<()>
         requires { self.old.status ≡ Running }
-        ensures { Performs (act_of self.old meaning.Rot) self.old self.new }
+        ensures { Performs (act_of self.old meaning.Rot) self.old (with_fault result self.new) }
     {
-        let Some(top) = self.pop() else {
-            self.fail(Error::NotEnoughStackItems);
-            return;
-        };
-        let Some(second) = self.pop() else {
-            self.fail(Error::NotEnoughStackItems);
-            return;
-        };
-        let Some(third) = self.pop() else {
-            self.fail(Error::NotEnoughStackItems);
-            return;
-        };
-        self.push_three(top, third, second)
+        let top = self.pop()?;
+        let second = self.pop()?;
+        let third = self.pop()?;
+        self.push_plain(top)?;
+        self.push(third)?;
+        self.push(second)
     }
 
     /// Adds a constant to the top.
     #[inline(never)]
-    pub(crate) fn add_constant(&mut self, constant: u64)
+    pub(crate) fn add_constant(&mut self, constant: u64) -> Result<()>
         requires { self.old.status ≡ Running }
-        ensures { Performs (act_of self.old (meaning.PlusConstant constant)) self.old self.new }
+        ensures { Performs (act_of self.old (meaning.PlusConstant constant)) self.old
+            (with_fault result self.new) }
     {
-        let Some(value) = self.pop() else {
-            self.fail(Error::NotEnoughStackItems);
-            return;
-        };
-        match self.sum(value, constant) {
-            Ok(sum) => self.push_plain(sum),
-            Err(error) => self.fail(error),
-        }
+        let value = self.pop()?;
+        let sum = self.sum(value, constant)?;
+        self.push_plain(sum)
     }
 
     /// Pushes the address of the object that is described.
     #[inline(always)]
-    pub(crate) fn push_object_address(&mut self)
+    pub(crate) fn push_object_address(&mut self) -> Result<()>
         requires { self.old.status ≡ Running }
-        ensures { Performs (act_of self.old meaning.PushObjectAddress) self.old self.new }
+        ensures { Performs (act_of self.old meaning.PushObjectAddress) self.old
+            (with_fault result self.new) }
     {
-        let Some(address) = self.object_address() else {
-            self.fail(Error::InvalidPushObjectAddress);
-            return;
-        };
+        let address = self.object_address().ok_or(Error::InvalidPushObjectAddress)?;
         self.push_plain(Value::Generic(address))
     }
 
     /// Goes on this many bytes after the operation.
     #[inline(always)]
-    pub(crate) fn take_branch(&mut self, target: i16, rest: &mut R)
+    pub(crate) fn take_branch(&mut self, target: i16, rest: &mut R) -> Result<()>
         requires runs { self.old.status ≡ Running }
         requires rest { IsRestOf (R.text rest.old) self.old.text }
         ensures performs { Performs (Branches self.old.store.values target)
-            (at_rest (R.text rest.old).bytes self.old) (at_rest (R.text rest.new).bytes self.new) }
+            (at_rest (R.text rest.old).bytes self.old)
+            (with_fault result (at_rest (R.text rest.new).bytes self.new)) }
         ensures rest { IsRestOf (R.text rest.new) self.new.text }
     {
-        self.mark_plain();
+        self.mark(LastOperation::Plain);
         let place = self.place_of(rest);
-        self.jump(place.wrapping_add(R::Offset::from_i16(target)), rest);
+        self.jump(place.wrapping_add(R::Offset::from_i16(target)), rest)
     }
 
     /// Branches if the top isn't zero.
     #[inline(always)]
-    pub(crate) fn branch_if(&mut self, target: i16, rest: &mut R)
+    pub(crate) fn branch_if(&mut self, target: i16, rest: &mut R) -> Result<()>
         requires runs { self.old.status ≡ Running }
         requires rest { IsRestOf (R.text rest.old) self.old.text }
         ensures performs { Performs (act_of self.old (meaning.Bra target))
-            (at_rest (R.text rest.old).bytes self.old) (at_rest (R.text rest.new).bytes self.new) }
+            (at_rest (R.text rest.old).bytes self.old)
+            (with_fault result (at_rest (R.text rest.new).bytes self.new)) }
         ensures rest { IsRestOf (R.text rest.new) self.new.text }
     {
-        let Some(number) = self.pop_number() else {
-            self.fail(Error::NotEnoughStackItems);
-            return;
-        };
-        if number == 0 {
-            self.mark_plain();
-            return;
+        if self.pop_number()? == 0 {
+            self.mark(LastOperation::Plain);
+            return Ok(());
         }
         self.take_branch(target, rest)
     }
 
-    /// Lets the top wait for its piece, as a value that has no place.
+    /// Makes the top, a value that has no place, the location that waits for its piece.
     #[inline(never)]
-    pub(crate) fn locate_value(&mut self)
+    pub(crate) fn locate_value(&mut self) -> Result<()>
         requires { self.old.status ≡ Running }
-        ensures { Performs (act_of self.old meaning.StackValue) self.old self.new }
+        ensures { Performs (act_of self.old meaning.StackValue) self.old
+            (with_fault result self.new) }
     {
-        let Some(value) = self.pop() else {
-            self.fail(Error::NotEnoughStackItems);
-            return;
-        };
+        let value = self.pop()?;
         self.locate(Location::Value { value })
     }
 
     /// Ends a piece at the address on top, or nowhere if the stack is empty.
     #[inline(never)]
-    pub(crate) fn end_piece(&mut self, size_in_bits: u64, bit_offset: Option<u64>)
+    pub(crate) fn end_piece(&mut self, size_in_bits: u64, bit_offset: Option<u64>) -> Result<()>
         requires { self.old.status ≡ Running }
-        ensures { Performs (act_of self.old (meaning.Piece size_in_bits bit_offset))
-            self.old self.new }
+        ensures { Performs (act_of self.old (meaning.Piece size_in_bits bit_offset)) self.old
+            (with_fault result self.new) }
     {
-        self.mark_pieced();
-        let Some(address) = self.pop_number() else {
-            self.push_piece(Piece {
-                size_in_bits: Some(size_in_bits),
-                bit_offset,
-                location: Location::Empty,
-            });
-            return;
+        self.mark(LastOperation::Pieced);
+        let location = match self.pop_number() {
+            Ok(address) => Location::Address { address },
+            Err(_) => Location::Empty,
         };
         self.push_piece(Piece {
             size_in_bits: Some(size_in_bits),
             bit_offset,
-            location: Location::Address { address },
-        });
+            location,
+        })
     }
 
     /// Asks for what memory holds at the address on top, in the space below it if one is named.
     #[inline(never)]
-    pub(crate) fn dereference(&mut self, base_type: UnitOffset<R::Offset>, size: u8, space: bool)
+    pub(crate) fn dereference(
+        &mut self,
+        base_type: UnitOffset<R::Offset>,
+        size: u8,
+        space: bool,
+    ) -> Result<()>
         ensures { Performs
             (act_of self.old (meaning.Deref (R.Offset.number base_type.0) size space))
-            self.old self.new }
+            self.old (with_fault result self.new) }
     {
         if size > self.address_size() {
-            self.fail(Error::InvalidDerefSize(size));
-            return;
+            return Err(Error::InvalidDerefSize(size));
         }
-        let Some(address) = self.pop_number() else {
-            self.fail(Error::NotEnoughStackItems);
-            return;
-        };
-        if !space {
-            self.ask(
-                EvaluationResult::RequiresMemory {
-                    address,
-                    size,
-                    space: None,
-                    base_type,
-                },
-                OnAnswer::Push,
-            );
-            return;
-        }
-        let Some(space) = self.pop_number() else {
-            self.fail(Error::NotEnoughStackItems);
-            return;
+        let address = self.pop_number()?;
+        let space = if space {
+            Some(self.pop_number()?)
+        } else {
+            None
         };
         self.ask(
             EvaluationResult::RequiresMemory {
                 address,
                 size,
-                space: Some(space),
+                space,
                 base_type,
             },
             OnAnswer::Push,
@@ -336,13 +253,10 @@ impl<R: Reader + Copy, S: EvaluationStorage<R>> Machine<R, S> {
 
     /// Asks for the address of the thread-local slot on top.
     #[inline(never)]
-    pub(crate) fn ask_tls(&mut self)
-        ensures { Performs (act_of self.old meaning.TLS) self.old self.new }
+    pub(crate) fn ask_tls(&mut self) -> Result<()>
+        ensures { Performs (act_of self.old meaning.TLS) self.old (with_fault result self.new) }
     {
-        let Some(index) = self.pop_number() else {
-            self.fail(Error::NotEnoughStackItems);
-            return;
-        };
+        let index = self.pop_number()?;
         self.ask(EvaluationResult::RequiresTls(index), OnAnswer::Push)
     }
 }

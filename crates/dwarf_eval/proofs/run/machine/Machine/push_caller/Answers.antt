@@ -20,12 +20,11 @@ returns-in-Err g c =
     let left = (g.R.Reader.text c.take_rest-rest.result).bytes in
     let rest_is = ap (λ (f : R × R). f.0) c.in-Err.ensures.returned in
     let whole_is = ap (λ (f : R × R). f.1) c.in-Err.ensures.returned ∙ c.replace-whole.ensures.value in
-    let is = rw (rest_is, whole_is, c.in-Err.ensures.err, c.push.ensures.limit) at c.fail.ensures in
-    subst (λ (s : State). Refused 0 (push_caller s.setup (length s.callers)) s c.fail.new.self)
-    (put_back left c.args.self.now c.take_rest-rest.new.self c.take_rest-rest.ensures.alone c.take_rest-rest.ensures.here)
-    (caller_faults (at_rest left c.take_rest-rest.new.self) c.fail.new.self
+    let there = put_back left c.args.self.now c.take_rest-rest.new.self c.take_rest-rest.ensures.alone c.take_rest-rest.ensures.here in
+    rw (← there)
+    (caller_faults (at_rest left c.take_rest-rest.new.self) _
     (subst (λ (s : State). MayRefuse s.setup.limits.callers (length s.callers)) c.self.view_is (rw length-callers c.in-Err.ensures.full))
-    (rw (← c.self.view_is) is))
+    (rw (← c.self.view_is, rest_is, whole_is, c.in-Err.ensures.err, c.push.ensures.limit) refl))
 
 pub invariant_of-self : goal.invariant_of-self
 invariant_of-self g c =

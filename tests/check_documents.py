@@ -1,16 +1,10 @@
 #!/usr/bin/env python3
 """What the documents name is there, and what they have to name is named.
 
-- The first definition of each file under `specs/` has a comment right above it, which those after it may share.
+- Each path in a page leads to a file or folder of the repository; what is built, gimli's files and the web aside. Each
+  link to a part of a page finds its heading.
 - Each name in the part of docs/PROOFS.md on how to read a contract is one of the code, of the definitions or of a file
   of theirs.
-- Each path in README.md, CHANGELOG.md, CONTRIBUTING.md, SECURITY.md and docs/ leads to a file or folder of the
-  repository; what is built, gimli's files and the web aside. Each link to a part of a page finds its heading.
-- docs/GUIDE.md names exactly the operations that are known and aren't the standard's. The number of faults, the limits
-  of the archive's lists, the size of an evaluation there, the logic's sum and README.md's ratios are those of the
-  sources and docs/SPEED.md.
-- docs/ARCHITECTURE.md has a row for each crate.
-- No line of a page but a table's row has more than 120 columns.
 - Each block whose fence names a file is what stands in that file, byte for byte.
 - docs/GUIDE.md names exactly the operations that are known and aren't the standard's, and docs/ARCHITECTURE.md each
   crate. Figures are those of the sources and of docs/SPEED.md.
@@ -28,9 +22,6 @@ import checks
 from checks import expect
 from commands import TOP
 
-README = "README.md"
-PROOFS = "docs/PROOFS.md"
-SPEED = "docs/SPEED.md"
 # Folders of what is built or kept beside the repository, and no part of it; and those of a package.
 BESIDE = {"out", "target", "__pycache__", ".git", "dist", "lib", "share"}
 # Paths in the pages that lead nowhere here: files of gimli's, and one that a user may write.
@@ -67,45 +58,8 @@ PAGES = {
 }
 
 
-@functools.cache
-def files():
-    """The files of the repository, those that aren't committed yet too."""
-    found = (path.relative_to(TOP) for path in TOP.rglob("*") if path.is_file())
-    return sorted(str(path) for path in found if not BESIDE.intersection(path.parent.parts))
-
-
-@functools.cache
-def folders():
-    return {str(parent) for name in files() for parent in pathlib.PurePath(name).parents if parent.name}
-
-
-def documents():
-    pages = (README, "CHANGELOG.md", "CONTRIBUTING.md", "SECURITY.md")
-    return [name for name in files() if name in pages or name.startswith("docs/")]
-
-
-def uncommented():
-    """The first definition of each file has a comment."""
-    for path in fnmatch.filter(files(), "crates/*/specs/*.antt"):
-        if first := sources.DEFINED.search(read(path)):
-            expect(COMMENT_AT_END.search(read(path)[: first.start()]), f"{path}: {first[1]} lacks its comment")
-
-
-@functools.cache
-def known():
-    """All names of the code and of definitions, and of their crates, files and modules."""
-    found = [path for path in files() if re.match(r"crates/\w+/(?:src|specs)/", path)]
-    words = (WORD.findall(path.rpartition(".")[0] + COMMENT.sub("", read(path))) for path in found)
-    return {word for of_file in words for word in of_file}
-
-
-def unknown():
-    """Each name in the part of PROOFS.md on how to read a contract: it is one of those."""
-    of_page = read(PROOFS).split("\n## How to read a contract\n")[1].split("\n## ")[0]
-    for quoted in sorted(set(QUOTED.findall(of_page))):
-        words = quoted.split("::")
-        if all(map(WORD.fullmatch, words)):
-            expect(known().issuperset(words), f"{PROOFS} names `{quoted}`, which no crate names")
+def read(path):
+    return (TOP / path).read_text(encoding="utf-8")
 
 
 def is_there(path, near):
@@ -154,7 +108,7 @@ def names():
         if re.match(r"crates/\w+/(?:src|specs)/", path):
             known.update(re.findall(r"\w+", path.rpartition(".")[0] + COMMENT.sub("", read(path))))
     part = PAGES["docs/PROOFS.md"].partition("\n## How to read a contract\n")[2].partition("\n## ")[0]
-    for quoted in sorted(set(QUOTED.findall(part or PAGES["docs/DEFINITIONS.md"]))):
+    for quoted in sorted(set(QUOTED.findall(part))):
         words = quoted.split("::")
         if all(re.fullmatch(r"[A-Za-z_]\w*", word, re.ASCII) for word in words):
             expect(known.issuperset(words), f"a page names `{quoted}`, which no crate names")

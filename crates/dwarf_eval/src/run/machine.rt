@@ -25,7 +25,7 @@ use dwarf_value::Value;
 use std::marker::Model;
 use std::mem;
 
-/// The state of an evaluation, and its smallest steps: these alone see bytes and lists.
+/// The state of an evaluation, and its smallest steps. Nothing else sees the bytes and the lists.
 #[derive(Drop)]
 pub(crate) struct Machine<R: Reader + Copy, S: EvaluationStorage<R>> {
     state: EvaluationState<R>,
@@ -34,19 +34,19 @@ pub(crate) struct Machine<R: Reader + Copy, S: EvaluationStorage<R>> {
     object_address: Option<u64>,
     max_iterations: u32,
     iteration: u32,
-    // What is left of the running text, or `None` while a run has it.
+    // The rest of the running text, or `None` while the run holds it.
     rest: Option<R>,
-    // The whole of it.
+    // All of the running text.
     whole: R,
     last: LastOperation,
     // The location that waits for its piece, if the last operation gave one.
     location: Location<R>,
-    // What is done with the answer, if a request is open.
+    // What to do with the answer, if a request is open.
     on_answer: OnAnswer<R>,
     stack: S::Stack,
     expression_stack: S::ExpressionStack,
     pieces: S::Result,
-    // Contracts alone see it.
+    // Only contracts read it.
     decodings: Ticks,
 }
 
@@ -146,7 +146,7 @@ impl<R: Reader + Copy, S: EvaluationStorage<R>> Machine<R, S> {
         self.last = last;
     }
 
-    /// Lets a location wait for its piece. It can't fail: its `Ok` is that of the operation.
+    /// Makes this the location that waits for its piece. It never fails: an operation returns its `Ok`.
     #[inline(always)]
     pub(crate) fn locate(&mut self, location: Location<R>) -> Result<()>
         ensures { with_fault result self.new
@@ -157,7 +157,7 @@ impl<R: Reader + Copy, S: EvaluationStorage<R>> Machine<R, S> {
         Ok(())
     }
 
-    /// Of what sort the last operation was.
+    /// What the last operation did.
     #[inline(always)]
     pub(crate) fn last(&self) -> LastOperation
         ensures { (location : _)
@@ -175,7 +175,7 @@ impl<R: Reader + Copy, S: EvaluationStorage<R>> Machine<R, S> {
         &self.location
     }
 
-    /// Takes the location that waits for its piece, which the last operation ended.
+    /// Takes the waiting location, since its piece was read.
     #[inline(always)]
     pub(crate) fn take_located(&mut self) -> Location<R>
         requires { is_free self.old.store.last ≡ false }
@@ -187,7 +187,7 @@ impl<R: Reader + Copy, S: EvaluationStorage<R>> Machine<R, S> {
         mem::replace(&mut self.location, Location::Empty)
     }
 
-    /// Is to start with this value on the stack.
+    /// Sets the value that is on the stack when the evaluation starts.
     #[inline(always)]
     pub(crate) fn set_initial_value(&mut self, value: u64)
         ensures { self.new ≡ with_status (Start (Some value)) self.old }
@@ -195,7 +195,7 @@ impl<R: Reader + Copy, S: EvaluationStorage<R>> Machine<R, S> {
         self.state = EvaluationState::Start(Some(value));
     }
 
-    /// Runs from now on.
+    /// Sets the evaluation running.
     #[inline(always)]
     pub(crate) fn set_running(&mut self)
         ensures { self.new ≡ with_status Running self.old }
@@ -203,21 +203,17 @@ impl<R: Reader + Copy, S: EvaluationStorage<R>> Machine<R, S> {
         self.state = EvaluationState::Running;
     }
 
-    /// Ends the run, with this value.
+    /// Completes the run, with this value.
     #[inline(always)]
-    pub(crate) fn end(&mut self, value: Option<Value>)
+    pub(crate) fn complete(&mut self, value: Option<Value>)
         ensures { self.new ≡ with_status (CompleteStatus value) self.old }
     {
         self.state = EvaluationState::Complete(value);
     }
 
-    /// Asks this, to do that with the answer. It can't fail: its `Ok` is that of the operation.
+    /// Opens a request; `on_answer` says what to do with the answer. It never fails: an operation returns its `Ok`.
     #[inline(always)]
-    pub(crate) fn ask(
-        &mut self,
-        request: EvaluationResult<R>,
-        on_answer: OnAnswer<R>,
-    ) -> Result<()>
+    pub(crate) fn ask(&mut self, request: EvaluationResult<R>, on_answer: OnAnswer<R>) -> Result<()>
         ensures alone { with_fault result self.new
             ≡ with_status
             (replied_status (request_in R.text R.Offset.number request)
@@ -240,7 +236,7 @@ impl<R: Reader + Copy, S: EvaluationStorage<R>> Machine<R, S> {
         &self.state
     }
 
-    /// What is done with the answer to the open request.
+    /// What to do with the answer to the open request.
     #[inline(always)]
     pub(crate) fn on_answer(&self) -> &OnAnswer<R>
         ensures { (request : requests.Request) → (wanted : requests.OnAnswer)
@@ -322,7 +318,7 @@ impl<R: Reader + Copy, S: EvaluationStorage<R>> Machine<R, S> {
         }
     }
 
-    /// The place that is before what is left of the running text.
+    /// The place in the running text before this rest of it.
     #[inline(always)]
     pub(crate) fn place_of(&self, rest: &R) -> R::Offset
         requires { IsRestOf (R.text rest.now) self.now.text }
@@ -332,7 +328,7 @@ impl<R: Reader + Copy, S: EvaluationStorage<R>> Machine<R, S> {
         rest.offset_from(&self.whole)
     }
 
-    /// Takes what is left of the running text, which stands at its start meanwhile.
+    /// Takes the rest of the running text. The machine stands at the start of the text until [`go_to`](Self::go_to).
     #[inline(always)]
     pub(crate) fn take_rest(&mut self) -> R
         ensures rest { IsRestOf (R.text result) self.old.text }
@@ -345,7 +341,7 @@ impl<R: Reader + Copy, S: EvaluationStorage<R>> Machine<R, S> {
         }
     }
 
-    /// Goes to what is left of the running text.
+    /// Goes to this rest of the running text.
     #[inline(always)]
     pub(crate) fn go_to(&mut self, rest: R)
         requires { IsRestOf (R.text rest) self.old.text }
@@ -354,8 +350,8 @@ impl<R: Reader + Copy, S: EvaluationStorage<R>> Machine<R, S> {
         self.rest = Some(rest);
     }
 
-    /// Reads the operation before what is left of the running text, and counts that. Nothing else of an evaluation
-    /// decodes, and nothing else raises the count.
+    /// Reads the operation at the front of `rest`. No other function of an evaluation decodes, and `decodings` counts
+    /// the calls.
     #[inline(always)]
     pub(crate) fn decode(&mut self, rest: &mut R) -> Result<Operation<R>>
         requires { IsRestOf (R.text rest.old) self.old.text }
@@ -450,7 +446,7 @@ impl<R: Reader + Copy, S: EvaluationStorage<R>> Machine<R, S> {
         self.pieces
     }
 
-    /// Stands as a fresh evaluation of another text, over the same lists, which keep their memory.
+    /// Starts over with another text and the same lists, which keep their memory.
     #[tactic(auto, unfolding(dwarf_meaning::specs::Run::most_operations))]
     #[inline(always)]
     pub(crate) fn restart(&mut self, bytecode: R, encoding: Encoding)

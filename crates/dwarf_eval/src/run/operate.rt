@@ -29,7 +29,7 @@ impl<R: Reader + Copy, S: EvaluationStorage<R>> Machine<R, S> {
         self.push(value)
     }
 
-    /// Replaces the top by the call's value.
+    /// Replaces the top by the operator's value.
     #[inline(never)]
     pub(crate) fn compute_unary(&mut self, operator: UnaryOperator) -> Result<()>
         requires { self.old.status ≡ Running }
@@ -43,7 +43,7 @@ impl<R: Reader + Copy, S: EvaluationStorage<R>> Machine<R, S> {
         self.push_plain(computed)
     }
 
-    /// Replaces the two on top by the call's value.
+    /// Replaces the two on top by the operator's value.
     #[inline(never)]
     pub(crate) fn compute_binary(&mut self, operator: BinaryOperator) -> Result<()>
         requires { self.old.status ≡ Running }
@@ -69,7 +69,7 @@ impl<R: Reader + Copy, S: EvaluationStorage<R>> Machine<R, S> {
         value.add(addend, self.addr_mask())
     }
 
-    /// The number of an address's bits that a value is.
+    /// A value as a number, cut to an address's bits.
     #[inline(always)]
     pub(crate) fn number_of(&self, value: Value) -> u64
         ensures { result ≡ to_u64_of (address_bits self.now.setup) value }
@@ -77,7 +77,7 @@ impl<R: Reader + Copy, S: EvaluationStorage<R>> Machine<R, S> {
         value.to_u64(self.addr_mask()).unwrap_or(0)
     }
 
-    /// Pops the top as a number of an address's bits. `NotEnoughStackItems` if the stack is empty.
+    /// Pops the top as a number, cut to an address's bits. `NotEnoughStackItems` if the stack is empty.
     #[inline(always)]
     fn pop_number(&mut self) -> Result<u64>
         ensures { PopsNumber self.old self.new result }
@@ -153,11 +153,13 @@ impl<R: Reader + Copy, S: EvaluationStorage<R>> Machine<R, S> {
         ensures { Performs (act_of self.old meaning.PushObjectAddress) self.old
             (with_fault result self.new) }
     {
-        let address = self.object_address().ok_or(Error::InvalidPushObjectAddress)?;
+        let address = self
+            .object_address()
+            .ok_or(Error::InvalidPushObjectAddress)?;
         self.push_plain(Value::Generic(address))
     }
 
-    /// Goes on this many bytes after the operation.
+    /// Goes on this many bytes after the end of the operation.
     #[inline(always)]
     pub(crate) fn take_branch(&mut self, target: i16, rest: &mut R) -> Result<()>
         requires runs { self.old.status ≡ Running }
@@ -189,7 +191,7 @@ impl<R: Reader + Copy, S: EvaluationStorage<R>> Machine<R, S> {
         self.take_branch(target, rest)
     }
 
-    /// Makes the top, a value that has no place, the location that waits for its piece.
+    /// Makes the top the location that waits for its piece: a value without a place.
     #[inline(never)]
     pub(crate) fn locate_value(&mut self) -> Result<()>
         requires { self.old.status ≡ Running }

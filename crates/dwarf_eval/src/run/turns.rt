@@ -31,7 +31,7 @@ fn whole<R: Reader + Copy>(location: Location<R>) -> Piece<R>
 }
 
 impl<R: Reader + Copy, S: EvaluationStorage<R>> Machine<R, S> {
-    /// Whether the operation before what is left comes next.
+    /// Whether the operation at the front of `rest` comes next.
     #[inline(always)]
     fn goes_on(&self, rest: &R) -> bool
         requires { IsRestOf (R.text rest.now) self.now.text }
@@ -40,7 +40,7 @@ impl<R: Reader + Copy, S: EvaluationStorage<R>> Machine<R, S> {
         self.is_running() && self.is_free() && !rest.is_empty()
     }
 
-    /// Does operations until something else comes next. What is left of the text is a local meanwhile.
+    /// Performs operations until something else comes next. The rest of the text is a local variable meanwhile.
     #[inline(always)]
     fn run_operations(&mut self) -> Result<()>
         requires { IsReady self.old }
@@ -58,7 +58,7 @@ impl<R: Reader + Copy, S: EvaluationStorage<R>> Machine<R, S> {
         Ok(())
     }
 
-    /// Ends the location that waits for its piece, if the operation that was read is a piece.
+    /// Ends the waiting location by the operation that follows. `InvalidExpressionTerminator` if that is no piece.
     #[inline(always)]
     fn end_location(&mut self, operation: Operation<R>) -> Result<()>
         requires after { 0 < self.old.place }
@@ -83,7 +83,7 @@ impl<R: Reader + Copy, S: EvaluationStorage<R>> Machine<R, S> {
         })
     }
 
-    /// Reads the piece of a location that waits for it.
+    /// Reads the piece of the waiting location.
     #[inline(never)]
     fn read_piece_of_location(&mut self) -> Result<()>
         requires runs { self.old.status ≡ Running }
@@ -97,19 +97,19 @@ impl<R: Reader + Copy, S: EvaluationStorage<R>> Machine<R, S> {
         self.end_location(operation)
     }
 
-    /// Ends the run with one more piece.
-    fn complete(&mut self, piece: Piece<R>, value: Option<Value>) -> Result<()>
+    /// Adds a last piece, and completes the run.
+    fn complete_with(&mut self, piece: Piece<R>, value: Option<Value>) -> Result<()>
         requires { self.old.status ≡ Running }
         ensures { CompletesWith (piece_of R.text R.Offset.number piece) value self.old
             (with_fault result self.new) }
     {
         self.push_piece(piece)?;
-        self.end(value);
+        self.complete(value);
         Ok(())
     }
 
-    /// Ends the run: with the pieces, if there are any and no value or location is left over, or else with one piece, of
-    /// the location that waits or at the address on top.
+    /// Ends the run. With pieces, neither a value nor a location may be left over. Without any, the waiting location or
+    /// the address on top is the one piece.
     fn finish(&mut self) -> Result<()>
         requires { self.old.status ≡ Running }
         ensures { Closes (waits_of self.old.store.last) (finish self.old.setup) self.old
@@ -118,21 +118,21 @@ impl<R: Reader + Copy, S: EvaluationStorage<R>> Machine<R, S> {
         if self.has_pieces() {
             return match self.last() {
                 LastOperation::Nothing | LastOperation::Pieced | LastOperation::Called => {
-                    self.end(None);
+                    self.complete(None);
                     Ok(())
                 }
                 _ => Err(Error::InvalidPiece),
             };
         }
         if !self.is_free() {
-            return self.complete(whole(copy_of(self.location())), None);
+            return self.complete_with(whole(copy_of(self.location())), None);
         }
         let value = self.pop()?;
         let address = self.number_of(value);
-        self.complete(whole(Location::Address { address }), Some(value))
+        self.complete_with(whole(Location::Address { address }), Some(value))
     }
 
-    /// Goes back to the caller at the end of a called text, or else ends the run.
+    /// Leaves a text at its end: goes back to the caller, or ends the run if there is none.
     #[inline(never)]
     fn leave(&mut self) -> Result<()>
         requires runs { self.old.status ≡ Running }

@@ -17,7 +17,7 @@ returns-clause-follows g c =
     let starts : x.status ≡ Start c.in-Start.initial_value = sym c.state.ensures.1 ∙ ap (λ s. status_of text number s c.state.ensures.0) c.in-Start.is in
     let comes : ComesToState x (total x) new = elim c.if-is_running.branch [
       | then-is_running w ↦
-        rw w.self-inside-is (comes_more x (total x) c.begin.new.self w.run_on.new.self (sym c.is_running.ensures ∙ w.if-is_running.true) c.begin.ensures w.run_on.ensures.comes)
+          rw w.self-inside-is (comes_more x (total x) c.begin.new.self w.run_on.new.self (sym c.is_running.ensures ∙ w.if-is_running.true) c.begin.ensures w.run_on.ensures.comes)
       | else-is_running w ↦ rw w.self-inside-is c.begin.ensures
     ] in
     let follows = comes_follow x (total x) new (reply_of text number c.reply-2.result) comes c.reply-2.ensures.reply in

@@ -78,11 +78,11 @@ returns g c =
     (performs_number (address_bits old.setup) (at_address (address_bits old.setup) base_type c.args.size c.args.space) c.in_ok-address.address old mid new refl c.in_ok-address.ensures
     (elim c.if-space.branch [
       | then-space+in_ok-pop_number w ↦
-        subst (λ (space : Bool). Performs (at_address (address_bits old.setup) base_type c.args.size space c.in_ok-address.address mid.store.values) mid new) (sym w.if-space.true)
-        (performs_number (address_bits old.setup) (λ n rest. RequestAct rest (RequiresMemory c.in_ok-address.address c.args.size (Some n) base_type) Push) w.in_ok-pop_number.field-0 mid w.pop_number-then-space.new.self new
-        (sym (ap (λ (z : State). address_bits z.setup) c.in_ok-address.ensures.alone)) w.in_ok-pop_number.ensures
-        (performs_asks (RequiresMemory c.in_ok-address.address c.args.size (Some w.in_ok-pop_number.field-0) base_type) Push w.pop_number-then-space.new.self new (rw (w.self-is, w.space-is) at c.ask.ensures.alone)))
+          subst (λ (space : Bool). Performs (at_address (address_bits old.setup) base_type c.args.size space c.in_ok-address.address mid.store.values) mid new) (sym w.if-space.true)
+          (performs_number (address_bits old.setup) (λ n rest. RequestAct rest (RequiresMemory c.in_ok-address.address c.args.size (Some n) base_type) Push) w.in_ok-pop_number.field-0 mid w.pop_number-then-space.new.self new
+          (sym (ap (λ (z : State). address_bits z.setup) c.in_ok-address.ensures.alone)) w.in_ok-pop_number.ensures
+          (performs_asks (RequiresMemory c.in_ok-address.address c.args.size (Some w.in_ok-pop_number.field-0) base_type) Push w.pop_number-then-space.new.self new (rw (w.self-is, w.space-is) at c.ask.ensures.alone)))
       | else-space w ↦
-        subst (λ (space : Bool). Performs (at_address (address_bits old.setup) base_type c.args.size space c.in_ok-address.address mid.store.values) mid new) (sym w.if-space.false)
-        (performs_asks (RequiresMemory c.in_ok-address.address c.args.size None base_type) Push mid new (rw (w.self-is, w.space-is) at c.ask.ensures.alone))
+          subst (λ (space : Bool). Performs (at_address (address_bits old.setup) base_type c.args.size space c.in_ok-address.address mid.store.values) mid new) (sym w.if-space.false)
+          (performs_asks (RequiresMemory c.in_ok-address.address c.args.size None base_type) Push mid new (rw (w.self-is, w.space-is) at c.ask.ensures.alone))
     ]))

@@ -23,10 +23,10 @@ returns-in_err-value g c =
 
 pub returns : goal.returns
 returns g c =
-    finish_plain c.args.self.now.store.last c.args.self.now (with_fault c.complete-2.result c.complete-2.new.self) refl (sym c.is_free.ensures ∙ c.if-not-is_free.false) (sym c.has_pieces.ensures ∙ c.if-has_pieces.false)
+    finish_plain c.args.self.now.store.last c.args.self.now (with_fault c.complete_with-2.result c.complete_with-2.new.self) refl (sym c.is_free.ensures ∙ c.if-not-is_free.false) (sym c.has_pieces.ensures ∙ c.if-has_pieces.false)
     (value_closes c.in_ok-value.value c.args.self.now c.pop.new.self _ c.in_ok-value.ensures
     (closes_with (Some c.in_ok-value.value) _ _ c.pop.new.self _
-    (c.whole-2.ensures ∙ ap (λ address. whole_piece (AtAddress address)) c.number_of-address.ensures) c.complete-2.ensures))
+    (c.whole-2.ensures ∙ ap (λ address. whole_piece (AtAddress address)) c.number_of-address.ensures) c.complete_with-2.ensures))
 
 -- the last operation left no value or location over
 left_none : (setup : Setup) (s : Store) (last : LastOperation) (location : Location) → (last ≡ sort.Nothing) ⊎ ((last ≡ sort.Pieced) ⊎ (last ≡ sort.Called))
@@ -38,5 +38,5 @@ left_none setup s last location (inr (inr e)) = ap (λ (z : LastOperation). fini
 pub returns-in-Nothing : goal.returns-in-Nothing
 returns-in-Nothing g c =
     let old = c.args.self.now in
-    pieces_close (last_of c.last.result c.last.ensures.0) old c.end.new.self (sym c.last.ensures.1)
-    (λ (s : Store). left_none old.setup s c.last.result c.last.ensures.0 c.in-Nothing.is) (sym c.has_pieces.ensures ∙ c.if-has_pieces.true) c.end.ensures
+    pieces_close (last_of c.last.result c.last.ensures.0) old c.complete.new.self (sym c.last.ensures.1)
+    (λ (s : Store). left_none old.setup s c.last.result c.last.ensures.0 c.in-Nothing.is) (sym c.has_pieces.ensures ∙ c.if-has_pieces.true) c.complete.ensures

@@ -62,8 +62,8 @@ loop-goes_on-preserved g c =
     let x : State = at_rest before c.loop-goes_on.self in
     let runs = subst (λ (on : Bool). StillRuns c.args.self.now x on) c.loop-goes_on-test.true c.loop-goes_on.invariant.0 in
     let turn = counted_turns x (at_rest before c.count.new.self) (at_rest beyond c.decode.new.self) (at_rest after c.operate.new.self)
-        (operation_of g.R.Reader.text g.R.Offset.ReaderOffset.number c.in_ok-operation.operation)
-        (runs.ready refl) (counted_there before c.loop-goes_on.self c.count.new.self c.in_ok-count.ensures) c.in_ok-operation.ensures.ok c.in_ok-operate.ensures.performs in
+    (operation_of g.R.Reader.text g.R.Offset.ReaderOffset.number c.in_ok-operation.operation)
+    (runs.ready refl) (counted_there before c.loop-goes_on.self c.count.new.self c.in_ok-count.ensures) c.in_ok-operation.ensures.ok c.in_ok-operate.ensures.performs in
     (runs_more c.args.self.now x (at_rest after c.operate.new.self) c.goes_on-goes_on.result runs turn c.goes_on-goes_on.ensures, c.in_ok-operate.ensures.rest)
 
 pub loop-goes_on-smaller : goal.loop-goes_on-smaller
@@ -74,6 +74,6 @@ loop-goes_on-smaller g c =
     let x : State = at_rest before c.loop-goes_on.self in
     let runs = subst (λ (on : Bool). StillRuns c.args.self.now x on) c.loop-goes_on-test.true c.loop-goes_on.invariant.0 in
     let turn = counted_turns x (at_rest before c.count.new.self) (at_rest beyond c.decode.new.self) (at_rest after c.operate.new.self)
-        (operation_of g.R.Reader.text g.R.Offset.ReaderOffset.number c.in_ok-operation.operation)
-        (runs.ready refl) (counted_there before c.loop-goes_on.self c.count.new.self c.in_ok-count.ensures) c.in_ok-operation.ensures.ok c.in_ok-operate.ensures.performs in
+    (operation_of g.R.Reader.text g.R.Offset.ReaderOffset.number c.in_ok-operation.operation)
+    (runs.ready refl) (counted_there before c.loop-goes_on.self c.count.new.self c.in_ok-count.ensures) c.in_ok-operation.ensures.ok c.in_ok-operate.ensures.performs in
     turn.less

@@ -9,10 +9,6 @@ use dwexpr::EvaluationResult::*;
 use dwexpr::constants::*;
 use dwexpr::{Encoding, Error, Evaluation, EvaluationResult, Location, Result, Value, ValueType};
 
-const TYPES: [ValueType; 9] = {
-    use ValueType::*;
-    [Generic, I8, U8, I16, U16, I32, U32, I64, U64]
-};
 const UNARY: [DwOp; 3] = [DW_OP_abs, DW_OP_neg, DW_OP_not];
 const SHIFTS: [DwOp; 3] = [DW_OP_shl, DW_OP_shr, DW_OP_shra];
 const BINARY: [DwOp; 14] = [
@@ -32,49 +28,36 @@ const BINARY: [DwOp; 14] = [
     DW_OP_ne,
 ];
 
-/// The number of a value; a generic one has 64 bits, of which an address has the low ones.
-fn number_of(value: Value) -> i128 {
-    match value {
-        Value::Generic(number) | Value::U64(number) => number.into(),
-        Value::I8(number) => number.into(),
-        Value::U8(number) => number.into(),
-        Value::I16(number) => number.into(),
-        Value::U16(number) => number.into(),
-        Value::I32(number) => number.into(),
-        Value::U32(number) => number.into(),
-        Value::I64(number) => number.into(),
-    }
+/// What there is of each type, by the integers of Rust.
+macro_rules! types {
+    ($($type:ident $integer:ident,)+) => {
+        const TYPES: [ValueType; 9] = [$(ValueType::$type),+];
+
+        /// The number of a value; a generic one has 64 bits, of which an address has the low ones.
+        fn number_of(value: Value) -> i128 {
+            match value {
+                $(Value::$type(number) => number.into(),)+
+            }
+        }
+
+        /// The value of a type that is this number, up to the bits of the type.
+        fn value_of(value_type: ValueType, number: i128) -> Value {
+            match value_type {
+                $(ValueType::$type => Value::$type(number as $integer),)+
+            }
+        }
+
+        /// The bits of a type if an address has so many, and whether it is a signed integer.
+        fn bits_of(value_type: ValueType, width: u32) -> (u32, bool) {
+            let bits = match value_type {
+                $(ValueType::$type => ($integer::BITS, $integer::MIN != 0),)+
+            };
+            if value_type == ValueType::Generic { (width, false) } else { bits }
+        }
+    };
 }
 
-/// The value of a type that is this number, up to the bits of the type.
-fn value_of(value_type: ValueType, number: i128) -> Value {
-    match value_type {
-        ValueType::Generic => Value::Generic(number as u64),
-        ValueType::I8 => Value::I8(number as i8),
-        ValueType::U8 => Value::U8(number as u8),
-        ValueType::I16 => Value::I16(number as i16),
-        ValueType::U16 => Value::U16(number as u16),
-        ValueType::I32 => Value::I32(number as i32),
-        ValueType::U32 => Value::U32(number as u32),
-        ValueType::I64 => Value::I64(number as i64),
-        ValueType::U64 => Value::U64(number as u64),
-    }
-}
-
-/// The bits of a type if an address has so many, and whether it is a signed integer.
-fn bits_of(value_type: ValueType, width: u32) -> (u32, bool) {
-    match value_type {
-        ValueType::Generic => (width, false),
-        ValueType::I8 => (8, true),
-        ValueType::U8 => (8, false),
-        ValueType::I16 => (16, true),
-        ValueType::U16 => (16, false),
-        ValueType::I32 => (32, true),
-        ValueType::U32 => (32, false),
-        ValueType::I64 => (64, true),
-        ValueType::U64 => (64, false),
-    }
-}
+types! { Generic u64, I8 i8, U8 u8, I16 i16, U16 u16, I32 i32, U32 u32, I64 i64, U64 u64, }
 
 fn unsigned(number: i128, bits: u32) -> i128 {
     number.rem_euclid(1 << bits)

@@ -1,9 +1,13 @@
 //! Evaluations over lists of any length, which need a heap.
 
-use crate::sources::eval::store::{List as _, OneInLine};
+use crate::sources::eval::store::{List, OneInLine};
 use crate::storage::sealed::Sealed;
 use crate::{ArrayLike, Encoding, Error, Evaluation, EvaluationStorage, Expression, Location, Piece, Reader, Value};
+#[cfg(feature = "arrayvec")]
+use alloc::boxed::Box;
 use alloc::vec::Vec;
+#[cfg(feature = "arrayvec")]
+use arrayvec::ArrayVec;
 
 /// Keeps the lists of an evaluation on the heap, as long as memory allows.
 #[derive(Clone, Copy, Debug, PartialEq, Eq)]
@@ -100,5 +104,45 @@ impl<T: Clone> From<Vec<T>> for OneInLine<T, Vec<T>> {
     #[inline(always)]
     fn from(more: Vec<T>) -> Self {
         OneInLine::new(more)
+    }
+}
+
+#[cfg(feature = "arrayvec")]
+impl<T: Clone, const N: usize> Sealed for Box<[T; N]> {}
+
+#[cfg(feature = "arrayvec")]
+impl<T: Clone, const N: usize> ArrayLike for Box<[T; N]> {
+    type Item = T;
+    type List = Box<ArrayVec<T, N>>;
+    type Pieces = Box<ArrayVec<T, N>>;
+
+    #[inline]
+    fn new_list() -> Box<ArrayVec<T, N>> {
+        Box::default()
+    }
+}
+
+#[cfg(feature = "arrayvec")]
+impl<L: List> List for Box<L> {
+    type Item = L::Item;
+
+    #[inline]
+    fn len(&self) -> usize {
+        L::len(self)
+    }
+
+    #[inline]
+    fn as_slice(&self) -> &[L::Item] {
+        L::as_slice(self)
+    }
+
+    #[inline]
+    fn pop(&mut self) -> Option<L::Item> {
+        L::pop(self)
+    }
+
+    #[inline]
+    fn push(&mut self, item: L::Item) -> Result<(), L::Item> {
+        L::push(self, item)
     }
 }

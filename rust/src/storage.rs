@@ -8,7 +8,8 @@ use core::fmt;
 use core::marker::PhantomData;
 
 /// A list of an evaluation: a `Vec<T>` on the heap, or a [`SliceVec`] over the caller's slice; with the feature
-/// `arrayvec` also an array `[T; N]` or an `ArrayVec<T, N>`. The trait is sealed, as gimli's is.
+/// `arrayvec` also an array `[T; N]`, an `ArrayVec<T, N>` or, with `alloc` too, an array on the heap, `Box<[T; N]>`. The
+/// trait is sealed, as gimli's is.
 ///
 /// ```
 /// # #[cfg(feature = "alloc")] {

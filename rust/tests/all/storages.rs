@@ -83,4 +83,14 @@ fn lists_may_be_arrays() {
     }
 
     has_limits_2_1_2(Evaluation::<_, InArrays>::new_in(little(&[]), ENCODING));
+
+    struct OnHeap;
+
+    impl<R: Reader> EvaluationStorage<R> for OnHeap {
+        type Stack = Box<[Value; 2]>;
+        type ExpressionStack = Box<[(R, R); 1]>;
+        type Result = Box<[Piece<R>; 2]>;
+    }
+
+    has_limits_2_1_2(Evaluation::<_, OnHeap>::new_in(little(&[]), ENCODING));
 }

@@ -59,7 +59,19 @@ fn add_pages(sources: &mut Sources, folder: &str) {
     }
 }
 
+/// Enables the tests that need files outside of the repository, if a variable names them.
+fn allow_tests() {
+    for (variable, cfg) in [("GIMLI_TESTS", "gimli_tests"), ("DWEXPR_ARCHIVE", "archive")] {
+        println!("cargo::rerun-if-env-changed={variable}");
+        println!("cargo::rustc-check-cfg=cfg({cfg})");
+        if std::env::var_os(variable).is_some() {
+            println!("cargo::rustc-cfg={cfg}");
+        }
+    }
+}
+
 fn main() {
+    allow_tests();
     let mut sources = Sources::read("", CRATES, BY_HAND);
     sources.check_preconditions("rust/build/preconditions", |_| true);
     sources.apply("rust/build/rows/both");

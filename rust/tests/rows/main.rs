@@ -2,6 +2,7 @@
 //! out the same.
 
 mod json;
+mod packages;
 mod said;
 
 use dwexpr::{Encoding, Format, Reader, RunTimeEndian};
@@ -44,7 +45,19 @@ impl Case {
         Some(Case { encoding: Encoding { address_size, format, version }, order, bytes, steps, wanted })
     }
 
-    /// What is said over a reader.
+    /// The case as a line for the program of tests/beside_archive.
+    #[cfg(archive)]
+    fn line(&self) -> String {
+        let Encoding { address_size, format, version } = self.encoding;
+        let offset_size = if format == Format::Dwarf64 { 8 } else { 4 };
+        let order = if self.order == RunTimeEndian::Big { "be" } else { "le" };
+        let steps = self.steps.as_deref().unwrap_or("evaluate");
+        let steps: String = steps.lines().map(|it| format!("\t{it}")).collect();
+        let digits = said::digits_of(&self.bytes);
+        format!("{address_size}\t{offset_size}\t{version}\t{order}\t{digits}{steps}\n")
+    }
+
+    /// The lines that the case gives over a reader.
     fn said<R: Reader + Debug>(&self, read: impl Fn(&[u8]) -> R) -> String {
         match &self.steps {
             Some(steps) => said::evaluation(&self.bytes, self.encoding, steps, read),
@@ -161,4 +174,22 @@ fn rows_and_vectors_are_as_they_say() {
             GimliReader(gimli::EndianRcSlice::new(bytes.into(), gimli::RunTimeEndian::from(order)))
         });
     }
+}
+
+/// The rows and vectors, a million made-up cases of each kind, and as many values.
+#[test]
+#[cfg_attr(not(archive), ignore = "the variable DWEXPR_ARCHIVE has to name the archive for C, libdwexpr_c.a")]
+fn the_archive_gives_the_same() {
+    #[cfg(archive)]
+    {
+        let file = Path::new(env!("CARGO_TARGET_TMPDIR")).join("cases");
+        fs::write(&file, cases().iter().map(|it| it.1.line()).collect::<String>()).unwrap();
+        packages::run("beside_archive", &["run", "--release", "--quiet", "--", "1000000", file.to_str().unwrap()]);
+    }
+}
+
+#[test]
+#[cfg_attr(not(gimli_tests), ignore = "the variable GIMLI_TESTS has to name a folder with gimli's own tests")]
+fn gimlis_own_tests_pass() {
+    packages::run("upstream", &["test", "--quiet", "--lib"]);
 }

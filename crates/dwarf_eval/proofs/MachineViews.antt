@@ -1,5 +1,5 @@
 -- How the machine's lists and sorts are seen: the last item is the top of the stack, or the innermost caller.
-use Rattle.std.proofs.Common.{◌≡◌, Option, Some, None, Ok, List, [], ◌∷◌, ◌++◌, reverse, sym, ap, ◌∙◌, length, map, false, refl}
+use Rattle.std.proofs.Common.{◌≡◌, Option, Some, None, List, [], ◌∷◌, ◌++◌, reverse, sym, ap, ◌∙◌, length, map, false, refl}
 use Rattle.std.specs.Prelude.{option_to_list, IfNone}
 use Rattle.std.specs.Option.{ok_or}
 use Rattle.dwarf_base.specs.declared.errors.Error.TheVariants.{NotEnoughStackItems}

@@ -1,5 +1,5 @@
 -- One step after the other, and the beginning of a run.
-use Rattle.std.proofs.Common.{ℕ, ◌≡◌, ◌+◌, arith, length, List, Some, None, Result, Ok, Err, Bool, true, false, ap, ◌∙◌, sym, refl, subst}
+use Rattle.std.proofs.Common.{ℕ, ◌≡◌, ◌+◌, arith, length, List, Some, None, Result, Ok, Err, true, false, ap, ◌∙◌, sym, refl, subst}
 use Rattle.dwarf_base.specs.declared.errors.Error.{Error}
 use Rattle.dwarf_base.specs.Faults.{Fault, fault_of}
 use Rattle.dwarf_value.specs.declared.types.Value.TheVariants.{Generic}

@@ -13,7 +13,7 @@ use Rattle.dwarf_meaning.specs.Locations.{Location, Piece, sized_piece}
 use Rattle.dwarf_meaning.specs.Requests.{Request, OnAnswer, Answer, Input}
 use Rattle.dwarf_meaning.specs.Acts.{Act, RequestAct, act, Use, use_of}
 use Rattle.dwarf_meaning.specs.RunLaws.{waits_of}
-use Rattle.dwarf_meaning.specs.Stores.{address_bits, Store, Last, Plain, Pieced, Located, push_value, push_values, push_piece, push_caller, Next, Goes, RequestNext, FaultNext, do_act}
+use Rattle.dwarf_meaning.specs.Stores.{address_bits, Store, Last, Plain, Pieced, Located, push_value, push_piece, push_caller, Next, Goes, RequestNext, FaultNext, do_act}
 use Rattle.dwarf_meaning.specs.Run.{Position, after_answer, can_count, count_one, read, most_operations, run}
 use Rattle.dwarf_meaning.specs.Meaning.{Outcome, FaultOutcome, CompleteOutcome, completion_of}
 use Rattle.dwarf_meaning.specs.Rest.{State, Status, Start, Running, RequestStatus, CompleteStatus, FaultStatus, total_of_course, with_refusal}

@@ -1,7 +1,6 @@
-use Rattle.std.proofs.Common.{ℤ, ap, refl, rules, subst, sym, w64}
+use Rattle.std.proofs.Common.{ℤ, ap, rules, subst, sym, w64}
 use Rattle.std.proofs.lemmas.Int.{to_z-of_z}
 use mir.Val.{SFits}
-use Rattle.dwarf_base.specs.declared.errors.Error.TheVariants as error
 use Rattle.dwarf_value.specs.declared.types.Value.TheVariants.{Generic}
 use Rattle.dwarf_meaning.specs.Acts.{Locates, act, push}
 use Rattle.dwarf_meaning.specs.Locations.{PointsInto}
@@ -9,8 +8,7 @@ use Rattle.dwarf_op.specs.Views.{operation_of}
 use Rattle.dwarf_op.specs.declared.operations.Operation.{Operation}
 use Rattle.dwarf_eval.specs.inner.StateChanges.{Performs, act_of, with_fault}
 use Rattle.dwarf_eval.proofs.MachineNumbers.{passed-residue}
-use Rattle.dwarf_eval.proofs.Performances.{performs_as, performs_located, performs_more, performs_none, performs_refuses}
-use Rattle.dwarf_eval.proofs.Staying.{stays_here}
+use Rattle.dwarf_eval.proofs.Performances.{performs_as, performs_located, performs_more, performs_none}
 use Rattle.dwarf_eval.proofs.run.machine.Machine.operate_in_place.Goals as goal
 
 pub returns-in-Nop : goal.returns-in-Nop

@@ -1,7 +1,7 @@
 use Rattle.std.proofs.Common.{ap, sym, ◌∙◌}
 use Rattle.std.proofs.lemmas.Result.{err_from_is_err_and}
 use Rattle.dwarf_meaning.specs.Inputs.{with_status}
-use Rattle.dwarf_meaning.specs.Rest.{State, FaultStatus}
+use Rattle.dwarf_meaning.specs.Rest.{FaultStatus}
 use Rattle.std.specs.Prelude.{slice_get}
 use Rattle.dwarf_base.specs.declared.errors.Error.{Error}
 use Rattle.dwarf_base.specs.declared.errors.Error.TheVariants.{NotEnoughStackItems}

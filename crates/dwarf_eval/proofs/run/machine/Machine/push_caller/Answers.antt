@@ -1,11 +1,10 @@
 use Rattle.std.proofs.Common.{◌≡◌, ◌∙◌, ◌-◌, List, ℕ, ap, refl, subst, length, sym, arith}
 use Rattle.std.specs.List.{AllByRecursion}
 use Rattle.dwarf_meaning.specs.Rest.{State}
-use Rattle.dwarf_meaning.specs.Stores.{push_caller}
 use Rattle.dwarf_base.proofs.Suffixes.{suffix_whole}
 use Rattle.dwarf_base.specs.Reads.{IsRestOf}
 use Rattle.dwarf_eval.specs.Lists.{MayRefuse}
-use Rattle.dwarf_eval.specs.inner.StateChanges.{Refused, at_rest, with_place}
+use Rattle.dwarf_eval.specs.inner.StateChanges.{at_rest, with_place}
 use Rattle.dwarf_eval.proofs.MachineViews.{callers-push, length-callers, all_and_last}
 use Rattle.dwarf_eval.proofs.Pushes.{caller_pushed, caller_faults}
 use Rattle.dwarf_eval.proofs.run.machine.Machine.push_caller.Goals as goal

@@ -1,4 +1,4 @@
-use Rattle.std.proofs.Common.{◌≡◌, Bool, Ok, refl, true, subst, sym}
+use Rattle.std.proofs.Common.{◌≡◌, Bool, refl, true, subst, sym}
 use Rattle.std.proofs.lemmas.Result.{err_from_is_err_and}
 use Rattle.dwarf_base.specs.Reads.{IsRestOf}
 use Rattle.dwarf_meaning.specs.Inputs.{with_status}

@@ -1,6 +1,5 @@
 use Rattle.std.proofs.Common.{◌∙◌, ℕ, ap, refl, rules, subst, sym, w64}
 use Rattle.std.proofs.lemmas.Result.{err_from_is_err_and}
-use Rattle.std.proofs.lemmas.Int.{to_z-of_z}
 use mir.Val.{SFits}
 use Rattle.dwarf_value.specs.Values.{from_u64_of, type_of, binary_of, Plus}
 use Rattle.dwarf_meaning.specs.Acts.{FaultUse, PushesAnswer, use_of}

@@ -25,8 +25,8 @@ use Rattle.dwarf_replay.specs.declared.steps.Replayed.TheVariants as replayed
 use Rattle.dwarf_replay.specs.declared.steps.Step.{Step}
 use Rattle.dwexpr.specs.Evaluates.{EndsAt, IsCall, all_done, not_allowed, without_memory, EvaluatesSteps, EvaluatesSaid, after_replies, outcome_ending}
 use Rattle.dwexpr.specs.inner.Readings.{bad_steps, ReadsSteps}
-use Rattle.dwexpr.specs.declared.hexadecimal.ReadFault.{ReadFault}
-use Rattle.dwexpr.specs.declared.hexadecimal.ReadFault.TheVariants as fault
+use Rattle.dwexpr.specs.declared.hexadecimal.InputFault.{InputFault}
+use Rattle.dwexpr.specs.declared.hexadecimal.InputFault.TheVariants as fault
 use Rattle.dwexpr.specs.declared.steps.BadLine.{BadLine}
 use Rattle.dwexpr.specs.inner.Outputs.{HasLine, ending_of, state_ending}
 
@@ -148,7 +148,7 @@ has_line text number limit old new steps given _ few w = tt
 
 -- ---- what lines say
 
-pub follows_refused : {A : Type 0} (view : A → meaning.Step) (setup : Setup) (text : Text) (said : Result (List meaning.Step) ℕ) (B : Type 0) (refused : ReadFault BadLine)
+pub follows_refused : {A : Type 0} (view : A → meaning.Step) (setup : Setup) (text : Text) (said : Result (List meaning.Step) ℕ) (B : Type 0) (refused : InputFault BadLine)
     → ReadsSteps {B = B} view said (Err refused)
     → EvaluatesSaid setup text said (bad_steps refused) ⊎ (bad_steps refused ≡ no_memory)
 follows_refused view setup text said B (fault.Bad number) e = inl (rw e refl)

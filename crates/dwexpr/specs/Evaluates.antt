@@ -48,7 +48,7 @@ pub record EvaluatesSteps (setup : Setup) (text : Text) (log : Log) (steps : Lis
   pub ends : EndsAt index now (outcome_of setup refusal text now) (slice_get steps index) last
   pub ending_is : ending ≡ after_replies replies last
 
--- the ending of lines that spell these steps, or of which one spells none
+-- the ending of lines that spell these steps, or of lines with a bad one
 abbrev pub EvaluatesSaid : Setup → Text → Result (List Step) ℕ → Ending → Type 0
 EvaluatesSaid setup text (Ok steps) ending = EvaluatesSteps setup text empty_log steps ending
 EvaluatesSaid setup text (Err number) ending = ending ≡ bad_step number

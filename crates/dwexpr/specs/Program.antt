@@ -23,10 +23,10 @@ EvaluatesInput encoding text left ending =
 -- the ending of a command
 abbrev pub EndsCommand : Command → Invocation → (left : Option (List ℕ)) → Ending → Type 0
 EndsCommand Ops asked left ending =
-    ListsOperations (context_of asked.reading.encoding 64 (is_big_of asked.reading.order)) 0 asked.bytes ending
+    ListsOperations (context_of asked.context.encoding 64 (is_big_of asked.context.order)) 0 asked.bytes ending
 EndsCommand Eval asked left ending =
-    EvaluatesInput asked.reading.encoding
-    (record { bytes = asked.bytes; is_big = is_big_of asked.reading.order }) left ending
+    EvaluatesInput asked.context.encoding
+    (record { bytes = asked.bytes; is_big = is_big_of asked.context.order }) left ending
 
 -- the ending of an invocation, or of bad words; memory for the bytes of the words may be refused
 abbrev pub EndsInvocation : Option Invocation → (left : Option (List ℕ)) → Ending → Type 0

@@ -9,11 +9,11 @@ use Rattle.dwarf_base.specs.declared.byte_order.RunTimeEndian.{RunTimeEndian}
 use Rattle.dwarf_base.specs.declared.byte_order.RunTimeEndian.TheVariants.{Little, Big}
 use Rattle.dwexpr.specs.declared.words.Command.{Command}
 use Rattle.dwexpr.specs.declared.words.Command.TheVariants.{Ops, Eval}
-use Rattle.dwexpr.specs.declared.words.Reading.{Reading}
+use Rattle.dwexpr.specs.declared.words.DecodingContext.{DecodingContext}
 
 -- ---- HEX
 
--- the bytes of a word: none for `-`, else one for each pair of hexadecimal digits, of which there is at least one
+-- the bytes of a word: none for `-`, else one for each pair of hexadecimal digits; an empty word is bad
 abbrev pub bytes_in : List ℕ → Option (List ℕ)
 bytes_in [] = None
 bytes_in (byte ∷ []) = if byte == 45 then Some [] else None
@@ -44,32 +44,32 @@ abbrev pub order_in : List ℕ → Option RunTimeEndian
 order_in word = lookup (bytes_eq word) ((codes "le", Little) ∷ (codes "be", Big) ∷ [])
 
 -- all four
-abbrev pub reading_of : Option ℕ → Option Format → Option ℕ → Option RunTimeEndian → Option Reading
-reading_of (Some size) (Some format) (Some version) (Some order) =
+abbrev pub decoding_context_of : Option ℕ → Option Format → Option ℕ → Option RunTimeEndian → Option DecodingContext
+decoding_context_of (Some size) (Some format) (Some version) (Some order) =
     Some (record { encoding = record { address_size = size; format = format; version = version }; order = order })
-reading_of _ _ _ _ = None
+decoding_context_of _ _ _ _ = None
 
 -- how the bytes are read, by the four words about that
-abbrev pub reading_in : (size offsets version order : List ℕ) → Option Reading
-reading_in size offsets version order =
-    reading_of (address_size_in size) (format_in offsets) (version_in version) (order_in order)
+abbrev pub decoding_context_in : (size offsets version order : List ℕ) → Option DecodingContext
+decoding_context_in size offsets version order =
+    decoding_context_of (address_size_in size) (format_in offsets) (version_in version) (order_in order)
 
 -- ---- all words
 
 -- what the words ask for: a command, the bytes, and how they are read
 pub record Invocation : Type 0 where
   pub command : Command
-  pub reading : Reading
+  pub context : DecodingContext
   pub bytes : List ℕ
 
 -- all three
-abbrev pub invocation_by : Option Command → Option Reading → Option (List ℕ) → Option Invocation
-invocation_by (Some command) (Some reading) (Some bytes) =
-    Some (record { command = command; reading = reading; bytes = bytes })
+abbrev pub invocation_by : Option Command → Option DecodingContext → Option (List ℕ) → Option Invocation
+invocation_by (Some command) (Some context) (Some bytes) =
+    Some (record { command = command; context = context; bytes = bytes })
 invocation_by _ _ _ = None
 
 -- six words, each of its form
 abbrev pub invocation_in : List (List ℕ) → Option Invocation
 invocation_in (command ∷ size ∷ offsets ∷ version ∷ order ∷ hexadecimal ∷ []) =
-    invocation_by (command_in command) (reading_in size offsets version order) (bytes_in hexadecimal)
+    invocation_by (command_in command) (decoding_context_in size offsets version order) (bytes_in hexadecimal)
 invocation_in _ = None

@@ -4,8 +4,8 @@ ghost use Rattle.std.specs.Prelude.{◌≡◌, ◌%◌, ◌↔◌, IfErr, IfOk, 
 ghost use Rattle.std.specs.List.{AllPass};
 ghost use Rattle.hex.specs.Hex.{is_hex_digit};
 ghost use Rattle.dwexpr.specs.Words.{bytes_in};
-ghost use Rattle.dwexpr.specs.declared.hexadecimal.ReadFault.TheVariants as read;
-ghost use Rattle.dwexpr.specs.inner.Readings.{Reads};
+ghost use Rattle.dwexpr.specs.declared.hexadecimal.InputFault.TheVariants as input;
+ghost use Rattle.dwexpr.specs.inner.Readings.{ReadsInput};
 
 use hex::FromHexError;
 use std::alloc::Allocator;
@@ -13,7 +13,7 @@ use std::alloc::Allocator;
 /// Why a word gave no bytes.
 #[derive(Clone, Copy, Debug, PartialEq, Eq)]
 pub enum HexFault {
-    /// The word isn't `-` or an even number of hexadecimal digits.
+    /// The word is neither `-` nor an even number of hexadecimal digits.
     Bad,
     /// Memory for the bytes was refused.
     NoMemory,
@@ -53,18 +53,18 @@ pub fn bytes_of<A: Allocator>(alloc: A, word: &str) -> Result<Vec<u8, A>, HexFau
 
 /// Why words or lines weren't read.
 #[derive(Clone, Copy)]
-pub(crate) enum ReadFault<B> {
+pub(crate) enum InputFault<B> {
     /// They are bad; this says in what way.
     Bad(B),
     /// Memory for them was refused.
     NoMemory,
 }
 
-impl<B> From<B> for ReadFault<B> {
-    ghost from_gives = { λ bad fault. fault ≡ read.Bad bad };
+impl<B> From<B> for InputFault<B> {
+    ghost from_gives = { λ bad fault. fault ≡ input.Bad bad };
 
     fn from(bad: B) -> Self {
-        ReadFault::Bad(bad)
+        InputFault::Bad(bad)
     }
 }
 
@@ -73,12 +73,12 @@ pub(crate) fn bytes_or<A: Allocator, B: Drop>(
     alloc: A,
     word: &str,
     bad: B,
-) -> Result<Vec<u8, A>, ReadFault<B>>
-    ensures { Reads (λ bytes. bytes.items) (bytes_in word.now) result }
+) -> Result<Vec<u8, A>, InputFault<B>>
+    ensures { ReadsInput (λ bytes. bytes.items) (bytes_in word.now) result }
 {
     match bytes_of(alloc, word) {
         Ok(bytes) => Ok(bytes),
-        Err(HexFault::Bad) => Err(ReadFault::Bad(bad)),
-        Err(HexFault::NoMemory) => Err(ReadFault::NoMemory),
+        Err(HexFault::Bad) => Err(InputFault::Bad(bad)),
+        Err(HexFault::NoMemory) => Err(InputFault::NoMemory),
     }
 }

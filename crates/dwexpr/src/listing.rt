@@ -10,7 +10,7 @@ ghost use Rattle.dwexpr.specs.Listing.{ListsOperations, operation_name};
 
 use crate::endings::{DONE, FAILED};
 use crate::lines::print_fault_at;
-use crate::words::Reading;
+use crate::words::DecodingContext;
 use crate::writing::{Word, put_numbered_line};
 use dwarf_base::{EndianSlice, Reader};
 use dwarf_eval::op::Operation;
@@ -84,19 +84,19 @@ fn name_of<R: Reader + Copy>(operation: Operation<R>) -> &'static str
 pub(crate) fn print_operations<W: Write>(
     output: &mut W,
     bytes: &[u8],
-    reading: Reading,
+    context: DecodingContext,
 ) -> io::Result<u8>
     ensures { (ending : Ending)
-        × ListsOperations (context_of reading.encoding 64 (is_big_of reading.order)) 0 bytes.now ending
+        × ListsOperations (context_of context.encoding 64 (is_big_of context.order)) 0 bytes.now ending
         × WritesEnding (W.contents output.old) (W.contents output.new) ending result }
 {
-    let mut left = EndianSlice::new(bytes, reading.order);
+    let mut left = EndianSlice::new(bytes, context.order);
     while !left.is_empty() {
         let place = bytes.len() - left.len();
-        match Operation::parse(&mut left, reading.encoding) {
+        match Operation::parse(&mut left, context.encoding) {
             Ok(operation) => {
                 let end = bytes.len() - left.len();
-                let spelling = EndianSlice::new(&bytes[place..end], reading.order);
+                let spelling = EndianSlice::new(&bytes[place..end], context.order);
                 let words = [Word::Bytes(spelling), Word::Name(name_of(operation))];
                 put_numbered_line(output, place as u64, &words)?;
             }

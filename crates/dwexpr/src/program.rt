@@ -26,12 +26,12 @@ ghost use Rattle.dwexpr.specs.Endings.{Ending, complete_ending};
 
 use crate::endings::{DONE, FAILED, bad_step, bad_words, misplaced_step, no_memory};
 use crate::explaining::Output;
-use crate::hexadecimal::ReadFault;
+use crate::hexadecimal::InputFault;
 use crate::input::{WatchedReader, line_at};
 use crate::lines::{print_piece, print_reply, print_value_line};
 use crate::listing::print_operations;
 use crate::steps::{BadLine, BadStep, steps_in};
-use crate::words::{Command, Reading, invocation_of};
+use crate::words::{Command, DecodingContext, invocation_of};
 use crate::writing::Bytes;
 use dwarf_base::EndianSlice;
 use dwarf_eval::eval::{Evaluation, Status};
@@ -127,25 +127,25 @@ fn print_end<A: Allocator + Copy, W: Output>(
 fn evaluate<'a, A: Allocator + Copy, W: Output>(
     alloc: A,
     bytes: &'a [u8],
-    reading: Reading,
+    context: DecodingContext,
     steps: &[Step<Bytes<'a>>],
     lines: &[u8],
     output: &mut W,
 ) -> io::Result<u8>
-    requires some { 0 < reading.encoding.address_size }
-    requires fits { reading.encoding.address_size ≤ 8 }
+    requires some { 0 < context.encoding.address_size }
+    requires fits { context.encoding.address_size ≤ 8 }
     requires few { length steps.now < 2 ^ 63 }
     ensures { (ending : Ending)
-        × EvaluatesSteps (setup_of reading.encoding 64 None None None)
-        (record { bytes = bytes.now; is_big = is_big_of reading.order }) empty_log
+        × EvaluatesSteps (setup_of context.encoding 64 None None None)
+        (record { bytes = bytes.now; is_big = is_big_of context.order }) empty_log
         (steps_of slice_text steps.now) ending
         × WritesEnding (W.contents output.old) (W.contents output.new) ending result }
 {
-    let text = EndianSlice::new(bytes, reading.order);
+    let text = EndianSlice::new(bytes, context.order);
     let mut evaluation: Evaluation<_, StoreOnHeap<A>> = Evaluation::new(
         alloc,
         text,
-        reading.encoding,
+        context.encoding,
     );
     let mut answers = Vec::new(alloc);
     let replayed = replay(&mut evaluation, steps, &mut answers);
@@ -154,17 +154,17 @@ fn evaluate<'a, A: Allocator + Copy, W: Output>(
 }
 
 /// Prints why the lines aren't steps, and explains which line is bad.
-fn refuse_lines<W: Output>(output: &mut W, fault: ReadFault<BadLine<'_>>) -> io::Result<u8>
+fn refuse_lines<W: Output>(output: &mut W, fault: InputFault<BadLine<'_>>) -> io::Result<u8>
     ensures { WritesEnding (W.contents output.old) (W.contents output.new)
         (bad_steps fault.entry) result }
 {
     match fault {
-        ReadFault::Bad(line) => {
+        InputFault::Bad(line) => {
             let printed = bad_step(output, line.number);
             output.complain(line);
             printed
         }
-        ReadFault::NoMemory => no_memory(output),
+        InputFault::NoMemory => no_memory(output),
     }
 }
 
@@ -172,19 +172,19 @@ fn refuse_lines<W: Output>(output: &mut W, fault: ReadFault<BadLine<'_>>) -> io:
 fn run_lines<'a, A: Allocator + Copy + 'a, W: Output>(
     alloc: A,
     bytes: &'a [u8],
-    reading: Reading,
+    context: DecodingContext,
     lines: &[u8],
     output: &mut W,
 ) -> io::Result<u8>
-    requires some { 0 < reading.encoding.address_size }
-    requires fits { reading.encoding.address_size ≤ 8 }
+    requires some { 0 < context.encoding.address_size }
+    requires fits { context.encoding.address_size ≤ 8 }
     ensures { (ending : Ending)
-        × EvaluatesLines reading.encoding
-        (record { bytes = bytes.now; is_big = is_big_of reading.order }) lines.now ending
+        × EvaluatesLines context.encoding
+        (record { bytes = bytes.now; is_big = is_big_of context.order }) lines.now ending
         × WritesEnding (W.contents output.old) (W.contents output.new) ending result }
 {
-    match steps_in(alloc, reading.order, lines) {
-        Ok(steps) => evaluate(alloc, bytes, reading, steps.as_slice(), lines, output),
+    match steps_in(alloc, context.order, lines) {
+        Ok(steps) => evaluate(alloc, bytes, context, steps.as_slice(), lines, output),
         Err(fault) => refuse_lines(output, fault),
     }
 }
@@ -193,15 +193,15 @@ fn run_lines<'a, A: Allocator + Copy + 'a, W: Output>(
 fn run_eval<A: Allocator + Copy, I: Read + Drop, W: Output>(
     alloc: A,
     bytes: &[u8],
-    reading: Reading,
+    context: DecodingContext,
     reader: I,
     output: &mut W,
 ) -> io::Result<u8>
-    requires some { 0 < reading.encoding.address_size }
-    requires fits { reading.encoding.address_size ≤ 8 }
+    requires some { 0 < context.encoding.address_size }
+    requires fits { context.encoding.address_size ≤ 8 }
     ensures { (ending : Ending)
-        × EvaluatesInput reading.encoding
-        (record { bytes = bytes.now; is_big = is_big_of reading.order }) (I.remaining reader) ending
+        × EvaluatesInput context.encoding
+        (record { bytes = bytes.now; is_big = is_big_of context.order }) (I.remaining reader) ending
         × WritesEnding (W.contents output.old) (W.contents output.new) ending result }
 {
     let mut lines = Vec::new(alloc);
@@ -211,7 +211,7 @@ fn run_eval<A: Allocator + Copy, I: Read + Drop, W: Output>(
         failed: false,
     };
     match input.read_to_end(&mut lines) {
-        Ok(_) => run_lines(alloc, bytes, reading, lines.as_slice(), output),
+        Ok(_) => run_lines(alloc, bytes, context, lines.as_slice(), output),
         Err(error) if input.failed => {
             output.complain(format_args!("standard input can't be read: {error}"));
             Ok(FAILED)
@@ -233,17 +233,17 @@ fn run_words<A: Allocator + Copy, I: Read + Drop, W: Output>(
 {
     match invocation_of(alloc, words) {
         Ok(asked) => match asked.command {
-            Command::Ops => print_operations(output, asked.bytes.as_slice(), asked.reading),
+            Command::Ops => print_operations(output, asked.bytes.as_slice(), asked.context),
             Command::Eval => {
-                run_eval(alloc, asked.bytes.as_slice(), asked.reading, input, output)
+                run_eval(alloc, asked.bytes.as_slice(), asked.context, input, output)
             }
         },
-        Err(ReadFault::Bad(words)) => {
+        Err(InputFault::Bad(words)) => {
             let printed = bad_words(output);
             output.complain(words);
             printed
         }
-        Err(ReadFault::NoMemory) => no_memory(output),
+        Err(InputFault::NoMemory) => no_memory(output),
     }
 }
 

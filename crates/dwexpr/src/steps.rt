@@ -6,10 +6,10 @@ ghost use Rattle.dwarf_base.specs.EndianSlice.{slice_text};
 ghost use Rattle.dwarf_base.specs.ByteOrder.{is_big_of};
 ghost use Rattle.dwarf_replay.specs.Stepping.{step_of};
 ghost use Rattle.dwexpr.specs.StepLines as spec;
-ghost use Rattle.dwexpr.specs.inner.Readings.{Reads, ReadsSteps};
+ghost use Rattle.dwexpr.specs.inner.Readings.{ReadsInput, ReadsSteps};
 ghost use Rattle.dwexpr.specs.StepLines.{below, lines_in, number_in, value_in};
 
-use crate::hexadecimal::{ReadFault, bytes_or};
+use crate::hexadecimal::{InputFault, bytes_or};
 use crate::input::first_line;
 use crate::numbers::number_of;
 use crate::values::{type_of, value_of};
@@ -99,8 +99,8 @@ fn answer<'t, A: Allocator + 't>(
     order: RunTimeEndian,
     kind: WaitingKind,
     word: &str,
-) -> Result<Step<Bytes<'t>>, ReadFault<BadStep>>
-    ensures { Reads (step_of slice_text) (spec.answer_step_in (is_big_of order) kind word.now) result }
+) -> Result<Step<Bytes<'t>>, InputFault<BadStep>>
+    ensures { ReadsInput (step_of slice_text) (spec.answer_step_in (is_big_of order) kind word.now) result }
 {
     match kind {
         WaitingKind::Memory => Ok(Step::Memory(value(word)?)),
@@ -127,12 +127,12 @@ fn named_step<'t, A: Allocator + 't>(
     order: RunTimeEndian,
     name: &str,
     word: &str,
-) -> Result<Step<Bytes<'t>>, ReadFault<BadStep>>
-    ensures { Reads (step_of slice_text) (spec.named_step_in (is_big_of order) name.now word.now)
+) -> Result<Step<Bytes<'t>>, InputFault<BadStep>>
+    ensures { ReadsInput (step_of slice_text) (spec.named_step_in (is_big_of order) name.now word.now)
         result }
 {
     match name {
-        "evaluate" => Err(ReadFault::Bad(BadStep::NotAlone)),
+        "evaluate" => Err(InputFault::Bad(BadStep::NotAlone)),
         "initial" => Ok(Step::InitialValue(number(word)?)),
         "object" => Ok(Step::ObjectAddress(number(word)?)),
         "max" => Ok(Step::MaxIterations(maximum(word)?)),
@@ -145,8 +145,8 @@ fn text_step<'t, A: Allocator + 't>(
     alloc: A,
     order: RunTimeEndian,
     text: &str,
-) -> Result<Step<Bytes<'t>>, ReadFault<BadStep>>
-    ensures { Reads (step_of slice_text) (spec.text_step_in (is_big_of order) text.now) result }
+) -> Result<Step<Bytes<'t>>, InputFault<BadStep>>
+    ensures { ReadsInput (step_of slice_text) (spec.text_step_in (is_big_of order) text.now) result }
 {
     if text == "evaluate" {
         return Ok(Step::Evaluate);
@@ -154,8 +154,8 @@ fn text_step<'t, A: Allocator + 't>(
     match text.split_once(' ') {
         Some((name, word)) => named_step(alloc, order, name, word),
         // No step has an empty word, so the text is bad in the way of its missing word.
-        None => Err(ReadFault::Bad(match named_step(alloc, order, text, "") {
-            Err(ReadFault::Bad(fault)) => fault,
+        None => Err(InputFault::Bad(match named_step(alloc, order, text, "") {
+            Err(InputFault::Bad(fault)) => fault,
             _ => BadStep::Unknown,
         })),
     }
@@ -166,12 +166,12 @@ fn step_in<'t, A: Allocator + 't>(
     alloc: A,
     order: RunTimeEndian,
     line: &[u8],
-) -> Result<Step<Bytes<'t>>, ReadFault<BadStep>>
-    ensures { Reads (step_of slice_text) (spec.step_in (is_big_of order) line.now) result }
+) -> Result<Step<Bytes<'t>>, InputFault<BadStep>>
+    ensures { ReadsInput (step_of slice_text) (spec.step_in (is_big_of order) line.now) result }
 {
     match str::from_utf8(line) {
         Ok(text) => text_step(alloc, order, text),
-        Err(_) => Err(ReadFault::Bad(BadStep::Unknown)),
+        Err(_) => Err(InputFault::Bad(BadStep::Unknown)),
     }
 }
 
@@ -190,7 +190,7 @@ pub(crate) fn steps_in<'i, 't, A: Allocator + Copy + 't>(
     alloc: A,
     order: RunTimeEndian,
     input: &'i [u8],
-) -> Result<Vec<Step<Bytes<'t>>, A>, ReadFault<BadLine<'i>>>
+) -> Result<Vec<Step<Bytes<'t>>, A>, InputFault<BadLine<'i>>>
     ensures { ReadsSteps (step_of slice_text)
         (spec.steps_in (is_big_of order) (lines_in input.now)) result }
 {
@@ -200,18 +200,18 @@ pub(crate) fn steps_in<'i, 't, A: Allocator + Copy + 't>(
         let line = first_line(left);
         let step = match step_in(alloc, order, line.text) {
             Ok(step) => step,
-            Err(ReadFault::Bad(fault)) => {
-                return Err(ReadFault::Bad(BadLine {
+            Err(InputFault::Bad(fault)) => {
+                return Err(InputFault::Bad(BadLine {
                     number: steps.len().saturating_add(1),
                     text: line.text,
                     fault,
                 }));
             }
-            Err(ReadFault::NoMemory) => return Err(ReadFault::NoMemory),
+            Err(InputFault::NoMemory) => return Err(InputFault::NoMemory),
         };
         match steps.push(step) {
             Ok(()) => left = line.rest,
-            Err(_) => return Err(ReadFault::NoMemory),
+            Err(_) => return Err(InputFault::NoMemory),
         }
     }
     Ok(steps)

@@ -2,10 +2,10 @@
 
 ghost use Rattle.std.specs.Prelude.{◌≡◌, ◌<◌, ◌≤◌, IfErr, IfOk, None, map, string_bytes};
 ghost use Rattle.std.specs.Result.{result_ok};
-ghost use Rattle.dwexpr.specs.Words.{address_size_in, command_in, format_in, invocation_in, order_in, reading_in, version_in};
-ghost use Rattle.dwexpr.specs.inner.Readings.{Reads, asked_by, texts_of};
+ghost use Rattle.dwexpr.specs.Words.{address_size_in, command_in, format_in, invocation_in, order_in, decoding_context_in, version_in};
+ghost use Rattle.dwexpr.specs.inner.Readings.{ReadsInput, asked_by, texts_of};
 
-use crate::hexadecimal::{ReadFault, bytes_or};
+use crate::hexadecimal::{InputFault, bytes_or};
 use dwarf_base::{Encoding, Format, RunTimeEndian};
 use std::alloc::Allocator;
 
@@ -79,7 +79,7 @@ fn command_of(word: &str) -> Result<Command, BadWords<'_>>
 
 /// How the bytes of an expression are read: the size of an address, the format, the version and the byte order.
 #[derive(Clone, Copy, Debug, PartialEq, Eq)]
-pub(crate) struct Reading {
+pub(crate) struct DecodingContext {
     pub(crate) encoding: Encoding,
     pub(crate) order: RunTimeEndian,
 }
@@ -138,17 +138,17 @@ fn order(word: &str) -> Result<RunTimeEndian, BadWords<'_>>
 }
 
 /// How the bytes are read, by the four words about that.
-fn reading_of(words: Words<'_>) -> Result<Reading, BadWords<'_>>
-    ensures exact { result_ok result ≡ reading_in words.entry.address_size.now
+fn decoding_context_of(words: Words<'_>) -> Result<DecodingContext, BadWords<'_>>
+    ensures exact { result_ok result ≡ decoding_context_in words.entry.address_size.now
         words.entry.offset_size.now words.entry.version.now words.entry.order.now }
     ensures sizes { IfOk result
-        (λ reading. (0 < reading.encoding.address_size) × (reading.encoding.address_size ≤ 8)) }
+        (λ context. (0 < context.encoding.address_size) × (context.encoding.address_size ≤ 8)) }
 {
     let address_size = address_size(words.address_size)?;
     let format = format(words.offset_size)?;
     let version = version(words.version)?;
     let order = order(words.order)?;
-    Ok(Reading {
+    Ok(DecodingContext {
         encoding: Encoding {
             address_size,
             format,
@@ -162,7 +162,7 @@ fn reading_of(words: Words<'_>) -> Result<Reading, BadWords<'_>>
 #[derive(Drop)]
 pub(crate) struct Invocation<A: Allocator> {
     pub(crate) command: Command,
-    pub(crate) reading: Reading,
+    pub(crate) context: DecodingContext,
     pub(crate) bytes: Vec<u8, A>,
 }
 
@@ -170,18 +170,18 @@ pub(crate) struct Invocation<A: Allocator> {
 pub(crate) fn invocation_of<A: Allocator>(
     alloc: A,
     words: &[String<A>],
-) -> Result<Invocation<A>, ReadFault<BadWords<'_>>>
-    ensures exact { Reads asked_by (invocation_in (map string_bytes words.now)) result }
+) -> Result<Invocation<A>, InputFault<BadWords<'_>>>
+    ensures exact { ReadsInput asked_by (invocation_in (map string_bytes words.now)) result }
     ensures sizes { IfOk result (λ asked.
-        (0 < asked.reading.encoding.address_size) × (asked.reading.encoding.address_size ≤ 8)) }
+        (0 < asked.context.encoding.address_size) × (asked.context.encoding.address_size ≤ 8)) }
 {
     let words = six_words(words)?;
     let command = command_of(words.command)?;
-    let reading = reading_of(words)?;
+    let context = decoding_context_of(words)?;
     let bytes = bytes_or(alloc, words.bytes, BadWords::Bytes(words.bytes))?;
     Ok(Invocation {
         command,
-        reading,
+        context,
         bytes,
     })
 }

@@ -3,17 +3,17 @@ use Rattle.std.specs.Prelude.{ℕ, ◌≡◌, IsSome, Vec, map, List, [], ◌∷
 use Rattle.dwarf_meaning.specs.Steps.{Step}
 use Rattle.dwexpr.specs.Endings.{Ending, bad_step, no_memory}
 use Rattle.dwexpr.specs.Words as spec
-use Rattle.dwexpr.specs.declared.hexadecimal.ReadFault.{ReadFault}
-use Rattle.dwexpr.specs.declared.hexadecimal.ReadFault.TheVariants as read
+use Rattle.dwexpr.specs.declared.hexadecimal.InputFault.{InputFault}
+use Rattle.dwexpr.specs.declared.hexadecimal.InputFault.TheVariants as input
 use Rattle.dwexpr.specs.declared.steps.BadLine.{BadLine}
 use Rattle.dwexpr.specs.declared.words.Invocation.{Invocation}
 use Rattle.dwexpr.specs.declared.words.Words.{Words}
 
--- what is read is what is said, or nothing if nothing is said; memory for it may be refused
-abbrev pub Reads : {X Y B : Type 0} → (X → Y) → (said : Option Y) → Result X (ReadFault B) → Type 0
-Reads view said (Ok x) = said ≡ Some (view x)
-Reads view said (Err (read.Bad bad)) = said ≡ None
-Reads view said (Err read.NoMemory) = IsSome said
+-- the result is what the input says, or bad if it says nothing; memory for it may be refused
+abbrev pub ReadsInput : {X Y B : Type 0} → (X → Y) → (said : Option Y) → Result X (InputFault B) → Type 0
+ReadsInput view said (Ok x) = said ≡ Some (view x)
+ReadsInput view said (Err (input.Bad bad)) = said ≡ None
+ReadsInput view said (Err input.NoMemory) = IsSome said
 
 -- ---- words
 
@@ -25,18 +25,18 @@ texts_of words =
 
 -- what an invocation of the code asks for, as the definitions have it
 abbrev pub asked_by : {A : Type 0} → Invocation A → spec.Invocation
-asked_by x = record { command = x.command; reading = x.reading; bytes = x.bytes.items }
+asked_by x = record { command = x.command; context = x.context; bytes = x.bytes.items }
 
 -- ---- lines
 
--- what is read from lines is the steps that they spell, or the line that spells none; memory may be refused
+-- the result is the steps that lines spell, or the line that spells none; memory for them may be refused
 abbrev pub ReadsSteps : {A B : Type 0} → (A → Step) → (said : Result (List Step) ℕ)
-    → Result (Vec A B) (ReadFault BadLine) → Type 0
+    → Result (Vec A B) (InputFault BadLine) → Type 0
 ReadsSteps view said (Ok steps) = said ≡ Ok (map view steps.items)
-ReadsSteps view said (Err (read.Bad line)) = said ≡ Err line.number
-ReadsSteps view said (Err read.NoMemory) = Unit {0}
+ReadsSteps view said (Err (input.Bad line)) = said ≡ Err line.number
+ReadsSteps view said (Err input.NoMemory) = Unit {0}
 
 -- the ending that is printed if lines give no steps
-abbrev pub bad_steps : ReadFault BadLine → Ending
-bad_steps (read.Bad line) = bad_step line.number
-bad_steps read.NoMemory = no_memory
+abbrev pub bad_steps : InputFault BadLine → Ending
+bad_steps (input.Bad line) = bad_step line.number
+bad_steps input.NoMemory = no_memory

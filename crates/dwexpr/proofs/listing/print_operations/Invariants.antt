@@ -6,7 +6,7 @@ use Rattle.dwexpr.proofs.listing.print_operations.Given as goal
 
 abbrev pub invariant-loop-left : goal.invariant-loop-left
 invariant-loop-left g l =
-    Listed l.fn.reading.encoding (record { bytes = l.fn.bytes; is_big = is_big_of l.fn.reading.order }) (slice_text l.left)
+    Listed l.fn.context.encoding (record { bytes = l.fn.bytes; is_big = is_big_of l.fn.context.order }) (slice_text l.left)
     (g.W.Write.contents l.fn.output) (g.W.Write.contents l.output)
 
 abbrev pub decreases-loop-left : goal.decreases-loop-left

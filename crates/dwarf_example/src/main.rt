@@ -191,7 +191,11 @@ fn show_requests(rt: &HostRuntime, bytes: Bytes<'_>) -> io::Result<()> {
 }
 
 /// Prints what each call gives if the answer is known before the first.
-fn show_replayed<'a>(rt: &HostRuntime, bytes: Bytes<'a>, answer: Step<Bytes<'a>>) -> io::Result<()> {
+fn show_replayed<'a>(
+    rt: &HostRuntime,
+    bytes: Bytes<'a>,
+    answer: Step<Bytes<'a>>,
+) -> io::Result<()> {
     let mut evaluation = Evaluation::new(rt.alloc(), bytes, ENCODING);
     let mut answers = Vec::new(rt.alloc());
     let replayed = replay_two(&mut evaluation, Step::Evaluate, answer, &mut answers);

@@ -1,8 +1,11 @@
 //! The list of a fixed capacity that the sources take from the crate `arrayvec`.
 
-/// Items in an array. Those after the first `len` are left over.
+use core::mem::MaybeUninit;
+use core::slice::from_raw_parts;
+
+/// Items in an array. Only the first `len` are set, so that an empty list costs nothing.
 pub(crate) struct ArrayVec<T, const CAP: usize> {
-    slots: [T; CAP],
+    slots: [MaybeUninit<T>; CAP],
     len: usize,
 }
 
@@ -15,9 +18,10 @@ impl<T> CapacityError<T> {
     }
 }
 
-impl<T: Copy + Default, const CAP: usize> ArrayVec<T, CAP> {
+impl<T: Copy, const CAP: usize> ArrayVec<T, CAP> {
+    #[inline(always)]
     pub fn new() -> Self {
-        ArrayVec { slots: [T::default(); CAP], len: 0 }
+        ArrayVec { slots: [const { MaybeUninit::uninit() }; CAP], len: 0 }
     }
 
     #[inline(always)]
@@ -27,13 +31,16 @@ impl<T: Copy + Default, const CAP: usize> ArrayVec<T, CAP> {
 
     #[inline(always)]
     pub fn as_slice(&self) -> &[T] {
-        &self.slots[..self.len]
+        let set = &self.slots[..self.len];
+        // SAFETY: the first `len` items are set.
+        unsafe { from_raw_parts(set.as_ptr().cast(), set.len()) }
     }
 
     #[inline(always)]
     pub fn pop(&mut self) -> Option<T> {
         self.len = self.len.checked_sub(1)?;
-        Some(self.slots[self.len])
+        // SAFETY: the item was the last of those that are set.
+        Some(unsafe { self.slots[self.len].assume_init() })
     }
 
     #[inline(always)]
@@ -41,7 +48,7 @@ impl<T: Copy + Default, const CAP: usize> ArrayVec<T, CAP> {
         if self.len == CAP {
             return Err(CapacityError(item));
         }
-        self.slots[self.len] = item;
+        self.slots[self.len].write(item);
         self.len += 1;
         Ok(())
     }

@@ -4,13 +4,11 @@
 ghost use Rattle.dwarf_expr.specs.Evaluation.{IsClosed};
 
 mod registers;
-mod replays;
 mod requests;
 #[cfg(test)]
 mod tests;
 
 use crate::registers::complete_with_registers;
-use crate::replays::replay_two;
 use crate::requests::{Process, complete, count_requests};
 use dwarf_expr::base::{
     DebugAddrIndex, Encoding, EndianSlice, Error, Format, Reader, Register, Result, RunTimeEndian,
@@ -18,7 +16,7 @@ use dwarf_expr::base::{
 };
 use dwarf_expr::eval::Evaluation;
 use dwarf_expr::op::{DieReference, Expression, Piece};
-use dwarf_expr::replay::Step;
+use dwarf_expr::replay::{Step, replay};
 use dwarf_expr::store::{EvaluationStorage, SliceVec, StoreInSlices};
 use dwarf_expr::value::{Value, ValueType};
 use std::io;
@@ -190,11 +188,15 @@ fn show_requests(rt: &HostRuntime, bytes: Bytes<'_>) -> io::Result<()> {
     }
 }
 
-/// Prints what each call gives if the answer is known before the first.
-fn show_replayed<'a>(rt: &HostRuntime, bytes: Bytes<'a>, answer: Step<Bytes<'a>>) -> io::Result<()> {
+/// Prints what each call gives if all answers are known before the first.
+fn show_replayed<'a>(
+    rt: &HostRuntime,
+    bytes: Bytes<'a>,
+    steps: &[Step<Bytes<'a>>],
+) -> io::Result<()> {
     let mut evaluation = Evaluation::new(rt.alloc(), bytes, ENCODING);
     let mut answers = Vec::new(rt.alloc());
-    let replayed = replay_two(&mut evaluation, Step::Evaluate, answer, &mut answers);
+    let replayed = replay(&mut evaluation, steps, &mut answers);
     println!(rt; "replayed: {replayed:?} {:?}", answers.as_slice())
 }
 
@@ -231,7 +233,7 @@ fn show_all(rt: &HostRuntime) -> io::Result<()> {
     show_replayed(
         rt,
         EndianSlice::new(expressions[0], RunTimeEndian::Little),
-        Step::FrameBase(0x3000),
+        &[Step::Evaluate, Step::FrameBase(0x3000)],
     )
 }
 

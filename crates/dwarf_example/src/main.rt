@@ -1,16 +1,14 @@
-//! Evaluates expressions on the heap and over lent slices, by three loops that a user may write.
+//! Expressions evaluated on the heap and over lent slices, in three loops that a user may write.
 #![tactic(auto)]
 
 ghost use Rattle.dwarf_expr.specs.Evaluation.{IsClosed};
 
 mod registers;
-mod replays;
 mod requests;
 #[cfg(test)]
 mod tests;
 
 use crate::registers::complete_with_registers;
-use crate::replays::replay_two;
 use crate::requests::{Process, complete, count_requests};
 use dwarf_expr::base::{
     DebugAddrIndex, Encoding, EndianSlice, Error, Format, Reader, Register, Result, RunTimeEndian,
@@ -18,7 +16,7 @@ use dwarf_expr::base::{
 };
 use dwarf_expr::eval::Evaluation;
 use dwarf_expr::op::{DieReference, Expression, Piece};
-use dwarf_expr::replay::Step;
+use dwarf_expr::replay::{Step, replay};
 use dwarf_expr::store::{EvaluationStorage, SliceVec, StoreInSlices};
 use dwarf_expr::value::{Value, ValueType};
 use std::io;
@@ -32,18 +30,18 @@ const ENCODING: Encoding = Encoding {
     version: 4,
 };
 
-/// A stopped process with one function.
+/// A process that stands still, in one function.
 #[derive(Clone, Copy)]
 struct Stopped<'a> {
     registers: [u64; 2],
     frame_base: u64,
     cfa: u64,
-    /// The location of each entry that an expression calls.
+    /// The location of every entry that is called.
     called: Bytes<'a>,
 }
 
 impl<'a> Process<Bytes<'a>> for Stopped<'a> {
-    /// Each byte of memory is 7. In an address space every value is the number of the space.
+    /// Each byte of memory is 7. An address space holds its own number.
     fn memory(&self, _address: u64, size: u8, space: Option<u64>) -> Result<Value> {
         match (space, size) {
             (Some(number), _) => Ok(Value::Generic(number)),
@@ -101,7 +99,7 @@ impl<'a> Process<Bytes<'a>> for Stopped<'a> {
     }
 }
 
-/// Prints the outcome of an evaluation in a debugger's loop.
+/// Prints what a debugger's loop makes of an evaluation.
 fn show_complete<'a, S: EvaluationStorage<Bytes<'a>>>(
     rt: &HostRuntime,
     lists: &str,
@@ -120,14 +118,14 @@ fn show_complete<'a, S: EvaluationStorage<Bytes<'a>>>(
     }
 }
 
-/// Prints the outcome of the bytes, evaluated on the heap.
+/// Prints what it makes of the bytes, on the heap.
 fn show_on_heap<'a>(rt: &HostRuntime, bytes: Bytes<'a>, process: &Stopped<'a>) -> io::Result<()> {
     let mut evaluation = Evaluation::new(rt.alloc(), bytes, ENCODING);
     show_complete(rt, "heap", &mut evaluation, process)
 }
 
-/// Prints the outcome of each expression. A new evaluation for each uses the same slices: none allocates, and none sets
-/// a list to zero.
+/// Prints what it makes of each expression, by a new evaluation over slices that all of them use. None takes memory,
+/// and none sets a list to zero.
 fn show_lent<'a>(
     rt: &HostRuntime,
     expressions: &[&'a [u8]],
@@ -150,7 +148,7 @@ fn show_lent<'a>(
     Ok(())
 }
 
-/// Prints the outcome of each expression. One evaluation is restarted for each, so only the first few allocate.
+/// Prints what it makes of each expression. One evaluation serves for all of them, so only the first few take memory.
 fn show_restarted<'a>(
     rt: &HostRuntime,
     expressions: &[&'a [u8]],
@@ -166,7 +164,7 @@ fn show_restarted<'a>(
     Ok(())
 }
 
-/// Prints the outcome of the bytes with registers alone, and at most `step` more operations for each of them.
+/// Prints what registers alone make of the bytes, with at most `step` operations more for each.
 fn show_registers<'a>(
     rt: &HostRuntime,
     bytes: Bytes<'a>,
@@ -180,7 +178,7 @@ fn show_registers<'a>(
     }
 }
 
-/// Prints how many requests the bytes make.
+/// Prints how often the bytes ask.
 fn show_requests(rt: &HostRuntime, bytes: Bytes<'_>) -> io::Result<()> {
     let mut evaluation = Evaluation::new(rt.alloc(), bytes, ENCODING);
     let nothing = EndianSlice::new(&[], RunTimeEndian::Little);
@@ -190,19 +188,19 @@ fn show_requests(rt: &HostRuntime, bytes: Bytes<'_>) -> io::Result<()> {
     }
 }
 
-/// Prints what each call gives if the answer is known before the first.
+/// Prints what each call gives if all answers are known before the first.
 fn show_replayed<'a>(
     rt: &HostRuntime,
     bytes: Bytes<'a>,
-    answer: Step<Bytes<'a>>,
+    steps: &[Step<Bytes<'a>>],
 ) -> io::Result<()> {
     let mut evaluation = Evaluation::new(rt.alloc(), bytes, ENCODING);
     let mut answers = Vec::new(rt.alloc());
-    let replayed = replay_two(&mut evaluation, Step::Evaluate, answer, &mut answers);
+    let replayed = replay(&mut evaluation, steps, &mut answers);
     println!(rt; "replayed: {replayed:?} {:?}", answers.as_slice())
 }
 
-/// Prints the outcomes of some expressions.
+/// Prints the outcome of some expressions.
 fn show_all(rt: &HostRuntime) -> io::Result<()> {
     let process = Stopped {
         registers: [0x1000, 0x2000],
@@ -235,7 +233,7 @@ fn show_all(rt: &HostRuntime) -> io::Result<()> {
     show_replayed(
         rt,
         EndianSlice::new(expressions[0], RunTimeEndian::Little),
-        Step::FrameBase(0x3000),
+        &[Step::Evaluate, Step::FrameBase(0x3000)],
     )
 }
 

@@ -1,20 +1,21 @@
 /* The call that led to a frame, and what it passed (DWARF 5, section 3.4). */
 #include "private.h"
 
-/* Goes to the next call site of a function, in its blocks and in what is inlined into it. Gives back as
- * dwexpr_libdw_next_entry does. */
+/* Goes to the next call site of a function, in its blocks and in what is inlined into it. Gives back whether there is
+ * one. */
 static int next_call_site(struct dwexpr_libdw_walk *walk, Dwarf_Die *site)
 {
-    int enters = walk->depth == walk->floor, more; /* where it began */
-    while ((more = dwexpr_libdw_next_entry(walk, enters)) > 0) {
-        const int tag = dwarf_tag(&walk->path[walk->depth - 1]);
-        *site = walk->path[walk->depth - 1];
+    int enters = walk->path.length == walk->floor; /* where it began */
+    while (dwexpr_libdw_next_entry(walk, enters)) {
+        int tag;
+        *site = *dwexpr_libdw_here(walk);
+        tag = dwarf_tag(site);
         if (tag == DW_TAG_call_site || tag == DW_TAG_GNU_call_site)
             return 1;
         enters = tag == DW_TAG_lexical_block || tag == DW_TAG_inlined_subroutine || tag == DW_TAG_try_block ||
                  tag == DW_TAG_catch_block;
     }
-    return more;
+    return 0;
 }
 
 /* An attribute of a call site, which has another name before version 5. */
@@ -42,16 +43,20 @@ int dwexpr_libdw_find_call_site(dwexpr_libdw_frame *frame, Dwarf_Die *site)
     dwexpr_libdw_frame *caller = frame->source.caller;
     struct dwexpr_libdw_walk walk;
     int found = 0;
-    if (!caller || dwexpr_libdw_find_place(frame) || dwexpr_libdw_find_place(caller) || !frame->place.function.addr ||
-        !caller->place.function.addr || dwexpr_libdw_begin_walk(&walk, &caller->place.function))
+    if (!caller)
         return 0;
-    while (!found && next_call_site(&walk, site) > 0) {
+    dwexpr_libdw_find_place(frame);
+    dwexpr_libdw_find_place(caller);
+    if (!frame->place.function.addr || !caller->place.function.addr)
+        return 0;
+    dwexpr_libdw_begin_walk(&walk, &caller->place.function);
+    while (!found && next_call_site(&walk, site)) {
         Dwarf_Attribute attribute;
         Dwarf_Addr address;
         found = !dwarf_formaddr(attribute_of(site, DW_AT_call_return_pc, DW_AT_low_pc, &attribute), &address) &&
                 address == caller->place.address + 1;
     }
-    free(walk.path);
+    free(walk.path.items);
     return found;
 }
 
@@ -62,7 +67,7 @@ int dwexpr_libdw_call_target(Dwarf_Die *site, Dwarf_Attribute *target)
 
 /* ---- which function a call site names */
 
-/* The entry that an entry of a function is an instance of, or that it completes. */
+/* The entry of which a function's entry is an instance, or which it completes: the last of such a chain. */
 static Dwarf_Die root_of(const Dwarf_Die *function)
 {
     Dwarf_Die root = *function;
@@ -83,39 +88,34 @@ static const char *external_name(Dwarf_Die *function)
     return name != plain || dwarf_attr_integrate(function, DW_AT_external, &attribute) ? name : NULL;
 }
 
-int dwexpr_libdw_names(Dwarf_Die *site, const dwexpr_libdw_frame *caller, const dwexpr_libdw_frame *called)
+int dwexpr_libdw_names(Dwarf_Die *site, const dwexpr_libdw_frame *caller, const dwexpr_libdw_frame *called,
+                       uint64_t *address)
 {
     Dwarf_Die origin, function = called->place.function;
     const uint64_t entry = dwexpr_libdw_entry_of(called);
     Dwarf_Addr begin;
     struct dwexpr_libdw_symbol symbol;
-    const char *name, *wanted;
+    const char *wanted = external_name(&function);
+    *address = 0;
     if (!origin_of(site, &origin))
         return -1;
     if (root_of(&origin).addr == root_of(&function).addr)
         return 1;
-    if (dwexpr_libdw_has_entry(&origin, &begin))
-        return begin + caller->place.bias == entry;
-    name = symbol.name = external_name(&origin);
-    wanted = external_name(&function);
-    return name && ((wanted && !strcmp(name, wanted)) ||
-                    dwexpr_libdw_find_symbol(called->place.module, entry, &symbol));
+    if (dwexpr_libdw_has_entry(&origin, &begin)) {
+        *address = begin + caller->place.bias;
+        return *address == entry;
+    }
+    symbol.name = external_name(&origin);
+    if (symbol.name && ((wanted && !strcmp(symbol.name, wanted)) ||
+                        dwexpr_libdw_find_symbol(called->place.module, entry, &symbol)))
+        return 1;
+    symbol.name = dwexpr_libdw_linkage_name(&origin);
+    if (symbol.name && dwexpr_libdw_resolve(caller->source.dwfl, caller->place.module, 0, &symbol))
+        *address = symbol.address;
+    return 0;
 }
 
 /* ---- tail calls */
-
-uint64_t dwexpr_libdw_called_address(Dwarf_Die *site, const dwexpr_libdw_frame *caller)
-{
-    Dwarf_Die origin;
-    Dwarf_Addr entry;
-    struct dwexpr_libdw_symbol symbol;
-    if (origin_of(site, &origin) && dwexpr_libdw_has_entry(&origin, &entry))
-        return entry + caller->place.bias;
-    symbol.name = dwexpr_libdw_linkage_name(&origin);
-    return symbol.name && dwexpr_libdw_resolve(caller->source.dwfl, caller->place.module, 0, &symbol)
-               ? symbol.address
-               : 0;
-}
 
 int dwexpr_libdw_enter(const dwexpr_libdw_frame *caller, uint64_t address, dwexpr_libdw_frame *entered)
 {
@@ -133,44 +133,47 @@ int dwexpr_libdw_find_tail_call(const dwexpr_libdw_frame *between, const dwexpr_
 {
     struct dwexpr_libdw_walk walk;
     Dwarf_Die other;
-    int count = 0, more;
-    if (dwexpr_libdw_begin_walk(&walk, &between->place.function))
-        return 0;
-    while ((more = next_call_site(&walk, &other)) > 0)
+    uint64_t address;
+    int count = 0;
+    dwexpr_libdw_begin_walk(&walk, &between->place.function);
+    while (next_call_site(&walk, &other))
         if (is_tail_call(&other)) {
             *site = other;
             count++;
         }
-    free(walk.path);
-    return more == 0 && count == 1 && dwexpr_libdw_names(site, between, called) > 0;
+    free(walk.path.items);
+    return !walk.code && count == 1 && dwexpr_libdw_names(site, between, called, &address) > 0;
 }
 
-/* The most functions that are looked at for a tail call of the first of them. */
+/* How many functions are followed at most, in search of a tail call of the first one. */
 enum { MOST_FUNCTIONS = 32 };
 
-/* Adds the functions to which one leaves by tail calls. Gives back 1 if one of them may be the first, or if there is no
- * memory to know; else 0. */
+/* Adds the functions that one calls by tail calls. Gives back 1 if one of them may be the first function, or if there
+ * is no memory to know; else 0. */
 static int add_tail_calls(dwexpr_libdw_frame *functions, int at, int *count)
 {
+    dwexpr_libdw_frame *next;
     struct dwexpr_libdw_walk walk;
     Dwarf_Die site;
-    int found = dwexpr_libdw_begin_walk(&walk, &functions[at].place.function) != 0, more = 0, i;
-    while (!found && (more = next_call_site(&walk, &site)) > 0) {
-        dwexpr_libdw_frame *next = &functions[*count];
+    uint64_t address;
+    int found = 0, i;
+    dwexpr_libdw_begin_walk(&walk, &functions[at].place.function);
+    while (!found && next_call_site(&walk, &site)) {
         if (!is_tail_call(&site))
             continue;
-        found = dwexpr_libdw_names(&site, &functions[at], &functions[0]) != 0 || *count == MOST_FUNCTIONS;
-        if (found || !dwexpr_libdw_enter(&functions[at], dwexpr_libdw_called_address(&site, &functions[at]), next)) {
-            found = found || next->code == DWEXPR_LIBDW_NO_MEMORY;
-            continue;
+        next = &functions[*count];
+        if (dwexpr_libdw_names(&site, &functions[at], &functions[0], &address) || *count == MOST_FUNCTIONS)
+            found = 1;
+        else if (!dwexpr_libdw_enter(&functions[at], address, next))
+            found = next->code == DWEXPR_LIBDW_NO_MEMORY;
+        else {
+            for (i = 0; functions[i].place.function.addr != next->place.function.addr; i++)
+                ;
+            *count += i == *count;
         }
-        for (i = 0; i < *count; i++)
-            if (functions[i].place.function.addr == functions[*count].place.function.addr)
-                break;
-        *count += i == *count;
     }
-    free(walk.path);
-    return found || more < 0;
+    free(walk.path.items);
+    return found || walk.code;
 }
 
 int dwexpr_libdw_may_call_itself(dwexpr_libdw_frame *frame)
@@ -180,12 +183,10 @@ int dwexpr_libdw_may_call_itself(dwexpr_libdw_frame *frame)
     if (frame->is_checked)
         return frame->may_call_itself;
     frame->is_checked = 1;
-    frame->may_call_itself = 1;
     functions = (dwexpr_libdw_frame *)malloc((MOST_FUNCTIONS + 1) * sizeof *functions);
-    if (!functions)
-        return 1;
-    functions[0] = *frame;
-    frame->may_call_itself = 0;
+    frame->may_call_itself = !functions;
+    if (functions)
+        functions[0] = *frame;
     for (i = 0; i < count && !frame->may_call_itself; i++)
         frame->may_call_itself = add_tail_calls(functions, i, &count);
     free(functions);
@@ -212,7 +213,7 @@ int dwexpr_libdw_passed(Dwarf_Die *site, dwexpr_text place, dwexpr_encoding enco
 {
     Dwarf_Die parameter;
     int more;
-    for (more = dwarf_child(site, &parameter); more == 0; more = dwexpr_libdw_next_sibling(&parameter)) {
+    for (more = dwarf_child(site, &parameter); more == 0; more = dwarf_siblingof(&parameter, &parameter)) {
         const int is_old = dwarf_tag(&parameter) == DW_TAG_GNU_call_site_parameter;
         const unsigned names = is_old ? DW_AT_abstract_origin : DW_AT_call_parameter;
         Dwarf_Attribute attribute;

@@ -15,7 +15,7 @@ void dwexpr_libdw_bytes_of(uint64_t number, size_t size, int big_endian, uint8_t
 {
     size_t i;
     for (i = 0; i < size; i++)
-        bytes[big_endian ? size - 1 - i : i] = (uint8_t)(i < 8 ? number >> (8 * i) : 0);
+        bytes[big_endian ? size - 1 - i : i] = (uint8_t)(number >> (8 * i));
 }
 
 /* Bytes that are written if there is room. All are counted. */
@@ -141,7 +141,7 @@ uint32_t dwexpr_libdw_encode(const Dwarf_Op *operations, size_t count, size_t si
         const size_t whole = i + 1 < count ? (size_t)(op[1].offset - op->offset) : size > begin ? size - begin : 0;
         const size_t operands = whole > 1 && whole <= 1 + 10 + 256 ? whole - 1 : 0; /* more only a long block has */
         put(&writer, &op->atom, 1);
-        if (op->offset - operations[0].offset != begin || put_operands(&writer, op, operands, encoding) ||
+        if (put_operands(&writer, op, operands, encoding) ||
             ((size || i + 1 < count) && writer.length - begin != whole))
             return DWEXPR_LIBDW_NOT_ENCODABLE;
     }

@@ -3,77 +3,56 @@
 
 /* ---- a way without recursion */
 
-int dwexpr_libdw_next_sibling(Dwarf_Die *entry)
+void dwexpr_libdw_begin_walk(struct dwexpr_libdw_walk *walk, const Dwarf_Die *first)
 {
-    const char *before = (const char *)entry->addr;
-    const int more = dwarf_siblingof(entry, entry);
-    return more == 0 && (const char *)entry->addr <= before ? 1 : more;
+    memset(walk, 0, sizeof *walk);
+    walk->floor = 1;
+    walk->code = dwexpr_libdw_add(&walk->path, first, sizeof *first);
 }
 
-uint32_t dwexpr_libdw_begin_walk(struct dwexpr_libdw_walk *walk, const Dwarf_Die *first)
+Dwarf_Die *dwexpr_libdw_here(const struct dwexpr_libdw_walk *walk)
 {
-    walk->room = 0;
-    walk->depth = walk->floor = 1;
-    walk->path = (Dwarf_Die *)dwexpr_libdw_with_room(NULL, 0, &walk->room, sizeof *walk->path);
-    if (!walk->path)
-        return DWEXPR_LIBDW_NO_MEMORY;
-    walk->path[0] = *first;
-    walk->last = first->addr;
-    return 0;
-}
-
-/* Whether an entry stands after all where the walk was. */
-static int is_new(struct dwexpr_libdw_walk *walk, const Dwarf_Die *entry)
-{
-    if ((const char *)entry->addr <= (const char *)walk->last)
-        return 0;
-    walk->last = entry->addr;
-    return 1;
+    return (Dwarf_Die *)walk->path.items + walk->path.length - 1;
 }
 
 int dwexpr_libdw_next_entry(struct dwexpr_libdw_walk *walk, int enters)
 {
-    if (enters) {
-        Dwarf_Die *path = (Dwarf_Die *)dwexpr_libdw_with_room(walk->path, walk->depth, &walk->room, sizeof *path);
-        if (!path)
-            return -1;
-        walk->path = path;
-        if (dwarf_child(&walk->path[walk->depth - 1], &walk->path[walk->depth]) == 0 &&
-            is_new(walk, &walk->path[walk->depth])) {
-            walk->depth++;
-            return 1;
-        }
+    Dwarf_Die child;
+    if (!walk->code && enters && dwarf_child(dwexpr_libdw_here(walk), &child) == 0) {
+        walk->code = dwexpr_libdw_add(&walk->path, &child, sizeof child);
+        return !walk->code;
     }
-    for (; walk->depth > walk->floor; walk->depth--) {
-        Dwarf_Die *entry = &walk->path[walk->depth - 1];
-        if (dwarf_siblingof(entry, entry) == 0 && is_new(walk, entry))
+    for (; !walk->code && walk->path.length > walk->floor; walk->path.length--) {
+        Dwarf_Die *entry = dwexpr_libdw_here(walk);
+        if (dwarf_siblingof(entry, entry) == 0)
             return 1;
     }
     return 0;
 }
 
-uint32_t dwexpr_libdw_find_path(struct dwexpr_libdw_walk *walk, const Dwarf_Die *first, const Dwarf_Die *entry)
+void dwexpr_libdw_find_path(struct dwexpr_libdw_walk *walk, const Dwarf_Die *first, const Dwarf_Die *entry)
 {
-    uint32_t code = dwexpr_libdw_begin_walk(walk, first);
-    while (!code && walk->path[walk->depth - 1].addr != entry->addr) {
-        Dwarf_Die next, *path = (Dwarf_Die *)dwexpr_libdw_with_room(walk->path, walk->depth, &walk->room, sizeof *path);
-        if (!path) {
-            free(walk->path);
-            walk->path = NULL;
-            return DWEXPR_LIBDW_NO_MEMORY;
-        }
-        walk->path = path;
+    dwexpr_libdw_begin_walk(walk, first);
+    while (!walk->code && dwexpr_libdw_here(walk)->addr != entry->addr) {
+        Dwarf_Die next, below;
         /* it stands below the last one that doesn't stand after it */
-        if (dwarf_child(&path[walk->depth - 1], &next) || (const char *)next.addr > (const char *)entry->addr) {
-            walk->depth = 0;
+        if (dwarf_child(dwexpr_libdw_here(walk), &next) || (const char *)next.addr > (const char *)entry->addr) {
+            walk->path.length = 0;
             break;
         }
         do
-            path[walk->depth] = next;
-        while (!dwexpr_libdw_next_sibling(&next) && (const char *)next.addr <= (const char *)entry->addr);
-        walk->depth++;
+            below = next;
+        while (!dwarf_siblingof(&next, &next) && (const char *)next.addr <= (const char *)entry->addr);
+        walk->code = dwexpr_libdw_add(&walk->path, &below, sizeof below);
     }
-    return code;
+}
+
+Dwarf_Die dwexpr_libdw_innermost_function(struct dwexpr_libdw_walk *walk)
+{
+    Dwarf_Die none = {.addr = NULL};
+    while (walk->path.length && dwarf_tag(dwexpr_libdw_here(walk)) != DW_TAG_subprogram)
+        walk->path.length--;
+    return walk->path.length ? *dwexpr_libdw_here(walk) : none;
 }
 
 /* ---- types */
@@ -140,7 +119,7 @@ static uint64_t values_between(Dwarf_Die *enumeration, uint64_t lower, uint64_t 
     Dwarf_Die value;
     uint64_t count = 0;
     int more;
-    for (more = dwarf_child(enumeration, &value); more == 0; more = dwexpr_libdw_next_sibling(&value)) {
+    for (more = dwarf_child(enumeration, &value); more == 0; more = dwarf_siblingof(&value, &value)) {
         Dwarf_Attribute attribute;
         Dwarf_Sword found;
         if (dwarf_tag(&value) == DW_TAG_enumerator &&
@@ -150,16 +129,21 @@ static uint64_t values_between(Dwarf_Die *enumeration, uint64_t lower, uint64_t 
     return count;
 }
 
+/* Sets a number to that of an attribute. It stays as it is if the entry has none. */
+static uint32_t number_of(const struct dwexpr_libdw_given *given, Dwarf_Die *entry, unsigned name, uint64_t *number)
+{
+    Dwarf_Attribute attribute;
+    return dwarf_attr_integrate(entry, name, &attribute) ? dwexpr_libdw_number_with(given, &attribute, number) : 0;
+}
+
 /* The bits between two elements, or two indexes, as an entry says them; 0 if it doesn't. */
 static uint32_t stride_of(const struct dwexpr_libdw_given *given, Dwarf_Die *entry, uint64_t *bits)
 {
-    Dwarf_Attribute attribute;
-    uint32_t code = 0;
+    uint32_t code;
     *bits = 0;
-    if (dwarf_attr_integrate(entry, DW_AT_bit_stride, &attribute))
-        return dwexpr_libdw_number_with(given, &attribute, bits);
-    if (dwarf_attr_integrate(entry, DW_AT_byte_stride, &attribute))
-        code = dwexpr_libdw_number_with(given, &attribute, bits);
+    if (dwarf_hasattr_integrate(entry, DW_AT_bit_stride))
+        return number_of(given, entry, DW_AT_bit_stride, bits);
+    code = number_of(given, entry, DW_AT_byte_stride, bits);
     *bits *= 8;
     return code;
 }
@@ -174,56 +158,57 @@ static int is_enumeration(Dwarf_Die *range, Dwarf_Die *enumeration)
     return dwarf_tag(enumeration) == DW_TAG_enumeration_type;
 }
 
+/* The language of an entry's unit, DW_LANG_*; -1 if it isn't known. */
+static int language_of(Dwarf_Die *entry)
+{
+    Dwarf_Die unit;
+    dwarf_diecu(entry, &unit, NULL, NULL);
+    return dwarf_srclang(&unit);
+}
+
 static uint32_t dimension(const struct dwexpr_libdw_given *given, Dwarf_Die *range, struct dimension *found)
 {
-    Dwarf_Attribute attribute;
-    Dwarf_Die unit;
-    Dwarf_Sword first;
+    Dwarf_Sword first = 0;
     uint64_t upper;
     uint32_t code = stride_of(given, range, &found->stride);
-    const int language = dwarf_diecu(range, &unit, NULL, NULL) ? dwarf_srclang(&unit) : -1;
-    found->lower = found->count = 0;
+    found->count = 0;
     found->has_count = 1;
+    dwarf_default_lower_bound(language_of(range), &first);
+    found->lower = (uint64_t)first;
     if (!is_enumeration(range, &found->index))
         found->index.addr = NULL;
-    if (!code && dwarf_attr_integrate(range, DW_AT_lower_bound, &attribute))
-        code = dwexpr_libdw_number_with(given, &attribute, &found->lower);
-    else if (language >= 0 && !dwarf_default_lower_bound(language, &first))
-        found->lower = (uint64_t)first;
-    if (!code && dwarf_attr_integrate(range, DW_AT_count, &attribute))
-        return dwexpr_libdw_number_with(given, &attribute, &found->count);
+    if (!code)
+        code = number_of(given, range, DW_AT_lower_bound, &found->lower);
+    if (code)
+        return code;
+    if (dwarf_hasattr_integrate(range, DW_AT_count))
+        return number_of(given, range, DW_AT_count, &found->count);
     if (dwarf_tag(range) == DW_TAG_enumeration_type) {
         found->lower = (uint64_t)INT64_MIN;
         found->count = values_between(range, found->lower, INT64_MAX);
-    } else if (!code && dwarf_attr_integrate(range, DW_AT_upper_bound, &attribute)) {
-        code = dwexpr_libdw_number_with(given, &attribute, &upper);
-        /* an upper bound below the lower one is an array without elements */
-        if (code || (int64_t)(upper - found->lower) < -1)
-            return code;
+        return 0;
+    }
+    found->has_count = dwarf_hasattr_integrate(range, DW_AT_upper_bound);
+    upper = found->lower - 1;
+    code = number_of(given, range, DW_AT_upper_bound, &upper);
+    /* an upper bound below the lower one is an array without elements */
+    if (!code && (int64_t)(upper - found->lower) >= -1)
         found->count = found->index.addr ? values_between(&found->index, found->lower, upper + 1)
                                          : upper - found->lower + 1;
-    } else {
-        found->has_count = 0;
-    }
     return code;
 }
 
 enum { MOST_DIMENSIONS = 64 };
 
 /* The dimensions of an array: an entry for each, or one for all, whose number is computed (DW_AT_rank). */
-static uint32_t dimensions(dwexpr_libdw_frame *frame, Dwarf_Die *array, const uint64_t *object,
-                           struct dimension *found, size_t *count)
+static uint32_t dimensions(struct dwexpr_libdw_given given, Dwarf_Die *array, struct dimension *found, size_t *count)
 {
-    struct dwexpr_libdw_given given = {frame, object, NULL};
-    Dwarf_Attribute attribute;
     Dwarf_Die range;
     uint64_t rank = 1, i;
-    uint32_t code = 0;
+    uint32_t code = number_of(&given, array, DW_AT_rank, &rank);
     int more;
     *count = 0;
-    if (dwarf_attr_integrate(array, DW_AT_rank, &attribute))
-        code = dwexpr_libdw_number_with(&given, &attribute, &rank);
-    for (more = dwarf_child(array, &range); more == 0 && !code; more = dwexpr_libdw_next_sibling(&range)) {
+    for (more = dwarf_child(array, &range); more == 0 && !code; more = dwarf_siblingof(&range, &range)) {
         const int tag = dwarf_tag(&range);
         const int is_generic = tag == DW_TAG_generic_subrange;
         if (tag != DW_TAG_subrange_type && tag != DW_TAG_enumeration_type && !is_generic)
@@ -235,17 +220,21 @@ static uint32_t dimensions(dwexpr_libdw_frame *frame, Dwarf_Die *array, const ui
     return code;
 }
 
+/* Multiplies a number. Answers DWEXPR_LIBDW_NO_NUMBER if the product has more than 64 bits. */
+static uint32_t multiply(uint64_t *number, uint64_t factor)
+{
+    return __builtin_mul_overflow(*number, factor, number) ? DWEXPR_LIBDW_NO_NUMBER : 0;
+}
+
 /* How many elements an array has in all its dimensions. */
 static uint32_t elements(const struct dimension *found, size_t dimensions, uint64_t *count)
 {
+    uint32_t code = 0;
     size_t i;
     *count = 1;
-    for (i = 0; i < dimensions; i++) {
-        if (!found[i].has_count || (found[i].count && *count > UINT64_MAX / found[i].count))
-            return DWEXPR_LIBDW_NO_NUMBER;
-        *count *= found[i].count;
-    }
-    return 0;
+    for (i = 0; i < dimensions && !code; i++)
+        code = found[i].has_count ? multiply(count, found[i].count) : DWEXPR_LIBDW_NO_NUMBER;
+    return code;
 }
 
 /* Whether the first index of an array is the one that changes fastest (DW_AT_ordering, else as the language has it). */
@@ -253,14 +242,21 @@ static int is_first_fastest(Dwarf_Die *array)
 {
     Dwarf_Attribute attribute;
     Dwarf_Word ordering;
-    Dwarf_Die unit;
     if (!dwarf_formudata(dwarf_attr_integrate(array, DW_AT_ordering, &attribute), &ordering))
         return ordering == DW_ORD_col_major;
-    switch (dwarf_diecu(array, &unit, NULL, NULL) ? dwarf_srclang(&unit) : -1) {
+    switch (language_of(array)) {
     case DW_LANG_Fortran77: case DW_LANG_Fortran90: case DW_LANG_Fortran95: case DW_LANG_Fortran03:
     case DW_LANG_Fortran08: return 1;
     default: return 0;
     }
+}
+
+/* The bytes of the type of an entry. */
+static uint32_t size_of(const struct dwexpr_libdw_given *given, Dwarf_Die *entry, uint64_t *bytes)
+{
+    Dwarf_Die type;
+    const uint32_t code = dwexpr_libdw_type(entry, &type);
+    return code ? code : dwexpr_libdw_size(given->frame, &type, given->object, bytes);
 }
 
 uint32_t dwexpr_libdw_element(dwexpr_libdw_frame *frame, Dwarf_Die *array, const uint64_t *object,
@@ -268,15 +264,12 @@ uint32_t dwexpr_libdw_element(dwexpr_libdw_frame *frame, Dwarf_Die *array, const
 {
     const struct dwexpr_libdw_given given = {frame, object, NULL};
     struct dimension found[MOST_DIMENSIONS];
-    Dwarf_Die type;
     uint64_t next;
     size_t length, i;
-    uint32_t code = dimensions(frame, array, object, found, &length);
+    uint32_t code = dimensions(given, array, found, &length);
     *begin = *bits = 0;
     if (!code)
-        code = dwexpr_libdw_type(array, &type);
-    if (!code)
-        code = dwexpr_libdw_size(frame, &type, object, bits);
+        code = size_of(&given, array, bits);
     *bits *= 8;
     if (!code)
         code = stride_of(&given, array, &next);
@@ -291,8 +284,7 @@ uint32_t dwexpr_libdw_element(dwexpr_libdw_frame *frame, Dwarf_Die *array, const
         const uint64_t place = here->index.addr
                                    ? values_between(&here->index, here->lower, (uint64_t)indexes[at])
                                    : (uint64_t)indexes[at] - here->lower;
-        if (indexes[at] < (int64_t)here->lower || (here->has_count && place >= here->count) ||
-            (!here->has_count && i + 1 < length))
+        if (indexes[at] < (int64_t)here->lower || (here->has_count ? place >= here->count : i + 1 < length))
             return DWEXPR_LIBDW_NO_NUMBER;
         *begin += place * (here->stride ? here->stride : next);
         next *= here->count;
@@ -302,34 +294,28 @@ uint32_t dwexpr_libdw_element(dwexpr_libdw_frame *frame, Dwarf_Die *array, const
 
 uint32_t dwexpr_libdw_data(dwexpr_libdw_frame *frame, Dwarf_Die *type, uint64_t object, uint64_t *address)
 {
-    static const unsigned names[] = {DW_AT_allocated, DW_AT_associated};
-    Dwarf_Attribute attribute;
-    size_t i;
-    for (i = 0; i < 2; i++) {
-        uint64_t is_there = 1;
-        const uint32_t code = dwarf_attr_integrate(type, names[i], &attribute)
-                                  ? dwexpr_libdw_number(frame, &attribute, &object, &is_there)
-                                  : 0;
-        if (code || !is_there)
-            return code ? code : DWEXPR_LIBDW_OPTIMIZED_AWAY;
-    }
+    const struct dwexpr_libdw_given given = {frame, &object, NULL};
+    uint64_t is_allocated = 1, is_associated = 1;
+    uint32_t code = number_of(&given, type, DW_AT_allocated, &is_allocated);
+    if (!code)
+        code = number_of(&given, type, DW_AT_associated, &is_associated);
+    if (code || !is_allocated || !is_associated)
+        return code ? code : DWEXPR_LIBDW_OPTIMIZED_AWAY;
     *address = object;
-    return dwarf_attr_integrate(type, DW_AT_data_location, &attribute)
-               ? dwexpr_libdw_number(frame, &attribute, &object, address)
-               : 0;
+    return number_of(&given, type, DW_AT_data_location, address);
 }
 
 /* ---- sizes */
 
 /* The bytes of a type that isn't an array and has no DW_AT_byte_size. */
-static uint32_t other_size(dwexpr_libdw_frame *frame, Dwarf_Die *type, const uint64_t *object, uint64_t *bytes)
+static uint32_t other_size(const struct dwexpr_libdw_given *given, Dwarf_Die *type, uint64_t *bytes)
 {
     Dwarf_Attribute attribute;
     Dwarf_Die unit, target;
     uint8_t address_size = 0;
     uint32_t code;
     if (has_in_base(type, DW_AT_byte_size, &attribute))
-        return dwexpr_libdw_number(frame, &attribute, object, bytes);
+        return dwexpr_libdw_number_with(given, &attribute, bytes);
     dwarf_diecu(type, &unit, &address_size, NULL);
     *bytes = address_size;
     switch (dwarf_tag(type)) {
@@ -339,14 +325,14 @@ static uint32_t other_size(dwexpr_libdw_frame *frame, Dwarf_Die *type, const uin
             *bytes *= 2;
         return 0;
     case DW_TAG_string_type:
-        return dwarf_attr_integrate(type, DW_AT_string_length, &attribute)
-                   ? dwexpr_libdw_string_length(frame, type, &attribute, object, bytes)
-                   : DWEXPR_LIBDW_NO_NUMBER;
+        if (dwarf_attr_integrate(type, DW_AT_string_length, &attribute))
+            return dwexpr_libdw_string_length(given, type, &attribute, bytes);
+        break;
     default: break;
     }
-    if (!dwarf_attr_integrate(type, DW_AT_bit_size, &attribute))
+    if (!dwarf_hasattr_integrate(type, DW_AT_bit_size))
         return DWEXPR_LIBDW_NO_NUMBER;
-    code = dwexpr_libdw_number(frame, &attribute, object, bytes);
+    code = number_of(given, type, DW_AT_bit_size, bytes);
     *bytes = *bytes / 8 + (*bytes % 8 != 0);
     return code;
 }
@@ -354,70 +340,62 @@ static uint32_t other_size(dwexpr_libdw_frame *frame, Dwarf_Die *type, const uin
 uint32_t dwexpr_libdw_size(dwexpr_libdw_frame *frame, Dwarf_Die *type, const uint64_t *object, uint64_t *bytes)
 {
     const struct dwexpr_libdw_given given = {frame, object, NULL};
-    Dwarf_Attribute attribute;
     Dwarf_Die kind = *type;
-    uint64_t count, stride, factor = 1;
+    uint64_t factor = 1;
     uint32_t code = 0;
     int steps;
     *bytes = 0;
     /* the sizes of arrays of arrays are multiplied */
     for (steps = 0; steps < 64 && !code; steps++) {
         struct dimension found[MOST_DIMENSIONS];
+        uint64_t count, stride;
         size_t length;
         if (is_left_out(dwarf_tag(&kind)))
             code = dwexpr_libdw_type(&kind, &kind);
         if (!code && dwarf_hasattr(&kind, DW_AT_declaration))
             code = dwexpr_libdw_definition(frame, &kind, &kind);
         if (code)
-            break;
-        if (dwarf_attr_integrate(&kind, DW_AT_byte_size, &attribute) || dwarf_tag(&kind) != DW_TAG_array_type) {
-            code = other_size(frame, &kind, object, bytes);
-            if (!code && *bytes && factor > UINT64_MAX / *bytes)
-                code = DWEXPR_LIBDW_NO_NUMBER;
-            *bytes *= factor;
             return code;
+        if (dwarf_hasattr_integrate(&kind, DW_AT_byte_size) || dwarf_tag(&kind) != DW_TAG_array_type) {
+            code = other_size(&given, &kind, bytes);
+            return code ? code : multiply(bytes, factor);
         }
-        code = dimensions(frame, &kind, object, found, &length);
+        code = dimensions(given, &kind, found, &length);
         if (!code)
             code = elements(found, length, &count);
         if (!code)
             code = stride_of(&given, &kind, &stride);
-        if (code || (count && (factor > UINT64_MAX / count || stride > UINT64_MAX / 2 / count)))
-            break;
-        if (stride) {
-            const uint64_t whole = (count * stride + 7) / 8;
-            if (whole && factor > UINT64_MAX / whole)
-                break;
-            *bytes = factor * whole;
-            return 0;
+        if (!code && stride) {
+            code = multiply(&stride, count);
+            *bytes = stride / 8 + (stride % 8 != 0);
+            return code ? code : multiply(bytes, factor);
         }
-        factor *= count;
-        code = dwexpr_libdw_type(&kind, &kind);
+        if (!code)
+            code = multiply(&factor, count);
+        if (!code)
+            code = dwexpr_libdw_type(&kind, &kind);
     }
     return code ? code : DWEXPR_LIBDW_NO_NUMBER;
 }
 
-/* The bits of a bit field, which DWARF 3 counts from the highest bit of the bytes that hold it (section 5.6.6). */
-static uint32_t old_bit_field(dwexpr_libdw_frame *frame, Dwarf_Die *member, uint64_t highest, uint64_t bits,
-                              uint64_t *begin)
+/* Adds to where the bytes begin that hold a bit field. DWARF 3 counts its bits from their highest one (5.6.6). */
+static uint32_t add_old_offset(const struct dwexpr_libdw_given *given, Dwarf_Die *member, uint64_t bits,
+                               uint64_t *begin)
 {
-    Dwarf_Attribute attribute;
-    Dwarf_Die type;
     dwexpr_encoding encoding;
-    uint64_t bytes;
-    uint32_t code;
-    if (dwarf_attr(member, DW_AT_byte_size, &attribute))
-        code = dwexpr_libdw_number(frame, &attribute, NULL, &bytes);
-    else
-        code = dwexpr_libdw_type(member, &type) ? DWEXPR_LIBDW_NO_NUMBER
-                                                : dwexpr_libdw_size(frame, &type, NULL, &bytes);
-    if (code || !dwarf_attr(member, DW_AT_bit_offset, &attribute) || dwexpr_libdw_encoding(attribute.cu, &encoding))
-        return code ? code : DWEXPR_LIBDW_FAILED;
-    *begin += encoding.big_endian ? highest : 8 * bytes - highest - bits;
-    return 0;
+    uint64_t highest = 0, bytes = 0;
+    uint32_t code = number_of(given, member, DW_AT_bit_offset, &highest);
+    if (!code)
+        code = dwarf_hasattr(member, DW_AT_byte_size) ? number_of(given, member, DW_AT_byte_size, &bytes)
+                                                      : size_of(given, member, &bytes);
+    if (!code)
+        code = dwexpr_libdw_encoding(member->cu, &encoding);
+    if (!code)
+        *begin += encoding.big_endian ? highest : 8 * bytes - highest - bits;
+    return code;
 }
 
-/* Where a member begins, unless it is a bit field whose place needs the bits. */
+/* Where a member begins, or the bytes that hold it if DW_AT_bit_offset counts in them. */
 static uint32_t member_begin(dwexpr_libdw_frame *frame, Dwarf_Die *member, const uint64_t *object, uint64_t *begin)
 {
     /* an expression gives the member's address */
@@ -441,25 +419,19 @@ static uint32_t member_begin(dwexpr_libdw_frame *frame, Dwarf_Die *member, const
 uint32_t dwexpr_libdw_member(dwexpr_libdw_frame *frame, Dwarf_Die *member, const uint64_t *object, uint64_t *begin,
                              uint64_t *bits)
 {
-    Dwarf_Attribute attribute;
-    Dwarf_Die type;
-    uint64_t number, unused;
-    const int is_old = dwarf_attr(member, DW_AT_bit_offset, &attribute) != NULL;
+    const struct dwexpr_libdw_given given = {frame, object, NULL};
+    const int is_old = dwarf_hasattr(member, DW_AT_bit_offset);
+    uint64_t unused;
     uint32_t code = member_begin(frame, member, object, begin);
     if (code || (!bits && !is_old))
         return code;
     bits = bits ? bits : &unused;
     *bits = 0;
-    if (dwarf_attr(member, DW_AT_bit_size, &attribute))
-        code = dwexpr_libdw_number(frame, &attribute, NULL, bits);
-    else if (dwexpr_libdw_type(member, &type))
-        code = DWEXPR_LIBDW_FAILED;
-    else if (!(code = dwexpr_libdw_size(frame, &type, object, bits)))
+    if (dwarf_hasattr(member, DW_AT_bit_size)) {
+        code = number_of(&given, member, DW_AT_bit_size, bits);
+    } else {
+        code = size_of(&given, member, bits);
         *bits *= 8;
-    if (!code && dwarf_attr(member, DW_AT_bit_offset, &attribute)) {
-        code = dwexpr_libdw_number(frame, &attribute, NULL, &number);
-        if (!code)
-            code = old_bit_field(frame, member, number, *bits, begin);
     }
-    return code;
+    return code || !is_old ? code : add_old_offset(&given, member, *bits, begin);
 }

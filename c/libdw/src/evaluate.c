@@ -1,16 +1,16 @@
 /* Expressions, evaluated in a frame. */
 #include "private.h"
 
-/* What an expression is for. That of a frame base can't ask for the frame base, and that of a CFA asks only for
- * registers and memory. */
+/* What an expression is for. A frame base's can't ask for the frame base; a CFA's can only ask for registers and
+ * memory. */
 enum purpose { FOR_VALUE, FOR_BASE, FOR_CFA };
 
 /* The most operations of an expression. */
 #define OPERATIONS 100000
 #define TEXTS (sizeof ((dwexpr_libdw_value *)0)->texts / sizeof(dwexpr_text))
 
-/* An expression that is evaluated. One that asks for a value on entry waits until that of the caller's is there, which
- * may wait for another: so values that go through many callers take no stack. */
+/* An evaluation. If it asks for a value on entry, it waits for an evaluation in the caller, which may wait in turn. So
+ * values that go through many callers take no stack. */
 struct job {
     struct job *waits; /* the one that waits for this one's number, or NULL */
     enum purpose purpose;
@@ -28,11 +28,10 @@ struct job {
     uint64_t memory[DWEXPR_EVALUATION_SIZE / 8];
 };
 
-static uint32_t evaluate_for(enum purpose purpose, dwexpr_libdw_frame *frame, const dwexpr_libdw_text *expression,
-                             const uint64_t *object, const uint64_t *initial, uint32_t *left,
-                             dwexpr_libdw_value **value);
-static uint32_t attribute_number(enum purpose purpose, dwexpr_libdw_frame *frame, Dwarf_Attribute *attribute,
-                                 const uint64_t *object, const uint64_t *initial, uint32_t *left, uint64_t *number);
+static uint32_t evaluate_for(enum purpose purpose, const struct dwexpr_libdw_given *given,
+                             const dwexpr_libdw_text *expression, uint32_t *left, dwexpr_libdw_value **value);
+static uint32_t attribute_number(enum purpose purpose, const struct dwexpr_libdw_given *given,
+                                 Dwarf_Attribute *attribute, uint32_t *left, uint64_t *number);
 
 /* ---- answers from the frame */
 
@@ -46,18 +45,19 @@ static uint32_t register_number(const dwexpr_libdw_frame *frame, uint32_t number
     return code;
 }
 
-static int memory_number(const struct job *job, uint64_t *content)
+static uint32_t memory_number(const struct job *job, uint64_t *content)
 {
     const dwexpr_outcome *asked = &job->value->outcome;
     uint8_t bytes[UINT8_MAX] = {0};
-    if (asked->flag || dwexpr_libdw_memory(job->frame, asked->number, bytes, asked->size))
-        return 1;
+    const uint32_t code = asked->flag ? DWEXPR_LIBDW_NOT_READABLE
+                                      : dwexpr_libdw_memory(job->frame, asked->number, bytes, asked->size);
     *content = dwexpr_libdw_number_of(bytes, asked->size, job->value->encoding.big_endian);
-    return 0;
+    return code;
 }
 
 static uint32_t find_base(dwexpr_libdw_frame *frame, uint32_t *left)
 {
+    const struct dwexpr_libdw_given given = {frame, NULL, NULL};
     Dwarf_Attribute attribute;
     uint32_t code;
     if (frame->has_base)
@@ -66,7 +66,7 @@ static uint32_t find_base(dwexpr_libdw_frame *frame, uint32_t *left)
     if (!frame->place.function.addr ||
         !dwarf_attr_integrate(&frame->place.function, DW_AT_frame_base, &attribute))
         return DWEXPR_LIBDW_OPTIMIZED_AWAY;
-    code = attribute_number(FOR_BASE, frame, &attribute, NULL, NULL, left, &frame->base);
+    code = attribute_number(FOR_BASE, &given, &attribute, left, &frame->base);
     frame->has_base = !code;
     return code;
 }
@@ -91,7 +91,7 @@ static uint32_t find_rule(dwexpr_libdw_frame *frame, int number, dwexpr_libdw_te
     return code;
 }
 
-/* The number that a value is, or that its register has. */
+/* The number of a value that is one, or that is in a register. */
 static uint32_t number_of_value(const dwexpr_libdw_frame *frame, const dwexpr_libdw_value *value, uint64_t *number)
 {
     if (value->outcome.value_type != DWEXPR_NO_TYPE) {
@@ -103,20 +103,29 @@ static uint32_t number_of_value(const dwexpr_libdw_frame *frame, const dwexpr_li
     return register_number(frame, (uint32_t)value->pieces[0].number, value->encoding.big_endian, number);
 }
 
+/* The number that an expression comes to. */
+static uint32_t expression_number(enum purpose purpose, const struct dwexpr_libdw_given *given,
+                                  const dwexpr_libdw_text *expression, uint32_t *left, uint64_t *number)
+{
+    dwexpr_libdw_value *value;
+    uint32_t code = evaluate_for(purpose, given, expression, left, &value);
+    if (!code)
+        code = number_of_value(given->frame, value, number);
+    dwexpr_libdw_release(value);
+    return code;
+}
+
 static uint32_t find_cfa(dwexpr_libdw_frame *frame, uint32_t *left)
 {
+    const struct dwexpr_libdw_given given = {frame, NULL, NULL};
     dwexpr_libdw_text rule;
-    dwexpr_libdw_value *value = NULL;
     uint32_t code;
     if (frame->has_cfa)
         return 0;
     code = find_rule(frame, DWEXPR_LIBDW_CFA, &rule);
     if (!code)
-        code = evaluate_for(FOR_CFA, frame, &rule, NULL, NULL, left, &value);
-    if (!code)
-        code = number_of_value(frame, value, &frame->cfa);
+        code = expression_number(FOR_CFA, &given, &rule, left, &frame->cfa);
     frame->has_cfa = !code;
-    dwexpr_libdw_release(value);
     dwexpr_libdw_free_text(&rule);
     return code;
 }
@@ -143,6 +152,11 @@ static uint32_t expression_in(dwexpr_libdw_frame *frame, Dwarf_Attribute *attrib
     return dwexpr_libdw_expression(attribute, frame->place.address + frame->place.bias - bias, expression);
 }
 
+static int has_bytes(dwexpr_text text, const uint8_t *bytes, size_t length)
+{
+    return text.length == length && (!length || !memcmp(text.bytes, bytes, length));
+}
+
 /* The text of a call's entry, by its index in the table. */
 static uint32_t location_of(struct job *job, size_t *index)
 {
@@ -150,10 +164,9 @@ static uint32_t location_of(struct job *job, size_t *index)
     const dwexpr_outcome *asked = &value->outcome;
     Dwarf_Die entry;
     Dwarf_Attribute attribute;
-    dwexpr_libdw_text called;
+    dwexpr_libdw_text called = {.memory = NULL};
     uint32_t code = 0;
-    size_t i;
-    memset(&called, 0, sizeof called);
+    size_t i = 0;
     if (entry_of(&job->unit, asked->flag ? DW_OP_call_ref : DW_OP_call4, asked->number, &entry))
         return DWEXPR_LIBDW_FAILED;
     if (dwarf_attr_integrate(&entry, DW_AT_location, &attribute))
@@ -161,50 +174,48 @@ static uint32_t location_of(struct job *job, size_t *index)
     if (code && code != DWEXPR_LIBDW_OPTIMIZED_AWAY)
         return code;
     /* a second call of the same entry is a call of the same text */
-    for (i = 0; i < value->texts_length; i++)
-        if (value->texts[i].length == called.text.length &&
-            (!called.text.length || !memcmp(value->texts[i].bytes, called.text.bytes, called.text.length)))
-            break;
+    while (i < value->texts_length && !has_bytes(value->texts[i], called.text.bytes, called.text.length))
+        i++;
     *index = i;
-    if (i < value->texts_length) {
+    if (i < value->texts_length)
         dwexpr_libdw_free_text(&called);
-        return 0;
-    }
+    else if (i < TEXTS)
+        value->texts[value->texts_length++] = called.text;
     dwexpr_libdw_keep(&called, &value->memory);
-    if (i == TEXTS)
-        return DWEXPR_TOO_MANY_TEXTS;
-    value->texts[value->texts_length++] = called.text;
-    return 0;
+    return i < TEXTS ? 0 : DWEXPR_TOO_MANY_TEXTS;
 }
 
 /* Makes an address in the debug information one of the process. */
 static int relocate(struct job *job, uint64_t *address)
 {
     Dwfl_Module *module;
-    Dwarf_Addr bias;
+    Dwarf_Addr bias = 0;
     const int failed = dwexpr_libdw_find_module(job->frame, job->unit.cu, &module, &bias);
-    *address += failed ? 0 : bias;
+    *address += bias;
     return failed;
+}
+
+static int find_tls(const dwexpr_libdw_frame *frame, Dwfl_Module *module, uint64_t offset, uint64_t *address)
+{
+    const dwexpr_libdw_source *source = &frame->source;
+    return !module || !source->find_tls || source->find_tls(source->context, module, offset, address);
 }
 
 /* The address of an offset in the thread-local storage of the expression's module. */
 static int thread_local_address(struct job *job, uint64_t *address)
 {
-    const dwexpr_libdw_source *source = &job->frame->source;
     Dwfl_Module *module;
     Dwarf_Addr bias;
-    return dwexpr_libdw_find_module(job->frame, job->unit.cu, &module, &bias) || !module || !source->find_tls ||
-           source->find_tls(source->context, module, job->value->outcome.number, address);
+    return dwexpr_libdw_find_module(job->frame, job->unit.cu, &module, &bias) ||
+           find_tls(job->frame, module, job->value->outcome.number, address);
 }
 
 static int indexed_address(struct job *job, uint64_t *address)
 {
     Dwarf_Op operation = {DW_OP_addrx, job->value->outcome.number, 0, 0};
     Dwarf_Attribute attribute;
-    if (!job->unit.cu || dwarf_getlocation_attr(&job->unit, &operation, &attribute) ||
-        dwarf_formaddr(&attribute, address))
-        return 1;
-    return job->value->outcome.flag && relocate(job, address);
+    return !job->unit.cu || dwarf_getlocation_attr(&job->unit, &operation, &attribute) ||
+           dwarf_formaddr(&attribute, address) || (job->value->outcome.flag && relocate(job, address));
 }
 
 /* Whether an expression has no operations but of these kinds. */
@@ -219,7 +230,7 @@ static int has_only(dwexpr_text text, dwexpr_encoding encoding, const uint8_t *k
     return 1;
 }
 
-/* Whether an expression only moves values: then a number can have the bits of a float. */
+/* Whether an expression only moves values. A float may then be handled as a number with the same bits. */
 static int moves_only(dwexpr_text text, dwexpr_encoding encoding)
 {
     static const uint8_t kinds[] = {DWEXPR_OP_DEREF, DWEXPR_OP_UNSIGNED_CONSTANT, DWEXPR_OP_SIGNED_CONSTANT,
@@ -230,15 +241,12 @@ static int moves_only(dwexpr_text text, dwexpr_encoding encoding)
     return has_only(text, encoding, kinds, sizeof kinds);
 }
 
-/* The type of whole numbers for a base type. */
+/* The integer type that stands for a base type. */
 static int base_type_of(struct job *job, uint64_t offset, uint32_t *value_type)
 {
     Dwarf_Die type;
-    Dwarf_Attribute attribute;
     Dwarf_Word size, encoding;
-    if (entry_of(&job->unit, DW_OP_convert, offset, &type) ||
-        dwarf_formudata(dwarf_attr(&type, DW_AT_byte_size, &attribute), &size) ||
-        dwarf_formudata(dwarf_attr(&type, DW_AT_encoding, &attribute), &encoding))
+    if (entry_of(&job->unit, DW_OP_convert, offset, &type) || dwexpr_libdw_scalar(&type, &size, &encoding))
         return 1;
     switch (encoding) {
     case DW_ATE_float:
@@ -267,7 +275,7 @@ static void end_job(struct job *job)
     free(job);
 }
 
-/* Takes memory for the evaluation of an expression, one of those that are left. */
+/* Makes an evaluation. `left` counts how many more there may be. */
 static uint32_t make_job(enum purpose purpose, dwexpr_libdw_frame *frame, const dwexpr_libdw_text *expression,
                          uint32_t *left, struct job **made)
 {
@@ -297,14 +305,14 @@ static uint32_t make_job(enum purpose purpose, dwexpr_libdw_frame *frame, const 
     return 0;
 }
 
-static uint32_t start(struct job *job, const uint64_t *object, const uint64_t *initial)
+static uint32_t start(struct job *job, const struct dwexpr_libdw_given *given)
 {
     dwexpr_libdw_value *value = job->value;
     const dwexpr_settings settings = {.max_iterations = OPERATIONS,
-                                      .has_object_address = object != NULL,
-                                      .has_initial_value = initial != NULL,
-                                      .object_address = object ? *object : 0,
-                                      .initial_value = initial ? *initial : 0};
+                                      .has_object_address = given->object != NULL,
+                                      .has_initial_value = given->initial != NULL,
+                                      .object_address = given->object ? *given->object : 0,
+                                      .initial_value = given->initial ? *given->initial : 0};
     if (!value->texts[0].length)
         return DWEXPR_LIBDW_OPTIMIZED_AWAY;
     /* it has the bias of addresses */
@@ -320,7 +328,7 @@ static uint32_t resume(struct job *job)
                                     value->pieces, DWEXPR_MAX_PIECES);
 }
 
-/* What a job answers if its request can't be answered, as why the answer isn't there. */
+/* The code of a job whose request can't be answered: `why` if a limit was reached, else the request. */
 static uint32_t refused(const struct job *job, uint32_t why)
 {
     const int is_limit = why == DWEXPR_LIBDW_NO_MEMORY || why == DWEXPR_LIBDW_TOO_MANY_EXPRESSIONS ||
@@ -330,7 +338,7 @@ static uint32_t refused(const struct job *job, uint32_t why)
 
 /* ---- values on entry */
 
-/* Makes the job of an attribute in the caller, for whose number a job waits. */
+/* Makes the job that evaluates an attribute in the caller. The first job waits for its number. */
 static uint32_t ask_caller(struct job *job, Dwarf_Attribute *attribute, uint32_t *left, struct job **next)
 {
     dwexpr_libdw_frame *caller = job->between ? job->between : job->frame->source.caller;
@@ -356,12 +364,11 @@ static uint32_t ask_passed(struct job *job, uint32_t *left, struct job **next)
     return ask_caller(job, &attribute, left, next);
 }
 
-/* Asks for what a function passed that the caller called at an address, and that left by a tail call. Its own values
- * are those that it had on entry. */
+/* The caller called another function, at `address`, which then left for this one by a tail call. Asks for what that
+ * function passed. Its own values are those that it had on entry. */
 static uint32_t ask_between(struct job *job, uint64_t address, uint32_t *left, struct job **next)
 {
-    if (!job->between)
-        job->between = (dwexpr_libdw_frame *)malloc(sizeof *job->between);
+    job->between = (dwexpr_libdw_frame *)malloc(sizeof *job->between);
     if (!job->between)
         return DWEXPR_LIBDW_NO_MEMORY;
     if (!dwexpr_libdw_enter(job->frame->source.caller, address, job->between))
@@ -372,28 +379,28 @@ static uint32_t ask_between(struct job *job, uint64_t address, uint32_t *left, s
     return ask_passed(job, left, next);
 }
 
-/* Asks for what the caller passed, but first which function it called if its call site computes that. */
+/* Asks for what the caller passed. If its call site computes the function's address, that is asked for first. */
 static uint32_t ask_call_site(struct job *job, uint32_t *left, struct job **next)
 {
     Dwarf_Attribute attribute;
+    uint64_t address;
     int is_named;
-    dwexpr_libdw_frame *caller = job->frame->source.caller;
     free(job->between);
     job->between = NULL;
     if (!dwexpr_libdw_find_call_site(job->frame, &job->site) || dwexpr_libdw_may_call_itself(job->frame))
         return refused(job, 0);
-    is_named = dwexpr_libdw_names(&job->site, caller, job->frame);
+    is_named = dwexpr_libdw_names(&job->site, job->frame->source.caller, job->frame, &address);
     if (is_named > 0)
         return ask_passed(job, left, next);
     if (is_named == 0)
-        return ask_between(job, dwexpr_libdw_called_address(&job->site, caller), left, next);
+        return ask_between(job, address, left, next);
     if (!dwexpr_libdw_call_target(&job->site, &attribute))
         return refused(job, 0);
     job->waits_for_target = 1;
     return ask_caller(job, &attribute, left, next);
 }
 
-/* Takes the number for which a job has waited. */
+/* Goes on with a job that has waited for this number. */
 static uint32_t take(struct job *job, uint64_t number, uint32_t *left, struct job **next)
 {
     if (!job->waits_for_target) {
@@ -407,88 +414,75 @@ static uint32_t take(struct job *job, uint64_t number, uint32_t *left, struct jo
 
 /* ---- requests */
 
-static int may_ask(enum purpose purpose, uint32_t request)
-{
-    switch (request) {
-    case DWEXPR_WANTS_MEMORY: case DWEXPR_WANTS_REGISTER: case DWEXPR_WANTS_RELOCATED: return 1;
-    case DWEXPR_WANTS_CFA: case DWEXPR_WANTS_LOCATION: case DWEXPR_WANTS_INDEXED: case DWEXPR_WANTS_BASE_TYPE:
-        return purpose != FOR_CFA;
-    default: return purpose == FOR_VALUE;
-    }
-}
+/* What answers each request, and the last purpose for which it may be asked. WebAssembly isn't known here. */
+static const struct {
+    uint8_t answer, last_purpose;
+} requests[] = {
+    [DWEXPR_WANTS_MEMORY] = {DWEXPR_ANSWER_MEMORY, FOR_CFA},
+    [DWEXPR_WANTS_REGISTER] = {DWEXPR_ANSWER_REGISTER, FOR_CFA},
+    [DWEXPR_WANTS_FRAME_BASE] = {DWEXPR_ANSWER_FRAME_BASE, FOR_VALUE},
+    [DWEXPR_WANTS_TLS] = {DWEXPR_ANSWER_TLS, FOR_VALUE},
+    [DWEXPR_WANTS_CFA] = {DWEXPR_ANSWER_CFA, FOR_BASE},
+    [DWEXPR_WANTS_LOCATION] = {DWEXPR_ANSWER_LOCATION, FOR_BASE},
+    [DWEXPR_WANTS_ENTRY_VALUE] = {DWEXPR_ANSWER_ENTRY_VALUE, FOR_VALUE},
+    [DWEXPR_WANTS_PARAMETER] = {DWEXPR_ANSWER_PARAMETER, FOR_VALUE},
+    [DWEXPR_WANTS_RELOCATED] = {DWEXPR_ANSWER_RELOCATED, FOR_CFA},
+    [DWEXPR_WANTS_INDEXED] = {DWEXPR_ANSWER_INDEXED, FOR_BASE},
+    [DWEXPR_WANTS_BASE_TYPE] = {DWEXPR_ANSWER_BASE_TYPE, FOR_BASE},
+};
 
 /* Answers what a job asks for and goes on with it, or makes the job for which it has to wait. */
 static uint32_t answer(struct job *job, uint32_t *left, struct job **next)
 {
     const dwexpr_outcome *asked = &job->value->outcome;
-    dwexpr_libdw_frame *frame = job->frame;
     dwexpr_step *step = &job->answer;
-    int failed = !may_ask(job->purpose, asked->request);
+    int failed = 0;
     uint32_t why = 0;
-    memset(step, 0, sizeof *step);
-    step->value_type = DWEXPR_GENERIC;
-    if (failed)
+    if (asked->request > DWEXPR_WANTS_BASE_TYPE || job->purpose > requests[asked->request].last_purpose)
         return refused(job, 0);
+    memset(step, 0, sizeof *step);
+    step->kind = requests[asked->request].answer;
+    step->value_type = DWEXPR_GENERIC;
     if (asked->base_type && base_type_of(job, asked->base_type, &step->value_type))
         return DWEXPR_LIBDW_WANTS + DWEXPR_WANTS_BASE_TYPE;
     switch (asked->request) {
-    case DWEXPR_WANTS_MEMORY:
-        step->kind = DWEXPR_ANSWER_MEMORY;
-        failed = memory_number(job, &step->number);
-        break;
+    case DWEXPR_WANTS_MEMORY: why = memory_number(job, &step->number); break;
     case DWEXPR_WANTS_REGISTER:
-        step->kind = DWEXPR_ANSWER_REGISTER;
-        why = register_number(frame, asked->register_number, job->value->encoding.big_endian, &step->number);
+        why = register_number(job->frame, asked->register_number, job->value->encoding.big_endian, &step->number);
         break;
     case DWEXPR_WANTS_FRAME_BASE:
-        step->kind = DWEXPR_ANSWER_FRAME_BASE;
-        why = find_base(frame, left);
-        step->number = frame->base;
+        why = find_base(job->frame, left);
+        step->number = job->frame->base;
         break;
     case DWEXPR_WANTS_CFA:
-        step->kind = DWEXPR_ANSWER_CFA;
-        why = find_cfa(frame, left);
-        step->number = frame->cfa;
+        why = find_cfa(job->frame, left);
+        step->number = job->frame->cfa;
         break;
-    case DWEXPR_WANTS_TLS:
-        step->kind = DWEXPR_ANSWER_TLS;
-        failed = thread_local_address(job, &step->number);
-        break;
-    case DWEXPR_WANTS_LOCATION:
-        step->kind = DWEXPR_ANSWER_LOCATION;
-        why = location_of(job, &step->text);
-        break;
+    case DWEXPR_WANTS_TLS: failed = thread_local_address(job, &step->number); break;
+    case DWEXPR_WANTS_LOCATION: why = location_of(job, &step->text); break;
     case DWEXPR_WANTS_RELOCATED:
-        step->kind = DWEXPR_ANSWER_RELOCATED;
         step->number = asked->number;
         failed = relocate(job, &step->number);
         break;
-    case DWEXPR_WANTS_INDEXED:
-        step->kind = DWEXPR_ANSWER_INDEXED;
-        failed = indexed_address(job, &step->number);
-        break;
-    case DWEXPR_WANTS_BASE_TYPE: step->kind = DWEXPR_ANSWER_BASE_TYPE; break;
+    case DWEXPR_WANTS_INDEXED: failed = indexed_address(job, &step->number); break;
     case DWEXPR_WANTS_ENTRY_VALUE:
-        step->kind = DWEXPR_ANSWER_ENTRY_VALUE;
         job->place = dwexpr_outcome_block(asked, job->value->texts, job->value->texts_length);
         job->entry.addr = NULL;
         return ask_call_site(job, left, next);
     case DWEXPR_WANTS_PARAMETER:
-        step->kind = DWEXPR_ANSWER_PARAMETER;
-        if (!entry_of(&job->unit, DW_OP_GNU_parameter_ref, asked->number, &job->entry))
-            return ask_call_site(job, left, next);
-        failed = 1;
-        break;
-    default: failed = 1; /* WebAssembly */
+        failed = entry_of(&job->unit, DW_OP_GNU_parameter_ref, asked->number, &job->entry);
+        return failed ? refused(job, 0) : ask_call_site(job, left, next);
+    default: break; /* a base type */
     }
     return failed || why ? refused(job, why) : resume(job);
 }
 
 /* Evaluates the first job, and all for which it waits. */
-static uint32_t run(struct job *first, const uint64_t *object, const uint64_t *initial, uint32_t *left)
+static uint32_t run(struct job *first, const struct dwexpr_libdw_given *given, uint32_t *left)
 {
+    static const struct dwexpr_libdw_given nothing = {NULL, NULL, NULL};
     struct job *job = first;
-    uint32_t code = start(first, object, initial);
+    uint32_t code = start(first, given);
     for (;;) {
         struct job *next = NULL;
         if (!code && job->value->outcome.request != DWEXPR_COMPLETE) {
@@ -506,21 +500,20 @@ static uint32_t run(struct job *first, const uint64_t *object, const uint64_t *i
         }
         if (next) {
             job = next;
-            code = start(job, NULL, NULL);
+            code = start(job, &nothing);
         }
     }
 }
 
-static uint32_t evaluate_for(enum purpose purpose, dwexpr_libdw_frame *frame, const dwexpr_libdw_text *expression,
-                             const uint64_t *object, const uint64_t *initial, uint32_t *left,
-                             dwexpr_libdw_value **value)
+static uint32_t evaluate_for(enum purpose purpose, const struct dwexpr_libdw_given *given,
+                             const dwexpr_libdw_text *expression, uint32_t *left, dwexpr_libdw_value **value)
 {
     struct job *job;
-    uint32_t code = make_job(purpose, frame, expression, left, &job);
+    uint32_t code = make_job(purpose, given->frame, expression, left, &job);
     *value = NULL;
     if (code)
         return code;
-    code = run(job, object, initial, left);
+    code = run(job, given, left);
     *value = job->value;
     job->value = NULL;
     end_job(job);
@@ -528,17 +521,13 @@ static uint32_t evaluate_for(enum purpose purpose, dwexpr_libdw_frame *frame, co
 }
 
 /* The number that an attribute's expression comes to. */
-static uint32_t attribute_number(enum purpose purpose, dwexpr_libdw_frame *frame, Dwarf_Attribute *attribute,
-                                 const uint64_t *object, const uint64_t *initial, uint32_t *left, uint64_t *number)
+static uint32_t attribute_number(enum purpose purpose, const struct dwexpr_libdw_given *given,
+                                 Dwarf_Attribute *attribute, uint32_t *left, uint64_t *number)
 {
     dwexpr_libdw_text expression;
-    dwexpr_libdw_value *value = NULL;
-    uint32_t code = expression_in(frame, attribute, &expression);
+    uint32_t code = expression_in(given->frame, attribute, &expression);
     if (!code)
-        code = evaluate_for(purpose, frame, &expression, object, initial, left, &value);
-    if (!code)
-        code = number_of_value(frame, value, number);
-    dwexpr_libdw_release(value);
+        code = expression_number(purpose, given, &expression, left, number);
     dwexpr_libdw_free_text(&expression);
     return code;
 }
@@ -555,31 +544,30 @@ void dwexpr_libdw_release(dwexpr_libdw_value *value)
 uint32_t dwexpr_libdw_evaluate(dwexpr_libdw_frame *frame, const dwexpr_libdw_text *expression, const uint64_t *object,
                                const uint64_t *initial, dwexpr_libdw_value **value)
 {
+    const int takes_cfa = expression->on_cfa && !initial;
+    const struct dwexpr_libdw_given given = {frame, object, takes_cfa ? &frame->cfa : initial};
     uint32_t left = frame->limit;
     left += left < UINT32_MAX;
-    if (expression->on_cfa && !initial) {
-        const uint32_t code = find_cfa(frame, &left);
-        *value = NULL;
-        if (code)
-            return DWEXPR_LIBDW_WANTS + DWEXPR_WANTS_CFA;
-        initial = &frame->cfa;
-    }
-    return evaluate_for(FOR_VALUE, frame, expression, object, initial, &left, value);
+    *value = NULL;
+    if (takes_cfa && find_cfa(frame, &left))
+        return DWEXPR_LIBDW_WANTS + DWEXPR_WANTS_CFA;
+    return evaluate_for(FOR_VALUE, &given, expression, &left, value);
 }
 
 /* ---- the frame of an entry's function */
 
-/* The caller whose function encloses that of a frame: the one whose frame base DW_AT_static_link gives, or else the
- * only one there is. GCC writes a link also if no caller sets it. NULL if it isn't known. */
+/* The frame of the enclosing function: the caller whose frame base DW_AT_static_link gives, or else the only caller of
+ * that function. GCC writes a link also if no caller sets it. NULL if it isn't known. */
 static dwexpr_libdw_frame *enclosing_frame(dwexpr_libdw_frame *inner, const Dwarf_Die *function)
 {
+    const struct dwexpr_libdw_given given = {inner, NULL, NULL};
     Dwarf_Attribute attribute;
     dwexpr_libdw_frame *frame, *found = NULL;
     uint32_t left = inner->limit;
     uint64_t base = 0;
     int count = 0;
     const int has_link = dwarf_attr_integrate(&inner->place.function, DW_AT_static_link, &attribute) &&
-                         !attribute_number(FOR_VALUE, inner, &attribute, NULL, NULL, &left, &base);
+                         !attribute_number(FOR_VALUE, &given, &attribute, &left, &base);
     for (frame = inner->source.caller; frame; frame = frame->source.caller) {
         if (dwexpr_libdw_find_place(frame) == DWEXPR_LIBDW_NO_MEMORY)
             return NULL;
@@ -593,47 +581,46 @@ static dwexpr_libdw_frame *enclosing_frame(dwexpr_libdw_frame *inner, const Dwar
     return count == 1 ? found : NULL;
 }
 
-/* Goes out of the function of a frame, through those that enclose it, to one of them. */
+/* Finds the frame of a function that encloses the frame's, through all that stand between them. */
 static uint32_t go_out(dwexpr_libdw_frame *frame, const Dwarf_Die *function, dwexpr_libdw_frame **owner)
 {
     struct dwexpr_libdw_walk walk;
-    const uint32_t code = dwexpr_libdw_find_path(&walk, &frame->place.unit, &frame->place.function);
-    if (code)
-        return code;
-    while (frame && frame->place.function.addr != function->addr && --walk.depth > 0)
-        if (dwarf_tag(&walk.path[walk.depth - 1]) == DW_TAG_subprogram)
-            frame = enclosing_frame(frame, &walk.path[walk.depth - 1]);
+    dwexpr_libdw_find_path(&walk, &frame->place.unit, &frame->place.function);
+    while (frame && frame->place.function.addr != function->addr && walk.path.length > 1) {
+        walk.path.length--;
+        if (dwarf_tag(dwexpr_libdw_here(&walk)) == DW_TAG_subprogram)
+            frame = enclosing_frame(frame, dwexpr_libdw_here(&walk));
+    }
+    free(walk.path.items);
     *owner = frame;
-    free(walk.path);
-    return frame && walk.depth > 0 ? 0 : DWEXPR_LIBDW_OTHER_FUNCTION;
+    if (walk.code)
+        return walk.code;
+    return frame && frame->place.function.addr == function->addr ? 0 : DWEXPR_LIBDW_OTHER_FUNCTION;
 }
 
 /* The innermost function in which an entry stands; its `addr` is NULL if there is none. */
 static uint32_t function_of(const Dwarf_Die *first, const Dwarf_Die *entry, Dwarf_Die *function)
 {
     struct dwexpr_libdw_walk walk;
-    const uint32_t code = dwexpr_libdw_find_path(&walk, first, entry);
-    function->addr = NULL;
-    for (; !code && walk.depth > 0 && !function->addr; walk.depth--)
-        if (dwarf_tag(&walk.path[walk.depth - 1]) == DW_TAG_subprogram)
-            *function = walk.path[walk.depth - 1];
-    free(walk.path);
-    return code;
+    dwexpr_libdw_find_path(&walk, first, entry);
+    *function = dwexpr_libdw_innermost_function(&walk);
+    free(walk.path.items);
+    return walk.code;
 }
 
 /* The frame in which a variable's location is evaluated: that of the function in which it stands. */
 static uint32_t find_owner(dwexpr_libdw_frame *frame, Dwarf_Die *variable, dwexpr_libdw_frame **owner)
 {
-    Dwarf_Die unit, function = {.addr = NULL};
+    Dwarf_Die unit, function = {.addr = NULL}, *own = &frame->place.function;
     uint32_t code = 0;
     *owner = frame;
-    if (frame->place.function.addr && frame->place.function.cu == variable->cu)
-        code = function_of(&frame->place.function, variable, &function);
-    if (!code && !function.addr && dwarf_diecu(variable, &unit, NULL, NULL))
-        code = function_of(&unit, variable, &function);
-    if (code || !function.addr || function.addr == frame->place.function.addr)
+    if (own->addr && own->cu == variable->cu)
+        code = function_of(own, variable, &function);
+    if (!code && !function.addr)
+        code = function_of(dwarf_diecu(variable, &unit, NULL, NULL), variable, &function);
+    if (code || !function.addr || function.addr == own->addr)
         return code;
-    return frame->place.function.addr ? go_out(frame, &function, owner) : DWEXPR_LIBDW_OTHER_FUNCTION;
+    return own->addr ? go_out(frame, &function, owner) : DWEXPR_LIBDW_OTHER_FUNCTION;
 }
 
 /* Whether a location is the same in each frame. */
@@ -643,7 +630,8 @@ static int is_fixed(Dwarf_Attribute *attribute)
                                     DWEXPR_OP_CONSTANT_INDEX, DWEXPR_OP_PLUS_CONSTANT, DWEXPR_OP_TLS};
     Dwarf_Block block;
     dwexpr_encoding encoding;
-    return !dwarf_formblock(attribute, &block) && !dwexpr_libdw_encoding(attribute->cu, &encoding) &&
+    dwexpr_libdw_encoding(attribute->cu, &encoding);
+    return !dwarf_formblock(attribute, &block) &&
            has_only((dwexpr_text){block.data, (size_t)block.length}, encoding, kinds, sizeof kinds);
 }
 
@@ -680,11 +668,11 @@ static uint32_t hold_number(dwexpr_libdw_frame *frame, Dwarf_Die *variable, Dwar
                             dwexpr_libdw_value *value)
 {
     const unsigned form = dwarf_whatform(attribute);
+    const int big_endian = value->encoding.big_endian;
     Dwarf_Attribute encoding;
     Dwarf_Die type;
     Dwarf_Word kind = 0;
     uint64_t size = 0;
-    struct dwexpr_libdw_memory *memory;
     uint8_t *bytes;
     if (!dwexpr_libdw_type(variable, &type)) {
         dwexpr_libdw_size(frame, &type, NULL, &size);
@@ -695,15 +683,12 @@ static uint32_t hold_number(dwexpr_libdw_frame *frame, Dwarf_Die *variable, Dwar
     value->pieces[0].number = number;
     if (size <= 8 || size > DWEXPR_LIBDW_REGISTER_SIZE)
         return 0;
-    memory = (struct dwexpr_libdw_memory *)malloc(sizeof *memory + (size_t)size);
-    if (!memory)
+    bytes = dwexpr_libdw_take(&value->memory, (size_t)size);
+    if (!bytes)
         return DWEXPR_LIBDW_NO_MEMORY;
-    memory->next = NULL;
-    value->memory = memory;
-    bytes = (uint8_t *)(memory + 1);
     memset(bytes, (form == DW_FORM_sdata || form == DW_FORM_implicit_const || kind == DW_ATE_signed) && number >> 63
                       ? 0xff : 0, (size_t)size);
-    dwexpr_libdw_bytes_of(number, 8, value->encoding.big_endian, bytes + (value->encoding.big_endian ? size - 8 : 0));
+    dwexpr_libdw_bytes_of(number, 8, big_endian, bytes + (big_endian ? size - 8 : 0));
     hold_bytes(value, bytes, (size_t)size);
     return 0;
 }
@@ -743,24 +728,21 @@ static uint32_t hidden(dwexpr_libdw_frame *frame, Dwarf_Die *variable, Dwfl_Modu
     return code;
 }
 
-/* The value of a variable that other units see by its name, if it is that of another one: it is only declared here, or
- * a module has its own before this one in the order in which names are looked for, as a program has copies of what its
- * libraries export. */
+/* The value of a variable that its name finds elsewhere: it is only declared here, or the dynamic linker takes that of
+ * another module, as a program has copies of what its libraries export. */
 static uint32_t named(dwexpr_libdw_frame *frame, Dwarf_Die *variable, int is_declared, dwexpr_libdw_value **value)
 {
-    const dwexpr_libdw_source *source = &frame->source;
     struct dwexpr_libdw_symbol symbol = {.name = dwexpr_libdw_linkage_name(variable)};
     Dwfl_Module *module;
     Dwarf_Addr bias;
-    if (!source->dwfl || !symbol.name || dwexpr_libdw_find_module(frame, variable->cu, &module, &bias))
+    if (!frame->source.dwfl || !symbol.name || dwexpr_libdw_find_module(frame, variable->cu, &module, &bias))
         return is_declared ? DWEXPR_LIBDW_NOT_DEFINED : 0;
-    if (!dwexpr_libdw_resolve(source->dwfl, module, !is_declared, &symbol))
+    if (!dwexpr_libdw_resolve(frame->source.dwfl, module, !is_declared, &symbol))
         return is_declared ? hidden(frame, variable, module, value) : 0;
     if (!is_declared && symbol.module == module)
         return 0;
     if (GELF_ST_TYPE(symbol.symbol.st_info) == STT_TLS &&
-        (!source->find_tls ||
-         source->find_tls(source->context, symbol.module, symbol.symbol.st_value, &symbol.address)))
+        find_tls(frame, symbol.module, symbol.symbol.st_value, &symbol.address))
         return DWEXPR_LIBDW_WANTS + DWEXPR_WANTS_TLS;
     return make_value(frame, variable->cu, symbol.address, value);
 }
@@ -850,46 +832,59 @@ static uint32_t member_value(dwexpr_libdw_frame *frame, Dwarf_Die *member, const
     return make_value(frame, attribute.cu, *object + place, value);
 }
 
-/* The number that a variable has, or a member of an object, as a bound of an array. */
-static uint32_t variable_number(dwexpr_libdw_frame *frame, Dwarf_Die *variable, const uint64_t *object,
-                                uint64_t *number)
+/* Reads a value of so many bytes as a number. */
+static uint32_t read_number(const dwexpr_libdw_frame *frame, const dwexpr_libdw_value *value, Dwarf_Word size,
+                            int is_signed, uint64_t *number)
 {
     uint8_t bytes[8];
+    const unsigned unused = 64 - 8 * (unsigned)size;
+    const uint32_t code = !size || size > sizeof bytes ? DWEXPR_LIBDW_NO_NUMBER
+                                                       : dwexpr_libdw_read(frame, value, 8 * size, bytes, NULL);
+    if (code)
+        return code;
+    *number = dwexpr_libdw_number_of(bytes, (size_t)size, value->encoding.big_endian) << unused;
+    *number = is_signed ? (uint64_t)((int64_t)*number >> unused) : *number >> unused;
+    return 0;
+}
+
+/* The number that a variable has, or a member of an object, as a bound of an array. */
+static uint32_t variable_number(const struct dwexpr_libdw_given *given, Dwarf_Die *variable, uint64_t *number)
+{
     dwexpr_libdw_value *value;
     Dwarf_Die type;
     Dwarf_Word size, encoding;
     uint32_t code;
-    if (dwexpr_libdw_type(variable, &type) || dwexpr_libdw_scalar(&type, &size, &encoding) || !size || size > 8)
+    if (dwexpr_libdw_type(variable, &type) || dwexpr_libdw_scalar(&type, &size, &encoding))
         return DWEXPR_LIBDW_NO_NUMBER;
-    code = dwarf_tag(variable) == DW_TAG_member ? member_value(frame, variable, object, &value)
-                                                : dwexpr_libdw_variable(frame, variable, &value);
+    code = dwarf_tag(variable) == DW_TAG_member ? member_value(given->frame, variable, given->object, &value)
+                                                : dwexpr_libdw_variable(given->frame, variable, &value);
     if (!code)
-        code = dwexpr_libdw_read(frame, value, 8 * size, bytes, NULL);
-    if (!code) {
-        const unsigned unused = 64 - 8 * (unsigned)size;
-        *number = dwexpr_libdw_number_of(bytes, (size_t)size, value->encoding.big_endian) << unused;
-        *number = encoding == DW_ATE_signed || encoding == DW_ATE_signed_char
-                      ? (uint64_t)((int64_t)*number >> unused)
-                      : *number >> unused;
-    }
+        code = read_number(given->frame, value, size, encoding == DW_ATE_signed || encoding == DW_ATE_signed_char,
+                           number);
     dwexpr_libdw_release(value);
     return code;
 }
 
-uint32_t dwexpr_libdw_number_with(const struct dwexpr_libdw_given *given, Dwarf_Attribute *attribute, uint64_t *number)
+/* Whether an attribute is an expression or a list of locations. */
+static int is_location(Dwarf_Attribute *attribute)
 {
     const unsigned form = dwarf_whatform(attribute);
-    uint32_t left = given->frame->limit, code = dwexpr_libdw_find_place(given->frame);
     Dwarf_Block block;
+    return !dwarf_formblock(attribute, &block) || form == DW_FORM_sec_offset || form == DW_FORM_loclistx;
+}
+
+uint32_t dwexpr_libdw_number_with(const struct dwexpr_libdw_given *given, Dwarf_Attribute *attribute, uint64_t *number)
+{
+    uint32_t left = given->frame->limit, code = dwexpr_libdw_find_place(given->frame);
     Dwarf_Die entry;
     Dwarf_Word found;
     *number = 0;
     if (code == DWEXPR_LIBDW_NO_MEMORY)
         return code;
-    if (!dwarf_formblock(attribute, &block) || form == DW_FORM_sec_offset || form == DW_FORM_loclistx)
-        return attribute_number(FOR_VALUE, given->frame, attribute, given->object, given->initial, &left, number);
+    if (is_location(attribute))
+        return attribute_number(FOR_VALUE, given, attribute, &left, number);
     if (dwarf_formref_die(attribute, &entry))
-        return variable_number(given->frame, &entry, given->object, number);
+        return variable_number(given, &entry, number);
     if (dwarf_formudata(attribute, &found))
         return DWEXPR_LIBDW_NO_NUMBER;
     *number = found;
@@ -905,30 +900,23 @@ uint32_t dwexpr_libdw_number(dwexpr_libdw_frame *frame, Dwarf_Attribute *attribu
     return dwexpr_libdw_number_with(&given, attribute, number);
 }
 
-uint32_t dwexpr_libdw_string_length(dwexpr_libdw_frame *frame, Dwarf_Die *type, Dwarf_Attribute *attribute,
-                                    const uint64_t *object, uint64_t *bytes)
+uint32_t dwexpr_libdw_string_length(const struct dwexpr_libdw_given *given, Dwarf_Die *type,
+                                    Dwarf_Attribute *attribute, uint64_t *bytes)
 {
     Dwarf_Attribute size;
-    Dwarf_Block block;
     Dwarf_Word count;
     dwexpr_libdw_text place;
     dwexpr_libdw_value *value = NULL;
-    uint8_t content[8];
     uint32_t code;
-    if (dwarf_formblock(attribute, &block) && dwarf_whatform(attribute) != DW_FORM_sec_offset &&
-        dwarf_whatform(attribute) != DW_FORM_loclistx)
-        return dwexpr_libdw_number(frame, attribute, object, bytes);
-    code = expression_in(frame, attribute, &place);
+    if (!is_location(attribute))
+        return dwexpr_libdw_number_with(given, attribute, bytes);
+    code = expression_in(given->frame, attribute, &place);
+    if (!code)
+        code = dwexpr_libdw_evaluate(given->frame, &place, given->object, NULL, &value);
     if (dwarf_formudata(dwarf_attr_integrate(type, DW_AT_string_length_byte_size, &size), &count))
         count = place.encoding.address_size;
-    if (!code && count > sizeof content)
-        code = DWEXPR_LIBDW_NO_NUMBER;
     if (!code)
-        code = dwexpr_libdw_evaluate(frame, &place, object, NULL, &value);
-    if (!code)
-        code = dwexpr_libdw_read(frame, value, 8 * count, content, NULL);
-    if (!code)
-        *bytes = dwexpr_libdw_number_of(content, (size_t)count, place.encoding.big_endian);
+        code = read_number(given->frame, value, count, 0, bytes);
     dwexpr_libdw_release(value);
     dwexpr_libdw_free_text(&place);
     return code;

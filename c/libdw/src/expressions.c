@@ -1,21 +1,47 @@
 /* Where libdw has an expression: in an attribute, a list of locations, and the rules of call frame information. */
 #include "private.h"
 
-void *dwexpr_libdw_with_room(void *items, size_t length, size_t *room, size_t size)
+uint32_t dwexpr_libdw_add(struct dwexpr_libdw_list *list, const void *item, size_t size)
 {
-    void *more = items;
-    if (length == *room) {
-        more = realloc(items, (2 * *room + 32) * size);
-        *room = more ? 2 * *room + 32 : *room;
+    if (list->length == list->room) {
+        void *more = realloc(list->items, (2 * list->room + 8) * size);
+        if (!more)
+            return DWEXPR_LIBDW_NO_MEMORY;
+        list->items = more;
+        list->room = 2 * list->room + 8;
     }
-    return more;
+    memcpy((char *)list->items + list->length++ * size, item, size);
+    return 0;
+}
+
+void *dwexpr_libdw_give(uint32_t code, const struct dwexpr_libdw_list *list, size_t *count)
+{
+    if (code)
+        free(list->items);
+    *count = code ? 0 : list->length;
+    return code ? NULL : list->items;
+}
+
+/* What stands before the bytes of each item in a list of memory. */
+struct memory {
+    struct memory *next;
+};
+
+uint8_t *dwexpr_libdw_take(void **list, size_t size)
+{
+    struct memory *memory = (struct memory *)malloc(sizeof *memory + size);
+    if (!memory)
+        return NULL;
+    memory->next = (struct memory *)*list;
+    *list = memory;
+    return (uint8_t *)(memory + 1);
 }
 
 void dwexpr_libdw_free_memory(void *first)
 {
-    struct dwexpr_libdw_memory *memory = (struct dwexpr_libdw_memory *)first;
+    struct memory *memory = (struct memory *)first;
     while (memory) {
-        struct dwexpr_libdw_memory *next = memory->next;
+        struct memory *next = memory->next;
         free(memory);
         memory = next;
     }
@@ -23,9 +49,9 @@ void dwexpr_libdw_free_memory(void *first)
 
 void dwexpr_libdw_keep(dwexpr_libdw_text *expression, void **list)
 {
-    struct dwexpr_libdw_memory *memory = (struct dwexpr_libdw_memory *)expression->memory;
+    struct memory *memory = (struct memory *)expression->memory;
     if (memory) {
-        memory->next = (struct dwexpr_libdw_memory *)*list;
+        memory->next = (struct memory *)*list;
         *list = memory;
         expression->memory = NULL;
     }
@@ -39,13 +65,10 @@ void dwexpr_libdw_free_text(dwexpr_libdw_text *expression)
 
 uint32_t dwexpr_libdw_encoding(Dwarf_CU *unit, dwexpr_encoding *encoding)
 {
-    Dwarf *dwarf = dwarf_cu_getdwarf(unit);
     Dwarf_Half version;
-    GElf_Ehdr header;
-    if (!dwarf || !gelf_getehdr(dwarf_getelf(dwarf), &header) ||
-        dwarf_cu_info(unit, &version, NULL, NULL, NULL, NULL, &encoding->address_size, &encoding->offset_size))
+    if (dwarf_cu_info(unit, &version, NULL, NULL, NULL, NULL, &encoding->address_size, &encoding->offset_size))
         return DWEXPR_LIBDW_FAILED;
-    encoding->big_endian = header.e_ident[EI_DATA] == ELFDATA2MSB;
+    encoding->big_endian = elf_getident(dwarf_getelf(dwarf_cu_getdwarf(unit)), NULL)[EI_DATA] == ELFDATA2MSB;
     encoding->version = (uint8_t)version;
     return 0;
 }
@@ -53,18 +76,16 @@ uint32_t dwexpr_libdw_encoding(Dwarf_CU *unit, dwexpr_encoding *encoding)
 /* Makes the text one of these operations. */
 static uint32_t from_operations(const Dwarf_Op *operations, size_t count, dwexpr_libdw_text *expression)
 {
-    struct dwexpr_libdw_memory *memory;
+    uint8_t *bytes;
     size_t length;
     const uint32_t code = dwexpr_libdw_encode(operations, count, 0, expression->encoding, NULL, 0, &length);
     if (code)
         return code;
-    memory = (struct dwexpr_libdw_memory *)malloc(sizeof *memory + length);
-    if (!memory)
+    bytes = dwexpr_libdw_take(&expression->memory, length);
+    if (!bytes)
         return DWEXPR_LIBDW_NO_MEMORY;
-    memory->next = NULL;
-    dwexpr_libdw_encode(operations, count, 0, expression->encoding, (uint8_t *)(memory + 1), length, &length);
-    expression->memory = memory;
-    expression->text.bytes = (uint8_t *)(memory + 1);
+    dwexpr_libdw_encode(operations, count, 0, expression->encoding, bytes, length, &length);
+    expression->text.bytes = bytes;
     expression->text.length = length;
     return 0;
 }
@@ -100,8 +121,9 @@ enum { RAX = 0, RBX = 3 };
 
 static uint32_t unnamed(Elf *elf, int number, int is_lost)
 {
-    GElf_Ehdr header;
-    if (gelf_getehdr(elf, &header) && header.e_machine == EM_X86_64 && (number == RAX || number == RBX))
+    GElf_Ehdr header = {.e_machine = EM_NONE};
+    gelf_getehdr(elf, &header);
+    if (header.e_machine == EM_X86_64 && (number == RAX || number == RBX))
         is_lost = number == RAX;
     return is_lost ? DWEXPR_LIBDW_OPTIMIZED_AWAY : DWEXPR_LIBDW_SAME_VALUE;
 }

@@ -63,12 +63,15 @@ uint64_t dwexpr_libdw_entry_of(const dwexpr_libdw_frame *frame)
 {
     Dwarf_Die function = frame->place.function;
     Dwarf_Addr entry;
-    return function.addr && dwexpr_libdw_has_entry(&function, &entry) ? entry + frame->place.bias : 0;
+    if (!function.addr)
+        return 0;
+    dwexpr_libdw_has_entry(&function, &entry);
+    return entry + frame->place.bias;
 }
 
 /* ---- scopes */
 
-/* Entries that hold an address if they have it. All others hold what their children do. */
+/* Whether entries of this tag have addresses. All others hold what their children hold. */
 static int has_code(int tag)
 {
     return tag == DW_TAG_subprogram || tag == DW_TAG_inlined_subroutine || tag == DW_TAG_lexical_block ||
@@ -80,69 +83,57 @@ static int holds(Dwarf_Die *entry, Dwarf_Addr address)
     return has_code(dwarf_tag(entry)) && dwarf_haspc(entry, address) > 0;
 }
 
-/* Goes to the entry of the function that has the address. It mostly stands below namespaces and classes. Some stand
- * within others that don't have the address: they are looked for if `anywhere`. Gives back as dwexpr_libdw_next_entry
- * does. */
+/* Goes to the function that has the address, and gives back whether there is one. Most functions stand in namespaces
+ * and classes. With `anywhere` those are found too that stand in functions which don't have the address. */
 static int go_to_function(struct dwexpr_libdw_walk *walk, Dwarf_Addr address, int anywhere)
 {
-    int enters = 1, more;
-    while ((more = dwexpr_libdw_next_entry(walk, enters)) > 0) {
-        Dwarf_Die *entry = &walk->path[walk->depth - 1];
+    int enters = 1;
+    while (dwexpr_libdw_next_entry(walk, enters)) {
+        Dwarf_Die *entry = dwexpr_libdw_here(walk);
         const int tag = dwarf_tag(entry);
         if (tag == DW_TAG_subprogram && dwarf_haspc(entry, address) > 0)
-            break;
+            return 1;
         enters = anywhere || !has_code(tag);
     }
-    return more;
+    return 0;
 }
 
 /* Goes from a function's entry to the innermost scope that has the address. A block without addresses may hold others
  * with some. */
-static int go_to_innermost(struct dwexpr_libdw_walk *walk, Dwarf_Addr address)
+static void go_to_innermost(struct dwexpr_libdw_walk *walk, Dwarf_Addr address)
 {
-    int enters = 1, more;
-    walk->floor = walk->depth;
-    while ((more = dwexpr_libdw_next_entry(walk, enters)) > 0) {
-        Dwarf_Die *entry = &walk->path[walk->depth - 1];
-        Dwarf_Attribute attribute;
+    int enters = 1;
+    walk->floor = walk->path.length;
+    while (dwexpr_libdw_next_entry(walk, enters)) {
+        Dwarf_Die *entry = dwexpr_libdw_here(walk);
         enters = holds(entry, address);
         if (enters)
-            walk->floor = walk->depth;
+            walk->floor = walk->path.length;
         else
-            enters = dwarf_tag(entry) == DW_TAG_lexical_block && !dwarf_attr(entry, DW_AT_low_pc, &attribute) &&
-                     !dwarf_attr(entry, DW_AT_ranges, &attribute);
+            enters = dwarf_tag(entry) == DW_TAG_lexical_block && !dwarf_hasattr(entry, DW_AT_low_pc) &&
+                     !dwarf_hasattr(entry, DW_AT_ranges);
     }
-    walk->depth = walk->floor;
-    return more;
+    walk->path.length = walk->floor;
 }
 
 /* The scopes at an address, from the unit to the innermost: a walk that has gone there. It has one scope if no function
  * has the address. */
 static uint32_t find_scopes(Dwarf_Die *unit, Dwarf_Addr address, struct dwexpr_libdw_walk *walk)
 {
-    int anywhere, more = 0;
-    const uint32_t code = dwexpr_libdw_begin_walk(walk, unit);
-    if (code)
-        return code;
-    for (anywhere = 0; more == 0 && anywhere < 2; anywhere++) {
-        walk->path[0] = *unit;
-        walk->depth = 1;
-        walk->last = unit->addr;
-        more = go_to_function(walk, address, anywhere);
-    }
-    if (more > 0)
-        more = go_to_innermost(walk, address);
-    if (more == 0)
-        return 0;
-    free(walk->path);
-    return DWEXPR_LIBDW_NO_MEMORY;
+    int anywhere, found = 0;
+    dwexpr_libdw_begin_walk(walk, unit);
+    for (anywhere = 0; !found && anywhere < 2; anywhere++)
+        found = go_to_function(walk, address, anywhere);
+    if (found)
+        go_to_innermost(walk, address);
+    return walk->code;
 }
 
 /* ---- the place of a frame */
 
-/* Whether a unit has an address: by its own addresses, or by those of its functions if it has none, or not all, as in
- * version 2, which has no ranges. It is -1 if there is no memory to know. */
-static int unit_has(Dwarf_Die *unit, Dwarf_Addr address)
+/* Whether a unit has an address. If the unit has no addresses of its own, or not all of them, as in version 2, those of
+ * its functions tell. */
+static int unit_has(Dwarf_Die *unit, Dwarf_Addr address, uint32_t *code)
 {
     struct dwexpr_libdw_walk walk;
     Dwarf_Half version = 0;
@@ -150,33 +141,47 @@ static int unit_has(Dwarf_Die *unit, Dwarf_Addr address)
     dwarf_cu_info(unit->cu, &version, NULL, NULL, NULL, NULL, NULL, NULL);
     if (found || (version > 2 && (dwarf_hasattr(unit, DW_AT_low_pc) || dwarf_hasattr(unit, DW_AT_ranges))))
         return found;
-    if (find_scopes(unit, address, &walk))
-        return -1;
-    found = walk.depth > 1;
-    free(walk.path);
-    return found;
+    *code = find_scopes(unit, address, &walk);
+    free(walk.path.items);
+    return walk.path.length > 1;
 }
 
-/* The unit that has an address, by the table of addresses, or by their own if a compiler writes no table. */
+/* The unit that has an address: by .debug_aranges, or if that doesn't tell, by each unit's own addresses. */
 static uint32_t find_unit(Dwfl_Module *module, Dwarf_Addr address, Dwarf_Addr *bias, Dwarf_Die **unit)
 {
-    int found;
+    uint32_t code = 0;
     *unit = dwfl_module_addrdie(module, address, bias);
-    found = *unit ? unit_has(*unit, address - *bias) : 0;
-    if (!found)
-        *unit = NULL;
-    while (!found && (*unit = dwfl_module_nextcu(module, *unit, bias)) != NULL)
-        found = unit_has(*unit, address - *bias);
-    return found < 0 ? DWEXPR_LIBDW_NO_MEMORY : 0;
+    if (*unit && unit_has(*unit, address - *bias, &code))
+        return code;
+    *unit = NULL;
+    while (!code && (*unit = dwfl_module_nextcu(module, *unit, bias)) && !unit_has(*unit, address - *bias, &code))
+        ;
+    return !code && !*unit ? DWEXPR_LIBDW_NO_UNIT : code;
+}
+
+Dwarf_Die dwexpr_libdw_entries(Dwarf_Die *unit)
+{
+    Dwarf_Die part = {.addr = NULL};
+    dwarf_cu_info(unit->cu, NULL, NULL, NULL, &part, NULL, NULL, NULL);
+    return part.addr ? part : *unit;
+}
+
+/* The address of the instruction where a frame stands, or of its call. */
+static Dwarf_Addr address_of(const dwexpr_libdw_frame *frame)
+{
+    return frame->source.pc - (frame->source.is_activation ? 0 : 1);
+}
+
+static Dwfl_Module *module_of(const dwexpr_libdw_frame *frame)
+{
+    return frame->source.dwfl ? dwfl_addrmodule(frame->source.dwfl, address_of(frame)) : NULL;
 }
 
 uint32_t dwexpr_libdw_find_place(dwexpr_libdw_frame *frame)
 {
     dwexpr_libdw_place *place = &frame->place;
-    const Dwarf_Addr address = frame->source.pc - (frame->source.is_activation ? 0 : 1);
     struct dwexpr_libdw_walk walk;
-    Dwarf_Die *unit, part;
-    size_t i;
+    Dwarf_Die *unit = frame->source.unit;
     if (frame->is_located)
         return frame->code;
     frame->is_located = 1;
@@ -184,79 +189,83 @@ uint32_t dwexpr_libdw_find_place(dwexpr_libdw_frame *frame)
     place->pc = frame->source.pc;
     place->is_activation = frame->source.is_activation;
     place->bias = frame->source.bias;
-    place->module = frame->source.dwfl ? dwfl_addrmodule(frame->source.dwfl, address) : NULL;
-    unit = frame->source.unit;
-    if (!unit && place->module)
-        frame->code = find_unit(place->module, address, &place->bias, &unit);
-    place->address = address - place->bias;
-    if (frame->code)
+    place->module = module_of(frame);
+    if (!unit && frame->source.dwfl)
+        frame->code = find_unit(place->module, address_of(frame), &place->bias, &unit);
+    place->address = address_of(frame) - place->bias;
+    if (!unit || frame->code)
         return frame->code;
-    if (!unit) {
-        frame->code = frame->source.dwfl ? DWEXPR_LIBDW_NO_UNIT : 0;
-        return frame->code;
-    }
-    place->unit = *unit;
-    /* the entries of split debug information are in a file of their own */
-    if (!dwarf_cu_info(unit->cu, NULL, NULL, NULL, &part, NULL, NULL, NULL) && part.addr)
-        place->unit = part;
+    place->unit = dwexpr_libdw_entries(unit);
     frame->code = find_scopes(&place->unit, place->address, &walk);
-    if (frame->code)
-        return frame->code;
-    for (i = walk.depth; i > 0 && !place->function.addr; i--)
-        if (dwarf_tag(&walk.path[i - 1]) == DW_TAG_subprogram)
-            place->function = walk.path[i - 1];
-    free(walk.path);
-    return 0;
+    if (!frame->code)
+        place->function = dwexpr_libdw_innermost_function(&walk);
+    free(walk.path.items);
+    return frame->code;
 }
 
-/* A module whose debug information is looked for. */
-struct wanted {
-    Dwarf *dwarf;
-    int is_split; /* it is in a file of its own, which a unit of the module names */
-    Dwfl_Module *module;
-    Dwarf_Addr bias;
+/* ---- modules */
+
+/* A module that is passed, and the one after it. */
+struct modules {
+    Dwfl_Module *passed, *next;
 };
 
 static int on_module(Dwfl_Module *module, void **data, const char *name, Dwarf_Addr start, void *given)
 {
-    struct wanted *wanted = (struct wanted *)given;
-    Dwarf *dwarf = dwfl_module_getdwarf(module, &wanted->bias);
+    struct modules *modules = (struct modules *)given;
+    (void)data, (void)name, (void)start;
+    if (modules->passed) {
+        modules->passed = modules->passed == module ? NULL : modules->passed;
+        return DWARF_CB_OK;
+    }
+    modules->next = module;
+    return DWARF_CB_ABORT;
+}
+
+Dwfl_Module *dwexpr_libdw_next_module(Dwfl *dwfl, Dwfl_Module *passed)
+{
+    struct modules modules = {passed, NULL};
+    dwfl_getmodules(dwfl, on_module, &modules, 0);
+    return modules.next;
+}
+
+/* Whether debug information belongs to a module; if `is_split`, as a separate file that one of its units names. */
+static int is_of(Dwfl_Module *module, const Dwarf *wanted, int is_split, Dwarf_Addr *bias)
+{
+    Dwarf *dwarf = dwfl_module_getdwarf(module, bias);
     Dwarf_CU *unit = NULL;
     Dwarf_Die part;
-    int found = dwarf == wanted->dwarf;
-    (void)data, (void)name, (void)start;
-    while (!found && dwarf && wanted->is_split && !dwarf_get_units(dwarf, unit, &unit, NULL, NULL, NULL, &part))
-        found = part.addr && dwarf_cu_getdwarf(part.cu) == wanted->dwarf;
-    wanted->module = found ? module : NULL;
-    return found ? DWARF_CB_ABORT : DWARF_CB_OK;
+    int found = dwarf == wanted;
+    while (!found && is_split && !dwarf_get_units(dwarf, unit, &unit, NULL, NULL, NULL, &part))
+        found = part.addr && dwarf_cu_getdwarf(part.cu) == wanted;
+    return found;
 }
 
 int dwexpr_libdw_find_module(dwexpr_libdw_frame *frame, Dwarf_CU *unit, Dwfl_Module **module, Dwarf_Addr *bias)
 {
-    struct wanted wanted = {.dwarf = dwarf_cu_getdwarf(unit)};
+    const Dwarf *wanted = dwarf_cu_getdwarf(unit);
     uint8_t kind = DW_UT_compile;
     dwexpr_libdw_find_place(frame);
     *module = frame->place.module;
     *bias = frame->place.bias;
     if (!unit || (!frame->source.dwfl && !frame->source.unit) ||
-        (frame->place.unit.addr && dwarf_cu_getdwarf(frame->place.unit.cu) == wanted.dwarf))
+        (frame->place.unit.addr && dwarf_cu_getdwarf(frame->place.unit.cu) == wanted))
         return 0;
     dwarf_cu_info(unit, NULL, &kind, NULL, NULL, NULL, NULL, NULL);
-    wanted.is_split = kind == DW_UT_split_compile || kind == DW_UT_split_type;
-    dwfl_getmodules(frame->source.dwfl, on_module, &wanted, 0);
-    *module = wanted.module;
-    *bias = wanted.bias;
-    return !wanted.module;
+    *module = NULL;
+    do
+        *module = dwexpr_libdw_next_module(frame->source.dwfl, *module);
+    while (*module && !is_of(*module, wanted, kind >= DW_UT_split_compile, bias));
+    return !*module;
 }
 
 int dwexpr_libdw_find_state(const dwexpr_libdw_frame *frame, int i, Dwarf_Frame **state, Elf **elf)
 {
-    const Dwarf_Addr address = frame->source.pc - (frame->source.is_activation ? 0 : 1);
-    Dwfl_Module *module = frame->source.dwfl ? dwfl_addrmodule(frame->source.dwfl, address) : NULL;
+    Dwfl_Module *module = module_of(frame);
     Dwarf_Addr bias, bias_of_elf;
     Dwarf_CFI *table = i ? dwfl_module_dwarf_cfi(module, &bias) : dwfl_module_eh_cfi(module, &bias);
     *elf = dwfl_module_getelf(module, &bias_of_elf);
-    return !table || !*elf || dwarf_cfi_addrframe(table, address - bias, state);
+    return !table || dwarf_cfi_addrframe(table, address_of(frame) - bias, state);
 }
 
 uint32_t dwexpr_libdw_locate(dwexpr_libdw_frame *frame, dwexpr_libdw_place *place)
@@ -269,44 +278,33 @@ uint32_t dwexpr_libdw_locate(dwexpr_libdw_frame *frame, dwexpr_libdw_place *plac
 uint32_t dwexpr_libdw_scopes(dwexpr_libdw_frame *frame, Dwarf_Die **scopes, size_t *count)
 {
     struct dwexpr_libdw_walk walk;
-    size_t i;
+    struct dwexpr_libdw_list found = {NULL, 0, 0};
     uint32_t code = dwexpr_libdw_find_place(frame);
-    *scopes = NULL;
-    *count = 0;
     if (!code && !frame->place.unit.addr)
         code = DWEXPR_LIBDW_NO_UNIT;
-    if (!code)
+    if (!code) {
         code = find_scopes(&frame->place.unit, frame->place.address, &walk);
-    if (code)
-        return code;
-    for (i = 0; i < walk.depth / 2; i++) {
-        const Dwarf_Die scope = walk.path[i];
-        walk.path[i] = walk.path[walk.depth - 1 - i];
-        walk.path[walk.depth - 1 - i] = scope;
+        for (; !code && walk.path.length; walk.path.length--)
+            code = dwexpr_libdw_add(&found, dwexpr_libdw_here(&walk), sizeof **scopes);
+        free(walk.path.items);
     }
-    *scopes = walk.path;
-    *count = walk.depth;
-    return 0;
+    *scopes = dwexpr_libdw_give(code, &found, count);
+    return code;
 }
 
 /* ---- variables */
 
-struct entries {
-    dwexpr_libdw_entry *items;
-    size_t length, room;
+/* What is found at a level. */
+struct found {
+    struct dwexpr_libdw_list entries;
+    unsigned level;
+    int is_enclosing;
 };
 
-static uint32_t add_entry(struct entries *entries, const Dwarf_Die *entry, unsigned level, int is_enclosing)
+static uint32_t add_entry(struct found *found, const Dwarf_Die *entry)
 {
-    dwexpr_libdw_entry *items = (dwexpr_libdw_entry *)dwexpr_libdw_with_room(entries->items, entries->length,
-                                                                             &entries->room, sizeof *items);
-    if (!items)
-        return DWEXPR_LIBDW_NO_MEMORY;
-    entries->items = items;
-    entries->items[entries->length].entry = *entry;
-    entries->items[entries->length].is_enclosing = is_enclosing;
-    entries->items[entries->length++].level = level;
-    return 0;
+    const dwexpr_libdw_entry added = {*entry, found->level, found->is_enclosing};
+    return dwexpr_libdw_add(&found->entries, &added, sizeof added);
 }
 
 /* Whether a child of a scope is the instance of an entry. */
@@ -314,7 +312,7 @@ static int has_instance(Dwarf_Die *scope, const Dwarf_Die *entry)
 {
     Dwarf_Die child;
     int more;
-    for (more = dwarf_child(scope, &child); more == 0; more = dwexpr_libdw_next_sibling(&child)) {
+    for (more = dwarf_child(scope, &child); more == 0; more = dwarf_siblingof(&child, &child)) {
         Dwarf_Attribute attribute;
         Dwarf_Die origin;
         if (dwarf_formref_die(dwarf_attr(&child, DW_AT_abstract_origin, &attribute), &origin) &&
@@ -324,60 +322,55 @@ static int has_instance(Dwarf_Die *scope, const Dwarf_Die *entry)
     return 0;
 }
 
-/* Adds the variables that stand in an entry, but those that have an instance in a scope unless that is NULL. */
-static uint32_t add_variables(struct entries *entries, Dwarf_Die *parent, Dwarf_Die *scope, unsigned level,
-                              int is_enclosing)
+/* Adds the variables that stand in an entry. If `scope` isn't NULL, those with an instance there are left out. */
+static uint32_t add_variables(struct found *found, Dwarf_Die *parent, Dwarf_Die *scope)
 {
     Dwarf_Die entry;
     uint32_t code = 0;
     int more;
-    for (more = dwarf_child(parent, &entry); more == 0 && !code; more = dwexpr_libdw_next_sibling(&entry)) {
+    for (more = dwarf_child(parent, &entry); more == 0 && !code; more = dwarf_siblingof(&entry, &entry)) {
         const int tag = dwarf_tag(&entry);
         if (tag == DW_TAG_common_block && dwarf_tag(parent) != DW_TAG_common_block)
-            code = add_variables(entries, &entry, scope, level, is_enclosing);
+            code = add_variables(found, &entry, scope);
         else if ((tag == DW_TAG_variable || tag == DW_TAG_formal_parameter || tag == DW_TAG_constant) &&
                  !(scope && has_instance(scope, &entry)))
-            code = add_entry(entries, &entry, level, is_enclosing);
+            code = add_entry(found, &entry);
     }
     return code;
 }
 
-/* Adds the function that ends a level, and the variables of its scopes, the innermost first: those that stand there,
- * and those that only the entry of which a scope is an instance has. */
-static uint32_t add_level(struct entries *entries, Dwarf_Die *scopes, size_t count, unsigned level, int is_enclosing)
+/* Adds the function that ends a level, and the variables of its scopes, innermost first. If a scope is an instance of
+ * another entry, what only that entry has is added too. */
+static uint32_t add_level(struct found *found, Dwarf_Die *scopes, size_t count)
 {
-    uint32_t code = add_entry(entries, &scopes[count - 1], level, is_enclosing);
+    uint32_t code = add_entry(found, &scopes[count - 1]);
     size_t i;
     for (i = 0; i < count && !code; i++) {
         Dwarf_Attribute attribute;
         Dwarf_Die origin;
-        code = add_variables(entries, &scopes[i], NULL, level, is_enclosing);
+        code = add_variables(found, &scopes[i], NULL);
         if (!code && dwarf_formref_die(dwarf_attr(&scopes[i], DW_AT_abstract_origin, &attribute), &origin))
-            code = add_variables(entries, &origin, &scopes[i], level, is_enclosing);
+            code = add_variables(found, &origin, &scopes[i]);
     }
     return code;
 }
 
 uint32_t dwexpr_libdw_variables(dwexpr_libdw_frame *frame, dwexpr_libdw_entry **entries, size_t *count)
 {
-    struct entries found = {NULL, 0, 0};
+    struct found found = {.level = 0};
     Dwarf_Die *scopes;
     size_t i, begin = 0, length;
-    unsigned level = 0;
-    int is_enclosing = 0;
     uint32_t code = dwexpr_libdw_scopes(frame, &scopes, &length);
     for (i = 0; !code && i < length; i++) {
         const int tag = dwarf_tag(&scopes[i]);
         if (tag != DW_TAG_subprogram && tag != DW_TAG_inlined_subroutine)
             continue;
-        code = add_level(&found, &scopes[begin], i + 1 - begin, level++, is_enclosing);
+        code = add_level(&found, &scopes[begin], i + 1 - begin);
         begin = i + 1;
-        is_enclosing |= tag == DW_TAG_subprogram;
+        found.level++;
+        found.is_enclosing |= tag == DW_TAG_subprogram;
     }
     free(scopes);
-    if (code)
-        free(found.items);
-    *entries = code ? NULL : found.items;
-    *count = code ? 0 : found.length;
+    *entries = dwexpr_libdw_give(code, &found.entries, count);
     return code;
 }

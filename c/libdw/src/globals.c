@@ -1,45 +1,36 @@
 /* What is looked for by its name: variables of modules, symbols, and the definitions of what is only declared. */
 #include "private.h"
 
-/* A way through the units of modules. */
-struct visit {
-    int (*on_unit)(Dwarf_Die *unit, void *given); /* gives back whether it ends the way */
-    void *given;
-    /* those of the frame, which come first */
-    Dwfl_Module *module;
-    const void *unit;
-};
+/* Looks at a unit. Gives back whether the search ends there. */
+typedef int unit_search(Dwarf_Die *unit, void *given);
 
-static int visit_module(Dwfl_Module *module, void **data, const char *name, Dwarf_Addr start, void *given)
+static int search_module(Dwfl_Module *module, const void *passed, unit_search *on_unit, void *given)
 {
-    const struct visit *visit = (const struct visit *)given;
-    Dwarf_Die *unit = NULL, part;
+    Dwarf_Die *unit = NULL;
     Dwarf_Addr bias;
-    (void)data, (void)name, (void)start;
-    if (data && module == visit->module)
-        return DWARF_CB_OK;
     while ((unit = dwfl_module_nextcu(module, unit, &bias)) != NULL) {
-        const int is_split = !dwarf_cu_info(unit->cu, NULL, NULL, NULL, &part, NULL, NULL, NULL) && part.addr;
-        Dwarf_Die *entries = is_split ? &part : unit;
-        if (entries->addr != visit->unit && visit->on_unit(entries, visit->given))
-            return DWARF_CB_ABORT;
+        Dwarf_Die entries = dwexpr_libdw_entries(unit);
+        if (entries.addr != passed && on_unit(&entries, given))
+            return 1;
     }
-    return DWARF_CB_OK;
+    return 0;
 }
 
-/* Goes through the units of a module; or of all if that is NULL, the frame's first. */
-static void visit_units(dwexpr_libdw_frame *frame, Dwfl_Module *module, struct visit visit)
+/* Searches the units of a module; or of all if that is NULL, the frame's unit first, and then its module. */
+static void search_units(dwexpr_libdw_frame *frame, Dwfl_Module *module, unit_search *on_unit, void *given)
 {
+    Dwarf_Die *first = &frame->place.unit;
+    int ends;
     dwexpr_libdw_find_place(frame);
-    visit.module = frame->place.module;
     if (module) {
-        visit_module(module, NULL, NULL, 0, &visit);
+        search_module(module, NULL, on_unit, given);
         return;
     }
-    visit.unit = frame->place.unit.addr;
-    if (!(visit.unit && visit.on_unit(&frame->place.unit, visit.given)) &&
-        !(visit.module && visit_module(visit.module, NULL, NULL, 0, &visit) != DWARF_CB_OK))
-        dwfl_getmodules(frame->source.dwfl, visit_module, &visit, 0);
+    ends = first->addr && on_unit(first, given);
+    if (!ends && frame->place.module)
+        ends = search_module(frame->place.module, first->addr, on_unit, given);
+    while (!ends && (module = dwexpr_libdw_next_module(frame->source.dwfl, module)) != NULL)
+        ends = module != frame->place.module && search_module(module, first->addr, on_unit, given);
 }
 
 const char *dwexpr_libdw_linkage_name(Dwarf_Die *entry)
@@ -61,8 +52,7 @@ static int has_name(Dwarf_Die *entry, const char *name)
 
 struct globals {
     const char *name;
-    Dwarf_Die *items;
-    size_t length, room;
+    struct dwexpr_libdw_list found;
     uint32_t code;
 };
 
@@ -78,34 +68,27 @@ static int add_globals(Dwarf_Die *unit, void *given)
 {
     struct globals *globals = (struct globals *)given;
     struct dwexpr_libdw_walk walk;
-    int enters = 1, more = 1;
-    globals->code = dwexpr_libdw_begin_walk(&walk, unit);
-    while (!globals->code && (more = dwexpr_libdw_next_entry(&walk, enters)) > 0) {
-        Dwarf_Die *entry = &walk.path[walk.depth - 1], *items;
+    int enters = 1;
+    dwexpr_libdw_begin_walk(&walk, unit);
+    while (!globals->code && dwexpr_libdw_next_entry(&walk, enters)) {
+        Dwarf_Die *entry = dwexpr_libdw_here(&walk);
         const int tag = dwarf_tag(entry);
         enters = tag == DW_TAG_namespace || tag == DW_TAG_module;
-        if (!is_global(entry, globals->name))
-            continue;
-        items = (Dwarf_Die *)dwexpr_libdw_with_room(globals->items, globals->length, &globals->room, sizeof *items);
-        if (items)
-            (globals->items = items)[globals->length++] = *entry;
-        globals->code = items ? 0 : DWEXPR_LIBDW_NO_MEMORY;
+        if (is_global(entry, globals->name))
+            globals->code = dwexpr_libdw_add(&globals->found, entry, sizeof *entry);
     }
-    free(walk.path);
-    globals->code = more < 0 ? DWEXPR_LIBDW_NO_MEMORY : globals->code;
+    free(walk.path.items);
+    globals->code = globals->code ? globals->code : walk.code;
     return globals->code != 0;
 }
 
 uint32_t dwexpr_libdw_globals(dwexpr_libdw_frame *frame, Dwfl_Module *module, const char *name, Dwarf_Die **globals,
                               size_t *count)
 {
-    struct globals found = {.name = name};
-    visit_units(frame, module, (struct visit){.on_unit = add_globals, .given = &found});
-    if (found.code)
-        free(found.items);
-    *globals = found.code ? NULL : found.items;
-    *count = found.code ? 0 : found.length;
-    return found.code;
+    struct globals search = {.name = name};
+    search_units(frame, module, add_globals, &search);
+    *globals = dwexpr_libdw_give(search.code, &search.found, count);
+    return search.code;
 }
 
 /* ---- types that are only declared */
@@ -133,32 +116,31 @@ static int is_same(Dwarf_Die *first, Dwarf_Die *second)
 static int find_definition(Dwarf_Die *unit, void *given)
 {
     struct definition *definition = (struct definition *)given;
-    const struct dwexpr_libdw_walk *declared = &definition->declared;
+    const struct dwexpr_libdw_list *declared = &definition->declared.path;
     struct dwexpr_libdw_walk walk;
-    int enters = 1, more = 1;
-    definition->code = dwexpr_libdw_begin_walk(&walk, unit);
-    while (!definition->code && !definition->found.addr && (more = dwexpr_libdw_next_entry(&walk, enters)) > 0) {
-        Dwarf_Die *entry = &walk.path[walk.depth - 1];
-        enters = walk.depth < declared->depth && is_same(entry, &declared->path[walk.depth - 1]);
-        if (walk.depth == declared->depth && !dwarf_hasattr(entry, DW_AT_declaration) &&
-            is_same(entry, &declared->path[walk.depth - 1]))
+    int enters = 1;
+    dwexpr_libdw_begin_walk(&walk, unit);
+    while (!definition->found.addr && dwexpr_libdw_next_entry(&walk, enters)) {
+        Dwarf_Die *entry = dwexpr_libdw_here(&walk);
+        const int same = is_same(entry, (Dwarf_Die *)declared->items + walk.path.length - 1);
+        enters = same && walk.path.length < declared->length;
+        if (same && !enters && !dwarf_hasattr(entry, DW_AT_declaration))
             definition->found = *entry;
     }
-    free(walk.path);
-    definition->code = more < 0 ? DWEXPR_LIBDW_NO_MEMORY : definition->code;
-    return definition->code || definition->found.addr;
+    free(walk.path.items);
+    definition->code = walk.code;
+    return walk.code || definition->found.addr;
 }
 
 uint32_t dwexpr_libdw_definition(dwexpr_libdw_frame *frame, Dwarf_Die *type, Dwarf_Die *definition)
 {
     struct definition search = {.found = {.addr = NULL}};
     Dwarf_Die unit;
-    if (!dwarf_diecu(type, &unit, NULL, NULL))
-        return DWEXPR_LIBDW_FAILED;
-    search.code = dwexpr_libdw_find_path(&search.declared, &unit, type);
-    if (!search.code && !find_definition(&unit, &search))
-        visit_units(frame, NULL, (struct visit){.on_unit = find_definition, .given = &search});
-    free(search.declared.path);
+    dwexpr_libdw_find_path(&search.declared, dwarf_diecu(type, &unit, NULL, NULL), type);
+    search.code = search.declared.code;
+    if (!search.code && search.declared.path.length > 1 && !find_definition(&unit, &search))
+        search_units(frame, NULL, find_definition, &search);
+    free(search.declared.path.items);
     *definition = search.found;
     return search.code ? search.code : search.found.addr ? 0 : DWEXPR_LIBDW_NOT_DEFINED;
 }
@@ -170,13 +152,13 @@ static Elf_Data *section_of(Dwfl_Module *module, unsigned type, GElf_Shdr *heade
 {
     Elf *elf = dwfl_module_getelf(module, bias);
     Elf_Scn *section = NULL;
-    while ((section = elf_nextscn(elf, section)) != NULL)
-        if (gelf_getshdr(section, header) && header->sh_type == type)
-            return elf_getdata(section, NULL);
-    return NULL;
+    header->sh_type = SHT_NULL;
+    while (header->sh_type != type && (section = elf_nextscn(elf, section)) != NULL)
+        gelf_getshdr(section, header);
+    return elf_getdata(section, NULL);
 }
 
-/* Whether a module is the program: the linker leaves room there for what debuggers look for. */
+/* Whether a module is the program: only its dynamic section has DT_DEBUG. */
 static int is_program(Dwfl_Module *module)
 {
     GElf_Shdr header;
@@ -184,7 +166,7 @@ static int is_program(Dwfl_Module *module)
     GElf_Dyn entry;
     Elf_Data *entries = section_of(module, SHT_DYNAMIC, &header, &bias);
     int i;
-    for (i = 0; gelf_getdyn(entries, i, &entry) && entry.d_tag != DT_NULL; i++)
+    for (i = 0; gelf_getdyn(entries, i, &entry); i++)
         if (entry.d_tag == DT_DEBUG)
             return 1;
     return 0;
@@ -209,26 +191,6 @@ static int is_exported(Dwfl_Module *module, struct dwexpr_libdw_symbol *symbol)
     return 0;
 }
 
-/* The modules that export a symbol. */
-struct exporters {
-    struct dwexpr_libdw_symbol last, program;
-    int count;
-};
-
-static int add_exporter(Dwfl_Module *module, void **data, const char *name, Dwarf_Addr start, void *given)
-{
-    struct exporters *exporters = (struct exporters *)given;
-    struct dwexpr_libdw_symbol symbol = exporters->last;
-    (void)data, (void)name, (void)start;
-    if (!is_exported(module, &symbol))
-        return DWARF_CB_OK;
-    exporters->count++;
-    exporters->last = symbol;
-    if (is_program(module))
-        exporters->program = symbol;
-    return DWARF_CB_OK;
-}
-
 int dwexpr_libdw_find_symbol(Dwfl_Module *module, Dwarf_Addr address, struct dwexpr_libdw_symbol *symbol)
 {
     int i;
@@ -247,16 +209,22 @@ int dwexpr_libdw_find_symbol(Dwfl_Module *module, Dwarf_Addr address, struct dwe
 
 int dwexpr_libdw_resolve(Dwfl *dwfl, Dwfl_Module *module, int is_its_own, struct dwexpr_libdw_symbol *symbol)
 {
-    struct exporters exporters = {.last = *symbol};
+    struct dwexpr_libdw_symbol other = *symbol;
+    Dwfl_Module *exporter = NULL;
     const int own = module && is_exported(module, symbol);
+    int count = 0;
     if (!own && is_its_own)
         return 0;
     if (!own && dwexpr_libdw_find_symbol(module, 0, symbol))
         return 1;
-    dwfl_getmodules(dwfl, add_exporter, &exporters, 0);
-    if (exporters.program.module)
-        *symbol = exporters.program;
-    else if (!own && exporters.count == 1)
-        *symbol = exporters.last;
-    return exporters.program.module || own || exporters.count == 1;
+    while ((exporter = dwexpr_libdw_next_module(dwfl, exporter)) != NULL) {
+        if (!is_exported(exporter, &other))
+            continue;
+        count++;
+        if (!own || is_program(exporter))
+            *symbol = other;
+        if (is_program(exporter))
+            return 1;
+    }
+    return own || count == 1;
 }

@@ -27,44 +27,48 @@ struct dwexpr_libdw_frame {
 
 /* ---- encode.c */
 
-/* The number of the lowest 8 of these bytes, and the bytes of a number, in an order. */
+/* The number of the lowest 8 of these bytes, and the lowest bytes of a number, at most 8, in an order. */
 uint64_t dwexpr_libdw_number_of(const uint8_t *bytes, size_t size, int big_endian);
 void dwexpr_libdw_bytes_of(uint64_t number, size_t size, int big_endian, uint8_t *bytes);
 
 /* ---- expressions.c */
 
-/* Makes room for one more item. Gives back the items, or NULL if there is no memory. */
-void *dwexpr_libdw_with_room(void *items, size_t length, size_t *room, size_t size);
-
-/* A list of memory. */
-struct dwexpr_libdw_memory {
-    struct dwexpr_libdw_memory *next;
+/* Items of one size, in memory that grows. */
+struct dwexpr_libdw_list {
+    void *items;
+    size_t length, room;
 };
 
+/* Adds a copy of an item. Answers 0 or DWEXPR_LIBDW_NO_MEMORY. */
+uint32_t dwexpr_libdw_add(struct dwexpr_libdw_list *list, const void *item, size_t size);
+/* The items for a client, who frees them, and how many there are; NULL and 0 if the code isn't 0. */
+void *dwexpr_libdw_give(uint32_t code, const struct dwexpr_libdw_list *list, size_t *count);
+
+/* Takes so many bytes of memory, and puts them to a list. Gives back NULL if there is none. */
+uint8_t *dwexpr_libdw_take(void **list, size_t size);
 void dwexpr_libdw_free_memory(void *first);
 /* Puts the memory of an expression to a list. */
 void dwexpr_libdw_keep(dwexpr_libdw_text *expression, void **list);
 
 /* ---- entries.c */
 
-/* Goes to the next entry of the same parent, as dwarf_siblingof does. It stands after this one: so a way through all
- * ends, whatever the debug information says. */
-int dwexpr_libdw_next_sibling(Dwarf_Die *entry);
-
-/* A way through the entries of a unit, without recursion. */
+/* A walk through entries, each before its children, without recursion. It ends, since libdw goes to no entry that
+ * stands before. Free `path.items` after it. */
 struct dwexpr_libdw_walk {
-    Dwarf_Die *path; /* from where it began to the entry where it is */
-    size_t depth, room;
-    size_t floor; /* it ends when it would leave the first so many entries of the path */
-    const void *last; /* the last entry where it was; the next one stands after it */
+    struct dwexpr_libdw_list path; /* the entries from where it began to where it is */
+    size_t floor;  /* the walk ends when it would leave the first so many entries of the path */
+    uint32_t code; /* DWEXPR_LIBDW_NO_MEMORY if that ended it */
 };
 
-uint32_t dwexpr_libdw_begin_walk(struct dwexpr_libdw_walk *walk, const Dwarf_Die *first);
-/* Goes to the next entry, into the children if `enters`. Gives back 1; 0 at the end; or -1 if there is no memory. */
+void dwexpr_libdw_begin_walk(struct dwexpr_libdw_walk *walk, const Dwarf_Die *first);
+/* The entry where a walk is. */
+Dwarf_Die *dwexpr_libdw_here(const struct dwexpr_libdw_walk *walk);
+/* Goes to the next entry, into the children if `enters`. Gives back whether there is one. */
 int dwexpr_libdw_next_entry(struct dwexpr_libdw_walk *walk, int enters);
-/* Begins a walk that has gone down to an entry, so that the path has the entry's parents; it is empty if the entry
- * isn't there. */
-uint32_t dwexpr_libdw_find_path(struct dwexpr_libdw_walk *walk, const Dwarf_Die *first, const Dwarf_Die *entry);
+/* Walks straight down to an entry, so that the path has the entry's parents; it is empty if the entry isn't there. */
+void dwexpr_libdw_find_path(struct dwexpr_libdw_walk *walk, const Dwarf_Die *first, const Dwarf_Die *entry);
+/* Goes up to the innermost function of the path. Its `addr` is NULL if there is none. */
+Dwarf_Die dwexpr_libdw_innermost_function(struct dwexpr_libdw_walk *walk);
 
 /* The bytes of a number and its encoding, as a type says them, or that of which it is a range. Gives back 0 if both are
  * known. */
@@ -72,7 +76,8 @@ int dwexpr_libdw_scalar(Dwarf_Die *type, Dwarf_Word *size, Dwarf_Word *encoding)
 
 /* ---- evaluate.c */
 
-/* What the number of an attribute is computed with: the object's address, and the value on the stack at the begin. */
+/* What an attribute's number is computed with: a frame and, unless they are NULL, the object's address and the value
+ * that is on the stack at first. */
 struct dwexpr_libdw_given {
     dwexpr_libdw_frame *frame;
     const uint64_t *object, *initial;
@@ -80,10 +85,15 @@ struct dwexpr_libdw_given {
 
 uint32_t dwexpr_libdw_number_with(const struct dwexpr_libdw_given *given, Dwarf_Attribute *attribute, uint64_t *number);
 /* The bytes of a string, by DW_AT_string_length, which is the place of a number. */
-uint32_t dwexpr_libdw_string_length(dwexpr_libdw_frame *frame, Dwarf_Die *type, Dwarf_Attribute *attribute,
-                                    const uint64_t *object, uint64_t *bytes);
+uint32_t dwexpr_libdw_string_length(const struct dwexpr_libdw_given *given, Dwarf_Die *type,
+                                    Dwarf_Attribute *attribute, uint64_t *bytes);
 
 /* ---- frames.c */
+
+/* The unit with the entries: that of the split debug information if the unit is split. */
+Dwarf_Die dwexpr_libdw_entries(Dwarf_Die *unit);
+/* The module after this one, the first one after NULL; NULL at the end. */
+Dwfl_Module *dwexpr_libdw_next_module(Dwfl *dwfl, Dwfl_Module *passed);
 
 /* Finds the module, the unit and the function of a frame, the same each time. */
 uint32_t dwexpr_libdw_find_place(dwexpr_libdw_frame *frame);
@@ -128,10 +138,10 @@ const char *dwexpr_libdw_linkage_name(Dwarf_Die *entry);
 int dwexpr_libdw_find_call_site(dwexpr_libdw_frame *frame, Dwarf_Die *site);
 /* The attribute of the address that a call site computes. */
 int dwexpr_libdw_call_target(Dwarf_Die *site, Dwarf_Attribute *target);
-/* Whether a call site in `caller` names the function of a frame; -1 if it computes an address. */
-int dwexpr_libdw_names(Dwarf_Die *site, const dwexpr_libdw_frame *caller, const dwexpr_libdw_frame *called);
-/* The address of the function that a call site names, 0 if it isn't known. */
-uint64_t dwexpr_libdw_called_address(Dwarf_Die *site, const dwexpr_libdw_frame *caller);
+/* Whether a call site in `caller` names the function of a frame: 1; 0 if it names another one, whose address is 0 if
+ * it isn't known; or -1 if it computes an address. */
+int dwexpr_libdw_names(Dwarf_Die *site, const dwexpr_libdw_frame *caller, const dwexpr_libdw_frame *called,
+                       uint64_t *address);
 /* A frame of the function at an address that the caller called, and that isn't there any more: none of its registers is
  * known. Gives back whether a function begins there. */
 int dwexpr_libdw_enter(const dwexpr_libdw_frame *caller, uint64_t address, dwexpr_libdw_frame *entered);

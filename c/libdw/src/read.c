@@ -15,7 +15,7 @@ static void copy_bits(uint8_t *to, uint64_t to_bit, const uint8_t *from, uint64_
 {
     const unsigned flip = big_endian ? 7 : 0;
     uint64_t i = 0;
-    if (count >= 8 && !(to_bit % 8) && !(from_bit % 8)) {
+    if (count >= 8 && !((to_bit | from_bit) % 8)) {
         memcpy(to + to_bit / 8, from + from_bit / 8, (size_t)(count / 8));
         i = count - count % 8;
     }

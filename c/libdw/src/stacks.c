@@ -26,18 +26,21 @@ struct stack_frame {
 struct dwexpr_libdw_stack {
     dwexpr_libdw_target *target;
     pid_t thread;
-    struct stack_frame *frames;
-    size_t length, room, most;
-    struct known_register *registers;
-    size_t register_length, register_room;
+    size_t most;
+    struct dwexpr_libdw_list frames, registers; /* of stack_frame, of known_register */
     struct dwexpr_libdw_sets sets; /* of the innermost frame */
     int is_cut_off;
     uint32_t code;
 };
 
+static struct stack_frame *frames_of(const dwexpr_libdw_stack *stack)
+{
+    return (struct stack_frame *)stack->frames.items;
+}
+
 /* ---- registers from the kernel's sets */
 
-/* Those of the x87 aren't among them: they have 80 bits, and a variable of 64 in one isn't its lowest 64. */
+/* The x87 registers are left out. They have 80 bits, and a variable of 64 bits in one isn't its lowest 64. */
 static const struct row {
     uint16_t machine, first, count, set, offset, size;
 } rows[] = {
@@ -46,7 +49,7 @@ static const struct row {
     {EM_386, 21, 8, FXSAVE, 160, 16},       /* xmm0 to xmm7 */
 };
 
-enum { RAX = 0, RBX = 3, XMM0 = 17, XMM15 = 32, FS_BASE = 58 };
+enum { RAX = 0, RBX = 3, XMM0 = 17, FS_BASE = 58 };
 
 /* The upper half of a ymm register, which has the number of the xmm register that is its lower half. XSAVE has a mask
  * of what it may have at 464, of what isn't zero at 512, and the upper halves at 576. */
@@ -75,7 +78,7 @@ static int read_set(const dwexpr_libdw_stack *stack, uint32_t number, uint8_t *b
             continue;
         *size = row->size;
         memcpy(bytes, stack->sets.bytes[row->set] + at, row->size);
-        if (row->machine == EM_X86_64 && number >= XMM0 && number <= XMM15)
+        if (row->set == FLOATING)
             read_upper_half(&stack->sets, number, bytes, size);
         return 0;
     }
@@ -84,28 +87,29 @@ static int read_set(const dwexpr_libdw_stack *stack, uint32_t number, uint8_t *b
 
 /* ---- registers of callers */
 
-/* Whether a call kept a register of its caller that call frame information says nothing of. GCC names a register that a
- * call may change only if it knows that this call doesn't. */
+/* Whether a call kept a register of its caller, though call frame information doesn't say so. GCC only names a register
+ * that calls may change if it knows that this call doesn't. */
 static int is_kept(dwexpr_libdw_frame *caller, unsigned machine, uint32_t number)
 {
     Dwarf_Attribute attribute;
     const char *producer;
     if (machine == EM_X86_64 && (number == RBX || number == FS_BASE))
         return 1;
-    if (dwexpr_libdw_find_place(caller) || !caller->place.unit.addr)
+    dwexpr_libdw_find_place(caller);
+    if (!caller->place.unit.addr)
         return 0;
     producer = dwarf_formstring(dwarf_attr(&caller->place.unit, DW_AT_producer, &attribute));
     return producer && !strncmp(producer, "GNU ", 4);
 }
 
-/* Whether a frame was interrupted by a signal: the one that it called is that of the kernel, whose call frame
- * information says so. */
+/* Whether a signal interrupted a frame. Then the frame before it is the kernel's, whose call frame information says
+ * so. */
 static int is_interrupted(const dwexpr_libdw_stack *stack, size_t index)
 {
     Dwarf_Frame *state;
     Elf *elf;
     bool is_signal = false;
-    if (index && !dwexpr_libdw_find_state(&stack->frames[index - 1].frame, 0, &state, &elf)) {
+    if (!dwexpr_libdw_find_state(&frames_of(stack)[index - 1].frame, 0, &state, &elf)) {
         dwarf_frame_info(state, NULL, NULL, &is_signal);
         free(state);
     }
@@ -116,13 +120,14 @@ static int is_interrupted(const dwexpr_libdw_stack *stack, size_t index)
  * for rbx, which a call keeps (elfutils 0.188). */
 static int is_known(const dwexpr_libdw_stack *stack, size_t index, uint32_t number, Dwarf_Word *content)
 {
-    const struct stack_frame *frame = &stack->frames[index];
+    const struct stack_frame *frame = &frames_of(stack)[index];
+    const struct known_register *registers = (const struct known_register *)stack->registers.items;
     size_t i;
     if (index && stack->target->machine == EM_X86_64 && number == RAX && !is_interrupted(stack, index))
         return 0;
     for (i = frame->registers; i < frame->registers + frame->register_count; i++)
-        if (stack->registers[i].number == number) {
-            *content = stack->registers[i].content;
+        if (registers[i].number == number) {
+            *content = registers[i].content;
             return 1;
         }
     return 0;
@@ -133,20 +138,21 @@ static int read_register(void *context, uint32_t number, uint8_t *bytes, size_t 
     const struct stack_frame *frame = (const struct stack_frame *)context;
     const dwexpr_libdw_stack *stack = frame->stack;
     const dwexpr_libdw_target *target = stack->target;
-    const size_t first = (size_t)(frame - stack->frames);
+    const struct stack_frame *frames = frames_of(stack);
+    const size_t first = (size_t)(frame - frames);
     Dwarf_Word content;
     size_t i;
     for (i = first;; i--) {
         if (is_known(stack, i, number, &content)) {
-            *size = target->ident[EI_CLASS] == ELFCLASS32 ? 4 : 8;
-            dwexpr_libdw_bytes_of(content, *size, target->ident[EI_DATA] == ELFDATA2MSB, bytes);
+            *size = target->word;
+            dwexpr_libdw_bytes_of(content, *size, target->big_endian, bytes);
             return 0;
         }
         if (!i)
             return read_set(stack, number, bytes, size);
         /* a signal's handler keeps nothing */
-        if (stack->frames[i].frame.source.is_activation || stack->frames[i].is_guessed ||
-            (i == first && !is_kept(&stack->frames[first].frame, target->machine, number)))
+        if (frames[i].frame.source.is_activation || frames[i].is_guessed ||
+            (i == first && !is_kept(&frames_of(stack)[first].frame, target->machine, number)))
             return 1;
     }
 }
@@ -158,8 +164,8 @@ static int read_memory(void *context, uint64_t address, uint8_t *bytes, size_t s
 
 /* ---- thread-local storage */
 
-/* The base of the segment that gs selects on i386: register 10 of the general ones, and the entries that the kernel has
- * of a thread, each with its number and its base. */
+/* The base of the segment that gs selects on i386. Register 10 of the general ones is gs; the kernel keeps a list of
+ * segments for each thread, with their numbers and bases. */
 static int find_segment(const dwexpr_libdw_stack *stack, uint64_t *base)
 {
     const uint8_t *general = stack->sets.bytes[GENERAL], *entries = stack->sets.bytes[SEGMENTS];
@@ -194,9 +200,9 @@ static int find_tls(void *context, Dwfl_Module *module, uint64_t offset, uint64_
            dwexpr_libdw_find_block(stack->target, module, pointer, offset, address);
 }
 
-/* ---- the way through the frames */
+/* ---- the walk through the frames */
 
-/* The sets of a process's thread, which is stopped on the way. */
+/* Reads the thread's register sets by ptrace; libdwfl keeps it stopped during the walk. */
 static uint32_t trace_sets(dwexpr_libdw_stack *stack)
 {
     const size_t room = 16384;
@@ -214,23 +220,14 @@ static uint32_t trace_sets(dwexpr_libdw_stack *stack)
 
 static uint32_t add_registers(dwexpr_libdw_stack *stack, Dwfl_Frame *state, struct stack_frame *frame)
 {
-    unsigned number;
-    frame->registers = stack->register_length;
-    for (number = 0; number < ASKED_REGISTERS; number++) {
-        Dwarf_Word content;
-        struct known_register *registers;
-        if (dwfl_frame_reg(state, number, &content))
-            continue;
-        registers = (struct known_register *)dwexpr_libdw_with_room(stack->registers, stack->register_length,
-                                                                    &stack->register_room, sizeof *registers);
-        if (!registers)
-            return DWEXPR_LIBDW_NO_MEMORY;
-        stack->registers = registers;
-        registers[stack->register_length].number = number;
-        registers[stack->register_length++].content = content;
-        frame->register_count++;
-    }
-    return 0;
+    struct known_register known = {.number = 0};
+    uint32_t code = 0;
+    frame->registers = stack->registers.length;
+    for (; known.number < ASKED_REGISTERS && !code; known.number++)
+        if (!dwfl_frame_reg(state, known.number, &known.content))
+            code = dwexpr_libdw_add(&stack->registers, &known, sizeof known);
+    frame->register_count = stack->registers.length - frame->registers;
+    return code;
 }
 
 static int has_rules(const dwexpr_libdw_frame *frame)
@@ -250,35 +247,28 @@ static int has_rules(const dwexpr_libdw_frame *frame)
 static int on_frame(Dwfl_Frame *state, void *given)
 {
     dwexpr_libdw_stack *stack = (dwexpr_libdw_stack *)given;
-    struct stack_frame *frames;
+    struct stack_frame frame = {.stack = stack};
     dwexpr_libdw_source source = {.dwfl = stack->target->dwfl, .read_register = read_register,
                                   .read_memory = read_memory, .find_tls = find_tls};
-    bool is_activation;
-    if (stack->length == stack->most) {
+    bool is_activation = false;
+    if (stack->frames.length == stack->most) {
         stack->code = DWEXPR_LIBDW_TOO_MANY_FRAMES;
         return DWARF_CB_ABORT;
     }
-    if (!dwfl_frame_pc(state, &source.pc, &is_activation))
-        return DWARF_CB_ABORT;
-    if (!stack->length && !stack->target->core)
-        stack->code = trace_sets(stack);
-    frames = (struct stack_frame *)dwexpr_libdw_with_room(stack->frames, stack->length, &stack->room,
-                                                          sizeof *frames);
-    if (!frames || stack->code) {
-        stack->code = DWEXPR_LIBDW_NO_MEMORY;
-        return DWARF_CB_ABORT;
-    }
-    stack->frames = frames;
-    frames += stack->length++;
-    memset(frames, 0, sizeof *frames);
-    frames->stack = stack;
+    dwfl_frame_pc(state, &source.pc, &is_activation);
     source.is_activation = is_activation;
-    dwexpr_libdw_begin_frame(&frames->frame, &source);
-    frames->is_guessed = stack->length > 1 && !has_rules(&frames[-1].frame);
-    if (frames->is_guessed)
+    dwexpr_libdw_begin_frame(&frame.frame, &source);
+    if (stack->frames.length)
+        frame.is_guessed = !has_rules(&frames_of(stack)[stack->frames.length - 1].frame);
+    else if (!stack->target->core)
+        stack->code = trace_sets(stack);
+    if (frame.is_guessed)
         dwexpr_libdw_keep_error("a frame has no call frame information");
-    stack->is_cut_off |= frames->is_guessed;
-    stack->code = add_registers(stack, state, frames);
+    stack->is_cut_off |= frame.is_guessed;
+    if (!stack->code)
+        stack->code = add_registers(stack, state, &frame);
+    if (!stack->code)
+        stack->code = dwexpr_libdw_add(&stack->frames, &frame, sizeof frame);
     return stack->code ? DWARF_CB_ABORT : DWARF_CB_OK;
 }
 
@@ -294,25 +284,25 @@ uint32_t dwexpr_libdw_unwind(dwexpr_libdw_target *target, pid_t thread, size_t m
     found->thread = thread;
     found->most = most;
     if (target->core)
-        found->code = dwexpr_libdw_read_sets(target, thread, &found->sets);
+        found->code = dwexpr_libdw_read_notes(target, thread, &found->sets);
     if (!found->code && dwfl_getthread_frames(target->dwfl, thread, on_frame, found) < 0) {
         dwexpr_libdw_keep_error(dwfl_errmsg(-1));
         found->is_cut_off = 1;
     }
-    for (i = 0; i < found->length; i++) {
-        found->frames[i].frame.source.context = &found->frames[i];
-        found->frames[i].frame.source.caller = i + 1 < found->length ? &found->frames[i + 1].frame : NULL;
+    for (i = 0; i < found->frames.length; i++) {
+        dwexpr_libdw_source *source = &frames_of(found)[i].frame.source;
+        source->context = &frames_of(found)[i];
+        source->caller = dwexpr_libdw_frame_at(found, i + 1);
     }
     code = found->code;
-    if (!code && !found->length)
+    if (!code && !found->frames.length)
         code = DWEXPR_LIBDW_NO_TARGET;
-    if (!code && found->is_cut_off)
+    else if (!code && found->is_cut_off)
         code = DWEXPR_LIBDW_CUT_OFF;
-    if (code && code != DWEXPR_LIBDW_TOO_MANY_FRAMES && code != DWEXPR_LIBDW_CUT_OFF) {
+    if (code == DWEXPR_LIBDW_NO_MEMORY || code == DWEXPR_LIBDW_NO_TARGET)
         dwexpr_libdw_free_stack(found);
-        return code;
-    }
-    *stack = found;
+    else
+        *stack = found;
     return code;
 }
 
@@ -323,14 +313,14 @@ void dwexpr_libdw_free_stack(dwexpr_libdw_stack *stack)
         return;
     for (set = 0; set < SETS; set++)
         free(stack->sets.bytes[set]);
-    free(stack->registers);
-    free(stack->frames);
+    free(stack->registers.items);
+    free(stack->frames.items);
     free(stack);
 }
 
 dwexpr_libdw_frame *dwexpr_libdw_frame_at(dwexpr_libdw_stack *stack, size_t index)
 {
-    return stack && index < stack->length ? &stack->frames[index].frame : NULL;
+    return stack && index < stack->frames.length ? &frames_of(stack)[index].frame : NULL;
 }
 
 #endif

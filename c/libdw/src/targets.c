@@ -17,17 +17,15 @@ const uint32_t dwexpr_libdw_note_types[SETS] = {NT_PRSTATUS, NT_FPREGSET, NT_PRX
  * 0; 1 if no segment has bytes for the address; or -1 if the file ends before them. */
 static int read_segments(Elf *elf, Dwarf_Addr bias, uint64_t address, uint8_t *bytes, size_t *size)
 {
-    size_t count, i, length;
+    size_t count = 0, i, length;
     const char *file = elf_rawfile(elf, &length);
-    if (!file || elf_getphdrnum(elf, &count))
-        return 1;
+    elf_getphdrnum(elf, &count);
     for (i = 0; i < count; i++) {
-        GElf_Phdr segment;
+        GElf_Phdr segment = {.p_type = PT_NULL};
         uint64_t offset;
-        if (!gelf_getphdr(elf, (int)i, &segment) || segment.p_type != PT_LOAD)
-            continue;
+        gelf_getphdr(elf, (int)i, &segment);
         offset = address - bias - segment.p_vaddr;
-        if (offset >= segment.p_filesz)
+        if (segment.p_type != PT_LOAD || offset >= segment.p_filesz)
             continue;
         if (segment.p_offset > length || offset >= length - segment.p_offset)
             return -1;
@@ -86,19 +84,21 @@ uint32_t dwexpr_libdw_keep_set(struct dwexpr_libdw_sets *sets, enum set set, con
     return 0;
 }
 
-static int is_narrow(const dwexpr_libdw_target *target)
+/* Takes the order of words, and their size, from the front of an ELF file. */
+static void keep_header(dwexpr_libdw_target *target, const unsigned char *ident, unsigned machine)
 {
-    return target->ident[EI_CLASS] == ELFCLASS32;
+    target->big_endian = ident[EI_DATA] == ELFDATA2MSB;
+    target->word = ident[EI_CLASS] == ELFCLASS32 ? 4 : 8;
+    target->machine = machine;
 }
 
 /* The program's own address in the auxiliary vector. */
 static void keep_program(dwexpr_libdw_target *target, const uint8_t *words, size_t length)
 {
-    const size_t size = is_narrow(target) ? 4 : 8;
-    const int big_endian = target->ident[EI_DATA] == ELFDATA2MSB;
+    const size_t size = target->word;
     for (; length >= 2 * size; words += 2 * size, length -= 2 * size)
-        if (dwexpr_libdw_number_of(words, size, big_endian) == AT_PHDR)
-            target->program = dwexpr_libdw_number_of(words + size, size, big_endian);
+        if (dwexpr_libdw_number_of(words, size, target->big_endian) == AT_PHDR)
+            target->program = dwexpr_libdw_number_of(words + size, size, target->big_endian);
 }
 
 /* A note of a core dump, of those that follow a thread's. */
@@ -130,24 +130,25 @@ static size_t next_note(Elf_Data *notes, size_t at, struct note *note)
 /* The notes of a core dump's segment, or NULL if it has none. */
 static Elf_Data *notes_of(Elf *core, size_t index)
 {
-    GElf_Phdr segment;
-    if (!gelf_getphdr(core, (int)index, &segment) || segment.p_type != PT_NOTE)
-        return NULL;
-    if ((size_t)segment.p_filesz != segment.p_filesz)
+    GElf_Phdr segment = {.p_type = PT_NULL};
+    gelf_getphdr(core, (int)index, &segment);
+    if (segment.p_type != PT_NOTE || (size_t)segment.p_filesz != segment.p_filesz)
         return NULL;
     return elf_getdata_rawchunk(core, (int64_t)segment.p_offset, (size_t)segment.p_filesz, ELF_T_NHDR);
 }
 
-/* Takes a note of a thread's registers. `is_thread` tells whether the last thread that was named is the one. */
-static uint32_t take_note(const dwexpr_libdw_target *target, const struct note *note, pid_t thread, int *is_thread,
+/* Takes a note's registers of a thread, or the program's address. `is_thread` tells whether the last thread that was
+ * named is the one. */
+static uint32_t take_note(dwexpr_libdw_target *target, const struct note *note, pid_t thread, int *is_thread,
                           struct dwexpr_libdw_sets *sets)
 {
     /* in NT_PRSTATUS: the thread's number, and its general registers */
-    const size_t thread_at = is_narrow(target) ? 24 : 32, registers_at = is_narrow(target) ? 72 : 112;
+    const size_t thread_at = target->word == 4 ? 24 : 32, registers_at = target->word == 4 ? 72 : 112;
     int set;
+    if (note->type == NT_AUXV && !note->is_of_linux)
+        keep_program(target, note->bytes, note->length);
     if (note->type == NT_PRSTATUS && !note->is_of_linux && note->length > registers_at) {
-        const int big_endian = target->ident[EI_DATA] == ELFDATA2MSB;
-        *is_thread = (pid_t)dwexpr_libdw_number_of(note->bytes + thread_at, 4, big_endian) == thread;
+        *is_thread = sets && (pid_t)dwexpr_libdw_number_of(note->bytes + thread_at, 4, target->big_endian) == thread;
         return *is_thread ? dwexpr_libdw_keep_set(sets, GENERAL, note->bytes + registers_at,
                                                   note->length - registers_at)
                           : 0;
@@ -158,12 +159,11 @@ static uint32_t take_note(const dwexpr_libdw_target *target, const struct note *
     return 0;
 }
 
-uint32_t dwexpr_libdw_read_sets(const dwexpr_libdw_target *target, pid_t thread, struct dwexpr_libdw_sets *sets)
+uint32_t dwexpr_libdw_read_notes(dwexpr_libdw_target *target, pid_t thread, struct dwexpr_libdw_sets *sets)
 {
-    size_t count, i;
+    size_t count = 0, i;
     uint32_t code = 0;
-    if (elf_getphdrnum(target->core, &count))
-        return 0;
+    elf_getphdrnum(target->core, &count);
     for (i = 0; i < count && !code; i++) {
         Elf_Data *notes = notes_of(target->core, i);
         struct note note;
@@ -175,60 +175,40 @@ uint32_t dwexpr_libdw_read_sets(const dwexpr_libdw_target *target, pid_t thread,
     return code;
 }
 
-static void read_core_header(dwexpr_libdw_target *target)
-{
-    GElf_Ehdr header;
-    size_t count, i;
-    if (gelf_getehdr(target->core, &header)) {
-        memcpy(target->ident, header.e_ident, sizeof target->ident);
-        target->machine = header.e_machine;
-    }
-    if (elf_getphdrnum(target->core, &count))
-        return;
-    for (i = 0; i < count; i++) {
-        Elf_Data *notes = notes_of(target->core, i);
-        struct note note;
-        size_t at = 0;
-        while (notes && (at = next_note(notes, at, &note)) > 0)
-            if (note.type == NT_AUXV && !note.is_of_linux)
-                keep_program(target, note.bytes, note.length);
-    }
-}
-
 static int open_file(const char *path)
 {
     return open(path, O_RDONLY | O_CLOEXEC);
 }
 
-/* Reads the front of a file that /proc has of the process. Gives back how many bytes there are. */
-static size_t read_proc(const dwexpr_libdw_target *target, const char *name, uint8_t *bytes, size_t size)
+/* Opens a file that /proc has of the process. */
+static int open_proc(const dwexpr_libdw_target *target, const char *name)
 {
     char path[64];
-    ssize_t count = -1;
-    int file;
     snprintf(path, sizeof path, "/proc/%ld/%s", (long)dwfl_pid(target->dwfl), name);
-    file = open_file(path);
-    if (file >= 0) {
-        count = read(file, bytes, size);
+    return open_file(path);
+}
+
+/* Reads the front of such a file. Gives back how many bytes there are. */
+static size_t read_proc(const dwexpr_libdw_target *target, const char *name, uint8_t *bytes, size_t size)
+{
+    const int file = open_proc(target, name);
+    const ssize_t count = file < 0 ? 0 : read(file, bytes, size);
+    if (file >= 0)
         close(file);
-    }
     return count > 0 ? (size_t)count : 0;
 }
 
 static void read_process_header(dwexpr_libdw_target *target)
 {
     uint8_t bytes[1024];
-    char path[64];
+    uint16_t machine;
     if (read_proc(target, "exe", bytes, EI_NIDENT + 4) == EI_NIDENT + 4) {
         /* a process runs on this machine, so its file's words are in the order of this program's */
-        uint16_t machine;
-        memcpy(target->ident, bytes, sizeof target->ident);
         memcpy(&machine, bytes + EI_NIDENT + 2, sizeof machine);
-        target->machine = machine;
+        keep_header(target, bytes, machine);
     }
     keep_program(target, bytes, read_proc(target, "auxv", bytes, sizeof bytes));
-    snprintf(path, sizeof path, "/proc/%ld/mem", (long)dwfl_pid(target->dwfl));
-    target->file = open_file(path);
+    target->file = open_proc(target, "mem");
 }
 
 /* ---- why there is no target */
@@ -258,13 +238,8 @@ static int has_failed(int number)
 static int on_thread(Dwfl_Thread *thread, void *given)
 {
     dwexpr_libdw_target *target = (dwexpr_libdw_target *)given;
-    pid_t *threads = (pid_t *)dwexpr_libdw_with_room(target->threads, target->thread_count, &target->thread_room,
-                                                     sizeof *threads);
-    if (!threads)
-        return DWARF_CB_ABORT;
-    target->threads = threads;
-    target->threads[target->thread_count++] = dwfl_thread_tid(thread);
-    return DWARF_CB_OK;
+    const pid_t number = dwfl_thread_tid(thread);
+    return dwexpr_libdw_add(&target->threads, &number, sizeof number) ? DWARF_CB_ABORT : DWARF_CB_OK;
 }
 
 static uint32_t make_target(dwexpr_libdw_target **target)
@@ -273,6 +248,7 @@ static uint32_t make_target(dwexpr_libdw_target **target)
     if (!*target)
         return DWEXPR_LIBDW_NO_MEMORY;
     (*target)->file = -1;
+    (*target)->word = 8;
     return 0;
 }
 
@@ -288,19 +264,23 @@ static uint32_t ended(uint32_t code, dwexpr_libdw_target **target)
 
 static uint32_t begin_target(dwexpr_libdw_target *target, Dwfl *dwfl, Elf *core)
 {
+    GElf_Ehdr header = {.e_machine = EM_NONE};
     int failed;
     target->dwfl = dwfl;
     target->core = core;
-    if (core)
-        read_core_header(target);
-    else
+    if (!core) {
         read_process_header(target);
+    } else {
+        gelf_getehdr(core, &header);
+        keep_header(target, header.e_ident, header.e_machine);
+        dwexpr_libdw_read_notes(target, 0, NULL);
+    }
     failed = dwfl_getthreads(dwfl, on_thread, target);
     if (failed == DWARF_CB_ABORT)
         return DWEXPR_LIBDW_NO_MEMORY;
-    if (!failed && !target->thread_count)
+    if (!failed && !target->threads.length)
         error = "it has no threads";
-    return has_failed(failed) || !target->thread_count ? DWEXPR_LIBDW_NO_TARGET : 0;
+    return has_failed(failed) || !target->threads.length ? DWEXPR_LIBDW_NO_TARGET : 0;
 }
 
 uint32_t dwexpr_libdw_attach(Dwfl *dwfl, Elf *core, dwexpr_libdw_target **target)
@@ -317,11 +297,12 @@ uint32_t dwexpr_libdw_open_process(pid_t process, dwexpr_libdw_target **target)
     if (code)
         return code;
     dwfl = (*target)->owned = dwfl_begin(&finders);
-    code = DWEXPR_LIBDW_NO_TARGET;
-    if (!has_failed(dwfl ? 0 : -1) && !has_failed(dwfl_linux_proc_report(dwfl, process)) &&
-        !has_failed(dwfl_report_end(dwfl, NULL, NULL)) && !has_failed(dwfl_linux_proc_attach(dwfl, process, false)))
-        code = begin_target(*target, dwfl, NULL);
-    return ended(code, target);
+    if (has_failed(dwfl ? 0 : -1) || has_failed(dwfl_linux_proc_report(dwfl, process)))
+        return ended(DWEXPR_LIBDW_NO_TARGET, target);
+    dwfl_report_end(dwfl, NULL, NULL);
+    if (has_failed(dwfl_linux_proc_attach(dwfl, process, false)))
+        return ended(DWEXPR_LIBDW_NO_TARGET, target);
+    return ended(begin_target(*target, dwfl, NULL), target);
 }
 
 uint32_t dwexpr_libdw_open_core(const char *file, const char *program, dwexpr_libdw_target **target)
@@ -329,31 +310,30 @@ uint32_t dwexpr_libdw_open_core(const char *file, const char *program, dwexpr_li
     static const Dwfl_Callbacks finders = {dwfl_build_id_find_elf, dwfl_standard_find_debuginfo, NULL, NULL};
     uint32_t code = make_target(target);
     Dwfl *dwfl;
-    Elf *core = NULL;
+    Elf *core;
     if (code)
         return code;
     elf_version(EV_CURRENT);
     (*target)->file = open_file(file);
-    if ((*target)->file < 0) {
-        has_failed(errno);
+    if (has_failed((*target)->file < 0 ? errno : 0))
         return ended(DWEXPR_LIBDW_NO_TARGET, target);
-    }
     core = (*target)->opened = elf_begin((*target)->file, ELF_C_READ_MMAP, NULL);
     dwfl = (*target)->owned = dwfl_begin(&finders);
-    code = DWEXPR_LIBDW_NO_TARGET;
     if (!core)
         error = elf_errmsg(-1);
-    else if (!has_failed(dwfl ? 0 : -1) && !has_failed(-(dwfl_core_file_report(dwfl, core, program) <= 0)) &&
-             !has_failed(dwfl_report_end(dwfl, NULL, NULL)) && !has_failed(-(dwfl_core_file_attach(dwfl, core) < 0)))
-        code = begin_target(*target, dwfl, core);
-    return ended(code, target);
+    if (!core || has_failed(dwfl ? 0 : -1) || has_failed(-(dwfl_core_file_report(dwfl, core, program) <= 0)))
+        return ended(DWEXPR_LIBDW_NO_TARGET, target);
+    dwfl_report_end(dwfl, NULL, NULL);
+    if (has_failed(-(dwfl_core_file_attach(dwfl, core) < 0)))
+        return ended(DWEXPR_LIBDW_NO_TARGET, target);
+    return ended(begin_target(*target, dwfl, core), target);
 }
 
 void dwexpr_libdw_close(dwexpr_libdw_target *target)
 {
     if (!target)
         return;
-    free(target->threads);
+    free(target->threads.items);
     dwfl_end(target->owned);
     elf_end(target->opened);
     if (target->file >= 0)
@@ -368,8 +348,8 @@ Dwfl *dwexpr_libdw_dwfl(const dwexpr_libdw_target *target)
 
 size_t dwexpr_libdw_threads(const dwexpr_libdw_target *target, const pid_t **threads)
 {
-    *threads = target->threads;
-    return target->thread_count;
+    *threads = (const pid_t *)target->threads.items;
+    return target->threads.length;
 }
 
 #endif

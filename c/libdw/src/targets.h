@@ -6,8 +6,7 @@
 
 #pragma GCC visibility push(hidden)
 
-/* The kernel's sets of registers: general; of floating point; those as FXSAVE has them on i386; as XSAVE has them;
- * segments on i386. */
+/* The kernel's sets of registers: general, floating point, FXSAVE's on i386, XSAVE's, and segments on i386. */
 enum set { GENERAL, FLOATING, FXSAVE, XSAVE, SEGMENTS, SETS };
 
 /* The type of a set's note in a core dump, and for ptrace. */
@@ -19,9 +18,9 @@ struct dwexpr_libdw_target {
     Elf *core;    /* NULL for a process */
     Elf *opened;  /* `core` if it was opened here */
     int file;     /* the memory of a process, or the core dump if it was opened here; -1 if there is none */
-    pid_t *threads;
-    size_t thread_count, thread_room;
-    unsigned char ident[EI_NIDENT];
+    struct dwexpr_libdw_list threads; /* of pid_t */
+    int big_endian;
+    size_t word;  /* the bytes of an address */
     unsigned machine;
     Dwarf_Addr program; /* an address in the program itself, 0 if it isn't known */
 };
@@ -29,15 +28,15 @@ struct dwexpr_libdw_target {
 /* Keeps a text for dwexpr_libdw_target_error. */
 void dwexpr_libdw_keep_error(const char *text);
 
-/* The sets of a thread. */
+/* The register sets of a thread, as bytes. */
 struct dwexpr_libdw_sets {
     uint8_t *bytes[SETS];
     size_t lengths[SETS];
 };
 
 uint32_t dwexpr_libdw_keep_set(struct dwexpr_libdw_sets *sets, enum set set, const uint8_t *bytes, size_t length);
-/* The sets of a thread in a core dump. */
-uint32_t dwexpr_libdw_read_sets(const dwexpr_libdw_target *target, pid_t thread, struct dwexpr_libdw_sets *sets);
+/* Reads the notes of a core dump: the program's address, and the sets of a thread unless `sets` is NULL. */
+uint32_t dwexpr_libdw_read_notes(dwexpr_libdw_target *target, pid_t thread, struct dwexpr_libdw_sets *sets);
 /* The address of an offset in a module's thread-local storage, of the thread with a thread pointer. */
 int dwexpr_libdw_find_block(const dwexpr_libdw_target *target, Dwfl_Module *module, uint64_t pointer, uint64_t offset,
                             uint64_t *address);

@@ -21,6 +21,7 @@ It takes some three minutes on four processors. It wants cc and libdw; what else
 The last line is `N passed, M failed`.
 """
 
+import collections
 import concurrent.futures
 import contextlib
 import functools
@@ -46,6 +47,8 @@ from commands import ARCHIVE, TOP
 C = TOP / "c"
 LIBDW = C / "libdw"
 TESTS = LIBDW / "tests"
+# The sources whose lines tests take.
+SOURCES = [*LIBDW.glob("src/*.c"), C / "src/run.c"]
 
 NO_LEAKS = {"ASAN_OPTIONS": "detect_leaks=0"}
 BUT_FOR_LIBDW = {"LSAN_OPTIONS": f"suppressions={TESTS / 'leaks'}:print_suppressions=0"}
@@ -73,6 +76,18 @@ LIBRARIES = {}
 def core_library():
     """The archive, if it is that of these sources, or else what rustc makes of them."""
     return ARCHIVE if ARCHIVE.exists() else "rustc"
+
+
+def covered(folder):
+    """Builds the libraries by the preset `coverage`, runs their own tests, and installs them in a folder."""
+    build = C / "out/coverage"
+    commands.run("cmake", "--preset", "coverage", f"-DDWEXPR_CORE={core_library()}", cwd=C)
+    commands.run("cmake", "--build", build, "--parallel", "4")
+    for file in build.rglob("*.gcda"):
+        file.unlink()
+    commands.run("ctest", "--test-dir", build)
+    commands.run("cmake", "--install", build, "--prefix", folder / "covered")
+    return folder / "covered/lib"
 
 
 def built(source, program, *words, **more):
@@ -382,15 +397,14 @@ def refused(folder):
     program = built("tests/refused.c", folder / "refused", *SANITIZERS[:-1])
     for core in folder.glob("dump"):
         if program:
-            count_of("refused.c", [program, core, 100], env=BUT_FOR_LIBDW)
+            count_of("refused.c", [program, core, 1], env=BUT_FOR_LIBDW)
     program = built("tests/functions.c", folder / "functions_refused", *SANITIZERS[:-1])
     if program:
         count_of("functions.c, refused", [program, 11, *folder.glob("*.functions")], env=BUT_FOR_LIBDW)
 
 
-# At most so many lines of 100 that no test takes, in the builds of the library together.
-MOST_UNTAKEN = 3
-KINDS_BUILT = ["plain", "checked", "refusing"]
+# At most so many lines of 100 are named in c/libdw/tests/untaken.
+MOST_NAMED = 3
 
 
 def counted_by_gcov(folder):
@@ -399,25 +413,28 @@ def counted_by_gcov(folder):
     for file in folder.rglob("*.gcda"):
         done = run(["gcov", "-b", "-c", "--json-format", "--stdout", "-o", file.parent, file], cwd=TOP)
         for source in json.loads(done.stdout)["files"]:
-            for line in source["lines"] if source["file"].startswith(str(LIBDW / "src")) else []:
+            path = TOP / source["file"]
+            for line in source["lines"] if path in SOURCES else []:
                 branches = [branch["count"] for branch in line["branches"]]
-                yield (source["file"], line["line_number"]), [line["count"], *branches]
+                yield (path, line["line_number"]), [line["count"], *branches]
 
 
-def untaken(folder):
-    """The lines and branches that no test has taken."""
+def untaken(*folders):
+    """Each line that no test takes, or that has a branch which none takes, is named, and no other line."""
     counts = {}
-    for place, found in itertools.chain.from_iterable(map(counted_by_gcov, (folder / kind for kind in KINDS_BUILT))):
+    for place, found in itertools.chain.from_iterable(map(counted_by_gcov, folders)):
         before = counts.setdefault(place, [0] * len(found))
         counts[place] = [one + other for one, other in itertools.zip_longest(before, found, fillvalue=0)]
-    lines = sum(not found[0] for found in counts.values())
-    branches = [number for found in counts.values() for number in found[1:]]
-    for (file, number), found in sorted(counts.items()):
-        if 0 in found:
-            text = (TOP / file).read_text(encoding="utf-8").splitlines()[number - 1].strip()
-            print(f"{file}:{number}: {'not run' if not found[0] else f'{found.count(0)} branches'}: {text}")
-    print(f"{lines} of {len(counts)} lines aren't run, {branches.count(0)} of {len(branches)} branches aren't taken")
-    expect(lines * 100 <= MOST_UNTAKEN * len(counts), "lines that are run")
+    lines = {path: path.read_text(encoding="utf-8").splitlines() for path, _ in counts}
+    places = [place for place in sorted(counts) if 0 in counts[place]]
+    found = [f"{path.name} {lines[path][number - 1].strip()}" for path, number in places]
+    named = [line for line in (TESTS / "untaken").read_text().splitlines() if line and not line.startswith("#")]
+    missing = list((collections.Counter(found) - collections.Counter(named)).elements())
+    stale = list((collections.Counter(named) - collections.Counter(found)).elements())
+    print(f"{len(found)} of {len(counts)} lines aren't taken, or have a branch that isn't")
+    expect(not missing, "lines that no test takes, and that aren't named", "\n".join(missing))
+    expect(not stale, "lines that are named, and that tests take", "\n".join(stale))
+    expect(len(named) * 100 <= MOST_NAMED * len(counts), "the lines that are named are few")
 
 
 def has_libdw(folder):
@@ -429,20 +446,23 @@ def main():
     parser = commands.parser(__doc__)
     said = "compare all programs with gdb, and change 30 times as many bytes"
     parser.add_argument("--all", action="store_true", help=said)
-    said = "print the lines and branches of libdw/ and run/ that no test takes"
+    said = "check that tests take each line and branch of the sources, but those that c/libdw/tests/untaken names"
     parser.add_argument("--coverage", action="store_true", help=said)
     parser.parse_args()
     with commands.temporary() as folder:
         if not has_libdw(folder):
             return left_out("include/dwexpr_libdw.h and the examples over it", "libdw")
         print(f"over {'the proved archive' if ARCHIVE.exists() else 'the library by rustc'}")
-        for kind, words in [("plain", []), ("checked", ["-O1", *SANITIZERS])]:
-            LIBRARIES[kind] = checks.build_libraries(folder / kind, core_library(), *(COVERED if COVERAGE else words))
+        if COVERAGE:
+            LIBRARIES["plain"] = LIBRARIES["checked"] = covered(folder)
+        else:
+            for kind, words in [("plain", []), ("checked", ["-O1", *SANITIZERS])]:
+                LIBRARIES[kind] = checks.build_libraries(folder / kind, core_library(), *words)
         check_headers("dwexpr_libdw.h", "dwexpr_names.h")
         for stage in [callers, expressions, examples, frames, texts, with_gdb, hostile, refused]:
             stage(folder)
         if COVERAGE:
-            untaken(folder)
+            untaken(C / "out/coverage", folder / "refusing")
     return None
 
 

@@ -51,13 +51,14 @@ static dwexpr_libdw_stack *unwind(pid_t thread)
 {
     dwexpr_libdw_stack *stack;
     const uint32_t code = dwexpr_libdw_unwind(target, thread, 10, &stack);
-    check(!code && stack, "frames", dwexpr_libdw_code_name(code));
+    /* libdwfl can't unwind on the machine in big endian */
+    check(code == (thread == 301 ? DWEXPR_LIBDW_CUT_OFF : 0) && stack, "frames", dwexpr_libdw_code_name(code));
     check(dwexpr_libdw_frame_at(stack, 0) && !dwexpr_libdw_frame_at(stack, 1), "frames", "there is one");
     return stack;
 }
 
-/* The block begins 8 bytes after an address with the alignment 1 of its segment, and ends at the pointer: it has 20
- * bytes. */
+/* The block has 20 bytes and ends at the pointer. On x86-64 it begins 8 bytes after an address with its alignment of
+ * 16, and so has padding at its end. */
 static void check_local(pid_t thread, uint64_t pointer)
 {
     uint8_t bytes[] = {DW_OP_const1u, 4, DW_OP_form_tls_address};
@@ -70,7 +71,8 @@ static void check_local(pid_t thread, uint64_t pointer)
         bytes[1] = beyond ? 20 : 4;
         code = dwexpr_libdw_evaluate(dwexpr_libdw_frame_at(stack, 0), &text, NULL, NULL, &value);
         if (pointer && !beyond)
-            check(!code && value->pieces[0].number == pointer - 20 + 4, "thread-local storage", "its address");
+            check(!code && value->pieces[0].number == pointer - (thread < 200 ? 24 : 20) + 4, "thread-local storage",
+                  "its address");
         else
             check(code == DWEXPR_LIBDW_WANTS + DWEXPR_WANTS_TLS, "thread-local storage", dwexpr_libdw_code_name(code));
         dwexpr_libdw_release(value);
@@ -78,29 +80,63 @@ static void check_local(pid_t thread, uint64_t pointer)
     dwexpr_libdw_free_stack(stack);
 }
 
-static void check_core(const char *machine, pid_t first, size_t count)
+/* What a core dump is read with. */
+static struct opened {
+    Dwfl *dwfl;
+    int file;
+    Elf *core;
+} opened;
+
+static void begin(void)
 {
     static const Dwfl_Callbacks finders = {dwfl_build_id_find_elf, dwfl_standard_find_debuginfo, NULL, NULL};
+    opened.dwfl = dwfl_begin(&finders);
+}
+
+static Dwfl_Module *report(const char *name, const char *kind)
+{
+    char path[4096];
+    snprintf(path, sizeof path, "%s/%s.%s", folder, name, kind);
+    return dwfl_report_elf(opened.dwfl, kind, path, -1, 0, 0);
+}
+
+/* Opens a core dump of the modules that were reported. */
+static uint32_t open_core(const char *name)
+{
+    char path[4096];
+    snprintf(path, sizeof path, "%s/%s.core", folder, name);
+    dwfl_report_end(opened.dwfl, NULL, NULL);
+    opened.file = open(path, O_RDONLY);
+    opened.core = elf_begin(opened.file, ELF_C_READ_MMAP, NULL);
+    check(dwfl_core_file_attach(opened.dwfl, opened.core) > 0, name, dwfl_errmsg(-1));
+    return dwexpr_libdw_attach(opened.dwfl, opened.core, &target);
+}
+
+static void end(void)
+{
+    dwexpr_libdw_close(target);
+    dwfl_end(opened.dwfl);
+    elf_end(opened.core);
+    close(opened.file);
+}
+
+static void check_core(const char *machine, pid_t first, size_t count)
+{
     char path[4096];
     uint8_t got[DWEXPR_LIBDW_REGISTER_SIZE], wanted[64];
-    Dwfl *dwfl = dwfl_begin(&finders);
     const pid_t *threads;
     size_t i, size;
     uint32_t code;
-    int file;
-    Elf *core;
-    snprintf(path, sizeof path, "%s/%s.program", folder, machine);
-    check(dwfl_report_elf(dwfl, "program", path, -1, 0, 0) != NULL, machine, "its program");
-    dwfl_report_end(dwfl, NULL, NULL);
-    snprintf(path, sizeof path, "%s/%s.core", folder, machine);
-    file = open(path, O_RDONLY);
-    core = elf_begin(file, ELF_C_READ_MMAP, NULL);
-    check(dwfl_core_file_attach(dwfl, core) > 0, machine, dwfl_errmsg(-1));
-    code = dwexpr_libdw_attach(dwfl, core, &target);
-    check(!code, machine, dwexpr_libdw_code_name(code));
-    if (code)
+    begin();
+    check(report(machine, "program") != NULL, machine, "its program");
+    code = open_core(machine);
+    check(code == (count ? 0 : DWEXPR_LIBDW_NO_TARGET), machine, dwexpr_libdw_code_name(code));
+    check(count || !strcmp(dwexpr_libdw_target_error(), "it has no threads"), machine, dwexpr_libdw_target_error());
+    if (code) {
+        end();
         return;
-    check(dwexpr_libdw_dwfl(target) == dwfl, machine, "its Dwfl");
+    }
+    check(dwexpr_libdw_dwfl(target) == opened.dwfl, machine, "its Dwfl");
     check(dwexpr_libdw_threads(target, &threads) == count && threads[0] == first, machine, "its threads");
     for (i = 0; i < COUNT(registers); i++) {
         dwexpr_libdw_stack *stack;
@@ -127,6 +163,9 @@ static void check_core(const char *machine, pid_t first, size_t count)
             else
                 check(code == UNKNOWN, machine, path);
         }
+        /* no rule names register 3, which a call keeps */
+        code = dwexpr_libdw_caller_register(dwexpr_libdw_frame_at(stack, 0), 3, got, &size);
+        check(!code && size == (count == 7 ? 8 : 4), machine, "a register that no rule names");
         /* the CFA is a word above the stack's pointer */
         code = dwexpr_libdw_caller_register(dwexpr_libdw_frame_at(stack, 0), DWEXPR_LIBDW_CFA, got, &size);
         check(!code && got[0] == 8 + size && got[2] == 0x50 && size == (count == 7 ? 8 : 4), machine, "the CFA");
@@ -136,10 +175,50 @@ static void check_core(const char *machine, pid_t first, size_t count)
         check_local(first + 1, count == 7 ? 0x600000u + (unsigned)first + 1 : 0);
         check_local(first + 2, count == 7 ? 0x600000u + (unsigned)first + 2 : 0);
     }
-    dwexpr_libdw_close(target);
-    dwfl_end(dwfl);
-    elf_end(core);
-    close(file);
+    if (count == 1)
+        check_local(first, 0);
+    end();
+}
+
+/* Where each module's thread-local storage is, by what glibc keeps. Without the linker's symbols that isn't known. */
+static void check_glibc(const char *name, unsigned word, int has_linker)
+{
+    /* a distance from the thread pointer, blocks, and modules without any: the last three aren't in the list, have no
+     * dynamic section, and have no thread-local storage */
+    static const uint64_t blocks[11] = {0x500000 - 0x40, 0x607000, 0x607040};
+    static const uint8_t bytes[] = {DW_OP_const1u, 4, DW_OP_form_tls_address};
+    dwexpr_libdw_text text = {.text = {bytes, sizeof bytes}, .encoding = encoding_of((int)word, 4, 4, 0)};
+    Dwfl_Module *modules[COUNT(blocks)];
+    dwexpr_libdw_stack *stacks[2];
+    char kind[32];
+    unsigned i;
+    begin();
+    if (has_linker)
+        report(name, "linker");
+    for (i = 0; i < COUNT(blocks); i++) {
+        snprintf(kind, sizeof kind, "library%u", i);
+        modules[i] = report(name, kind);
+    }
+    check(!open_core(name), name, "it is opened");
+    for (i = 0; i < 2; i++)
+        dwexpr_libdw_unwind(target, (pid_t)(401 + i), 10, &stacks[i]);
+    for (i = 0; i < 2 * COUNT(blocks); i++) {
+        const unsigned at = i / 2, thread = i % 2;
+        /* of the second thread the vector can't be read */
+        const uint64_t block = has_linker && (!thread || !at) ? blocks[at] + 2 * word * thread : 0;
+        Dwarf_Addr bias;
+        dwexpr_libdw_value *value;
+        uint32_t code;
+        text.unit = dwfl_module_nextcu(modules[at], NULL, &bias)->cu;
+        code = dwexpr_libdw_evaluate(dwexpr_libdw_frame_at(stacks[thread], 0), &text, NULL, NULL, &value);
+        snprintf(kind, sizeof kind, "module %u, thread %u", at, thread);
+        check(block ? !code && value->pieces[0].number == block + 4 : code == DWEXPR_LIBDW_WANTS + DWEXPR_WANTS_TLS,
+              name, kind);
+        dwexpr_libdw_release(value);
+    }
+    for (i = 0; i < 2; i++)
+        dwexpr_libdw_free_stack(stacks[i]);
+    end();
 }
 
 /* Files that are no core dumps, a process that there isn't, and no thread. */
@@ -184,6 +263,10 @@ int main(int argc, char **argv)
     check_core("x86_64", 101, 7);
     check_core("i386", 201, 3);
     check_core("big", 301, 1);
+    check_core("empty", 0, 0);
+    check_glibc("glibc64", 8, 1);
+    check_glibc("glibc64", 8, 0);
+    check_glibc("glibc32", 4, 1);
     check_errors();
     return finish();
 }

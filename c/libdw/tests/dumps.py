@@ -6,6 +6,7 @@
 dumps.c has what they hold.
 """
 
+import itertools
 import pathlib
 import struct
 import sys
@@ -65,7 +66,8 @@ class Core(Tree):
 
     def program(self):
         self.root.add("function", name="f", low=(1, self.address(FIRST)), high=(1, self.address(FIRST + len(CODE))))
-        local = (TLS, 0x403008, b"\1" * 4, 20)  # it begins 8 bytes after an address with its alignment
+        # it begins 8 bytes after an address with its alignment, or has none
+        local = (TLS, 0x403008, b"\1" * 4, 20, 16 if self.address_size == 8 else 0)
         return self.elf({**self.tree(), ".debug_frame": self.rules()}, [(LOAD, FIRST, CODE, len(CODE)), local], 2)
 
     def process(self, number):
@@ -104,11 +106,80 @@ class Core(Tree):
         return bytes(made)
 
 
+class Glibc(Core):
+    """Modules of which the dynamic linker of glibc keeps what dumps.c checks, each with thread-local storage."""
+
+    FIELDS = {"link_map_l_tls_offset": 8, "link_map_l_tls_modid": 9, "pthread_dtvp": 1, "dtv_slotinfo_gen": 0,
+              "rtld_global__dl_tls_dtv_slotinfo_list": 2, "dtv_slotinfo_list_slotinfo": 2, "dtv_slotinfo_list_next": 1}
+    MEMORY, DEBUG, GLOBAL, SIZE, MAPS, VECTOR, LISTS, BLOCKS = (0x600000 + 0x1000 * at for at in range(8))
+    # The distance from the thread pointer, or the number in the thread's vector, its block, and when it was loaded. The
+    # vector is of generation 5.
+    NONE, FAR = -1, 4000
+    MODULES = [(0x40, 0, 0, 0), (0, 1, BLOCKS, 5), (NONE, 4, BLOCKS + 0x40, 4), (0, 0, BLOCKS, 0), (0, 2, 0, 0),
+               (0, 3, BLOCKS + 1, 0), (0, 5, BLOCKS, 6), (0, FAR, BLOCKS, 0)]
+
+    def words(self, *numbers):
+        return b"".join(self.address(it % (1 << 8 * self.address_size)) for it in numbers)
+
+    def library(self, number):
+        """The last two have no dynamic section, and no thread-local storage."""
+        self.root.attributes["name"] = f"library {number}"
+        begin, count = 0x800000 + 0x10000 * number, len(self.MODULES)
+        dynamic, local = (2, begin, b"", 16), (TLS, begin + 8, b"", 32)
+        loads = [local] * (number != count + 2) + [dynamic] * (number != count + 1)
+        return self.elf(self.tree(), [(LOAD, begin, b"x" * 16, 16), *loads], 2)
+
+    def linker(self):
+        """The dynamic linker, with the names that tell debuggers where its fields are."""
+        symbols = [("_r_debug", self.DEBUG, 0x11), ("_rtld_global", self.GLOBAL, 0x11)]
+        symbols += [("_thread_db_sizeof_dtv_slotinfo", self.SIZE, 0x11)]
+        symbols += [(f"_thread_db_{name}", self.MEMORY + 16 * at, 0x11) for at, name in enumerate(self.FIELDS)]
+        return self.elf({}, [(LOAD, 0x700000, b"x" * 16, 16)], 2, symbols, ".dynsym")
+
+    def memory(self):
+        """What the process has at these addresses. The lists of the wide one have no end."""
+        size, last = self.address_size, len(self.MODULES) - 1
+        maps, vector = b"", [5, 0] + 2 * [0] * 9
+        for at, (distance, number, block, _) in enumerate(self.MODULES):
+            after = self.MAPS + 0x100 * (at + 1 if at < last else at)
+            entry = self.words(0, 0, 0x800000 + 0x10000 * at, 0 if at == last and size == 4 else after)
+            maps += entry + bytes(4 * size) + self.words(distance, number) + bytes(0x100 - 10 * size)
+            if 0 < number < self.FAR:
+                vector[2 * number] = block
+        loaded = {number: generation for _, number, _, generation in self.MODULES}
+        slots = [(loaded.get(at, 0), 0) for at in range(6)]
+        after = self.LISTS + 0x80
+        first = self.words(3, after, *itertools.chain(*slots[:3]))
+        second = self.words(3, after if size == 8 else 0, *itertools.chain(*slots[3:]))
+        parts = {
+            self.MEMORY: b"".join(bytes(8) + self.pack("II", size * it, 0) for it in self.FIELDS.values()),
+            self.DEBUG: self.words(0, self.MAPS), self.GLOBAL: self.words(0, 0, self.LISTS),
+            self.SIZE: self.pack("I", 2 * size), self.MAPS: maps, self.VECTOR: self.words(*vector),
+            self.LISTS: first + bytes(0x80 - len(first)) + second, STACK: self.words(0, self.VECTOR, 0, 0x10),
+            self.VECTOR + 2 * size * self.FAR: self.words(self.BLOCKS),
+        }  # fmt: skip
+        return [(LOAD, address, content, len(content)) for address, content in parts.items()]
+
+    def write(self, folder, name):
+        """A thread whose pointer is the stack's, and one whose vector can't be read."""
+        for thread, pointer in [(401, STACK), (402, STACK + 2 * self.address_size)]:
+            self.status(thread, pointer, pointer if self.address_size == 8 else 0x63)
+            self.note("LINUX", SEGMENTS, self.pack("IIII", 0x63 >> 3, pointer, 0, 0))
+        if self.address_size == 8:
+            self.auxiliary()
+        self.process(100)
+        for number in range(len(self.MODULES) + 3):
+            (folder / f"{name}.library{number}").write_bytes(self.library(number))
+        (folder / f"{name}.linker").write_bytes(self.linker())
+        (folder / f"{name}.core").write_bytes(self.elf({}, [(NOTE, 0, self.notes, 0), *self.memory()], 4))
+
+
 def main():
     folder = pathlib.Path(sys.argv[1])
     wide = Core(8, "le")
     wide.note("OTHER", STATUS, bytes(336))
     wide.note("CORE", STATUS, bytes(8))
+    wide.note("ELSE", STATUS, bytes(336))
     for thread, (mask, state, cut) in enumerate([(7, 7, 0), (7, 3, 0), (3, 3, 0), (7, 7, 200), (7, 7, 800)], 101):
         wide.status(thread, STACK + 8, 0x600000 + thread)
         wide.note("CORE", FLOATS, wide.floats(thread - 100))
@@ -135,10 +206,12 @@ def main():
     big = Core(8, "be")
     big.status(301, STACK + 8)
     big.auxiliary()
-    for name, core in [("x86_64", wide), ("i386", narrow), ("big", big)]:
+    for name, core in [("x86_64", wide), ("i386", narrow), ("big", big), ("empty", Core(8, "le"))]:
         core.process(100)
         (folder / f"{name}.program").write_bytes(core.program())
         (folder / f"{name}.core").write_bytes(core.core())
+    for name, size in [("glibc64", 8), ("glibc32", 4)]:
+        Glibc(size, "le").write(folder, name)
 
 
 if __name__ == "__main__":

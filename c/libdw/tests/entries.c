@@ -1,8 +1,7 @@
 /* The variables of object files that entries.py wrote: each has the value that its name says. */
 #include "check.h"
+#include "files.h"
 #include "frame.h"
-#include <fcntl.h>
-#include <unistd.h>
 
 static void check_variable(Dwarf_Die *variable)
 {
@@ -39,19 +38,5 @@ static void check_variable(Dwarf_Die *variable)
 
 int main(int argc, char **argv)
 {
-    int i;
-    for (i = 1; i < argc; i++) {
-        const int file = open(argv[i], O_RDONLY);
-        Dwarf *dwarf = dwarf_begin(file, DWARF_C_READ);
-        Dwarf_CU *unit = NULL;
-        Dwarf_Die entry;
-        int more = dwarf_get_units(dwarf, unit, &unit, NULL, NULL, &entry, NULL);
-        check(more == 0, argv[i], "it has a unit");
-        for (more = dwarf_child(&entry, &entry); more == 0; more = dwarf_siblingof(&entry, &entry))
-            if (dwarf_tag(&entry) == DW_TAG_variable)
-                check_variable(&entry);
-        dwarf_end(dwarf);
-        close(file);
-    }
-    return finish();
+    return check_files(argc, argv, check_variable);
 }

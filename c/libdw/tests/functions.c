@@ -6,9 +6,9 @@
  *     entry of NAME is VALUE      what it had on entry
  *     count in FRAME is N         how many functions and variables there are
  *
- * `missing` is no such variable. With a number before the files, the rows are read again and again, where each time
- * another call of malloc is refused, one in so many: then a value isn't known, or as it is said. Register 7 has 0x10,
- * others and memory are as in frame.h. */
+ * `missing` is no such variable, and `nameless` one that has no name. With a number before the files, the rows are read
+ * again and again. Each time another call of malloc is refused, one in so many: then a value isn't known, or as it is
+ * said. Register 7 has 0x10, others and memory are as in frame.h. */
 #include "check.h"
 #include "frame.h"
 #include "refusing.h"
@@ -36,7 +36,7 @@ static int find_variable(dwexpr_libdw_frame *frame, const char *name, Dwarf_Die 
     dwexpr_libdw_variables(frame, &entries, &count);
     for (i = 0; i < count && !found; i++) {
         const char *given = dwarf_diename(&entries[i].entry);
-        found = given && !strcmp(given, name);
+        found = !strcmp(given ? given : "nameless", name);
         *variable = entries[i].entry;
     }
     free(entries);
@@ -151,8 +151,11 @@ static void check_row(Dwfl *dwfl, Dwarf_Die unit, const char *row)
 /* A frame base, the CFA, entries and variables where there is no function. */
 static void check_nowhere(Dwfl *dwfl)
 {
-    static const uint8_t base[] = {DW_OP_fbreg, 0}, cfa[] = {DW_OP_call_frame_cfa};
-    const dwexpr_libdw_text texts[] = {{.text = {base, 2}, .encoding = LE8}, {.text = {cfa, 1}, .encoding = LE8}};
+    static const uint8_t base[] = {DW_OP_fbreg, 0}, cfa[] = {DW_OP_call_frame_cfa}, index[] = {DW_OP_addrx, 0};
+    const dwexpr_libdw_text texts[] = {{.text = {base, 2}, .encoding = LE8}, {.text = {cfa, 1}, .encoding = LE8},
+                                       {.text = {index, 2}, .encoding = LE8},
+                                       {.text = {base, 2}, .encoding = LE8, .on_cfa = 1}};
+    static const uint32_t wants[] = {DWEXPR_WANTS_FRAME_BASE, DWEXPR_WANTS_CFA, DWEXPR_WANTS_INDEXED, DWEXPR_WANTS_CFA};
     const uint64_t given = 0x1100;
     const dwexpr_libdw_source source = {.dwfl = dwfl, .pc = 0x10, .is_activation = 1};
     const dwexpr_libdw_source known = {.frame_base = &given, .cfa = &given};
@@ -161,17 +164,20 @@ static void check_nowhere(Dwfl *dwfl)
     dwexpr_libdw_entry *entries;
     dwexpr_libdw_place place;
     Dwarf_Die *scopes;
-    uint8_t bytes[8];
+    uint8_t bytes[DWEXPR_LIBDW_REGISTER_SIZE];
     size_t count, i;
     dwexpr_libdw_make_frame(&source, &frame);
     check(dwexpr_libdw_locate(frame, &place) == DWEXPR_LIBDW_NO_UNIT, "nowhere", "no unit");
     check(dwexpr_libdw_scopes(frame, &scopes, &count) == DWEXPR_LIBDW_NO_UNIT && !scopes, "nowhere", "no scopes");
     check(dwexpr_libdw_variables(frame, &entries, &count) == DWEXPR_LIBDW_NO_UNIT && !count, "nowhere", "no variables");
     check(dwexpr_libdw_memory(frame, 0, bytes, 1) == DWEXPR_LIBDW_NOT_READABLE, "nowhere", "no memory");
-    for (i = 0; i < 2; i++) {
-        check(dwexpr_libdw_evaluate(frame, &texts[i], NULL, NULL, &value) ==
-                  DWEXPR_LIBDW_WANTS + (i ? DWEXPR_WANTS_CFA : DWEXPR_WANTS_FRAME_BASE),
-              "nowhere", "it isn't known");
+    check(dwexpr_libdw_register(frame, 0, bytes, &count) == DWEXPR_LIBDW_NOT_READABLE, "nowhere", "no register");
+    check(dwexpr_libdw_caller_register(frame, DWEXPR_LIBDW_CFA, bytes, &count) == DWEXPR_LIBDW_NO_UNIT, "nowhere",
+          "no CFA");
+    check(dwexpr_libdw_on_entry(frame, &place.unit, &value) == DWEXPR_LIBDW_NO_UNIT, "nowhere", "no value on entry");
+    for (i = 0; i < COUNT(texts); i++) {
+        check(dwexpr_libdw_evaluate(frame, &texts[i], NULL, NULL, &value) == DWEXPR_LIBDW_WANTS + wants[i], "nowhere",
+              "it isn't known");
         dwexpr_libdw_release(value);
     }
     dwexpr_libdw_free_frame(frame);
@@ -181,6 +187,55 @@ static void check_nowhere(Dwfl *dwfl)
         check(!dwexpr_libdw_evaluate(frame, &texts[i], NULL, NULL, &value) && value->pieces[0].number == given, "given",
               "it is known");
         dwexpr_libdw_release(value);
+    }
+    check(dwexpr_libdw_caller_register(frame, DWEXPR_LIBDW_CFA, bytes, &count) == DWEXPR_LIBDW_NO_UNIT, "given",
+          "its size isn't known");
+    dwexpr_libdw_free_frame(frame);
+}
+
+/* A frame in a unit, and in none of its functions. Its caller stands in one. */
+static void check_no_function(Dwfl *dwfl, Dwarf_Die *unit)
+{
+    const dwexpr_libdw_source called = {.dwfl = dwfl, .unit = unit, .pc = 0x401000, .is_activation = 1};
+    dwexpr_libdw_source source = {.dwfl = dwfl, .unit = unit, .pc = 0x10, .is_activation = 1};
+    static const uint8_t on_entry[] = {DW_OP_entry_value, 1, DW_OP_reg0};
+    const dwexpr_libdw_text text = {.text = {on_entry, 3}, .encoding = LE8};
+    dwexpr_libdw_frame *frames[3];
+    dwexpr_libdw_value *value;
+    size_t i;
+    dwexpr_libdw_make_frame(&called, &frames[0]);
+    source.caller = frames[0];
+    dwexpr_libdw_make_frame(&source, &frames[1]);
+    source.caller = frames[1];
+    dwexpr_libdw_make_frame(&source, &frames[2]);
+    check(dwexpr_libdw_on_entry(frames[1], unit, &value) == DWEXPR_LIBDW_OPTIMIZED_AWAY, "no function",
+          "nor its entry");
+    for (i = 1; i < 3; i++) {
+        check(dwexpr_libdw_evaluate(frames[i], &text, NULL, NULL, &value) ==
+                  DWEXPR_LIBDW_WANTS + DWEXPR_WANTS_ENTRY_VALUE,
+              "no function", "nor what its caller passed");
+        dwexpr_libdw_release(value);
+    }
+    for (i = 0; i < 3; i++)
+        dwexpr_libdw_free_frame(frames[i]);
+}
+
+/* Globals by their names: in the source, and for the linker; in a namespace and a module; constants. */
+static void check_globals(Dwfl *dwfl)
+{
+    static const struct {
+        const char *name;
+        size_t count;
+    } wanted[] = {{"global", 1}, {"linked", 1}, {"in_namespace", 1}, {"in_module", 1}, {"fixed", 1}, {"no such", 0}};
+    const dwexpr_libdw_source source = {.dwfl = dwfl, .pc = 0x401000, .is_activation = 1};
+    dwexpr_libdw_frame *frame;
+    Dwarf_Die *found;
+    size_t count, i;
+    dwexpr_libdw_make_frame(&source, &frame);
+    for (i = 0; i < COUNT(wanted); i++) {
+        check(!dwexpr_libdw_globals(frame, NULL, wanted[i].name, &found, &count) && count == wanted[i].count,
+              wanted[i].name, "how many there are");
+        free(found);
     }
     dwexpr_libdw_free_frame(frame);
 }
@@ -195,6 +250,7 @@ static void check_foreign(Dwfl *dwfl, Dwarf_Die *unit, const char *path)
                 {NULL, "listed_global", DWEXPR_LIBDW_WANTS + DWEXPR_WANTS_RELOCATED},
                 {"declaring", "defined", DWEXPR_LIBDW_WANTS + DWEXPR_WANTS_RELOCATED},
                 {"declaring", "in_local", DWEXPR_LIBDW_WANTS + DWEXPR_WANTS_TLS},
+                {"declaring", "indexed", DWEXPR_LIBDW_WANTS + DWEXPR_WANTS_INDEXED},
                 {"declaring", "in_memory", DWEXPR_LIBDW_NOT_DEFINED}};
     const int file = open(path, O_RDONLY);
     Dwarf *dwarf = dwarf_begin(file, DWARF_C_READ);
@@ -232,12 +288,16 @@ static void check_file(const char *path)
     dwfl_report_end(dwfl, NULL, NULL);
     unit = module ? dwfl_module_nextcu(module, NULL, &bias) : NULL;
     check(unit != NULL, path, "its unit");
-    for (more = unit ? dwarf_child(unit, &entry) : 1; more == 0; more = dwarf_siblingof(&entry, &entry))
-        if (dwarf_tag(&entry) == DW_TAG_variable && strstr(dwarf_diename(&entry), " is "))
-            check_row(dwfl, *unit, dwarf_diename(&entry));
+    for (more = unit ? dwarf_child(unit, &entry) : 1; more == 0; more = dwarf_siblingof(&entry, &entry)) {
+        const char *row = dwarf_tag(&entry) == DW_TAG_variable ? dwarf_diename(&entry) : NULL;
+        if (row && strstr(row, " is "))
+            check_row(dwfl, *unit, row);
+    }
     if (unit && !refused_call) {
         check_foreign(dwfl, unit, path);
         check_nowhere(dwfl);
+        check_no_function(dwfl, unit);
+        check_globals(dwfl);
     }
     dwfl_end(dwfl);
 }

@@ -20,7 +20,11 @@ IN_0, ENTRY_0 = b"\x50", b"\xa3\1\x50\x9f"
 class Functions(Tree):
     def __init__(self, version):
         super().__init__(8, 4, version, "le", language=0x0C)
+        if version >= 5:
+            self.root.attributes |= {"low": self.at(FIRST), "high": self.at(FIRST + len(CODE))}
+            self.root.attributes["addr_base"] = (0x17, self.offset(8))
         self.int = self.root.add("base", byte_size=4, encoding=5)
+        self.odd = self.root.add("base", byte_size=4, encoding=0x105)
         self.count, self.ranges = 0, b""
 
     def at(self, address):
@@ -53,7 +57,10 @@ class Functions(Tree):
             (b"\x70\0", "y in 0 is 88776655"),  # DW_OP_breg0: its number is the address
             (b"\x51", "y in 0 is 00ffeedd"),  # DW_OP_reg1: its content is
             (b"\x51", "x in 0 is memory or a register can't be read"),
+            (5, "x in 0 is unknown: the frame base"),
+            (b"\x61", "y in 0 is 00010203"),  # DW_OP_reg17, of 16 bytes
             (b"\x93\4", "x in 0 is unknown: the frame base"),
+            (b"\x50\x93\4\x51\x93\4", "x in 0 is unknown: the frame base"),
             (b"\x9e\1\0", "x in 0 is unknown: the frame base"),
             (b"\x9c", "y in 0 is 18000000"),  # register 7 has 0x10
             (b"\x0c" + self.pack("I", 0x1010), "x in 0 is 10111213"),
@@ -79,6 +86,11 @@ class Functions(Tree):
         self.variable(common, "shared", b"\x0c" + self.pack("I", 0x1010))
         common.add("common").add("variable", name="too_deep", type=self.int, location=b"\x31\x9f")
         function.add("constant", name="number", type=self.int, const_value=-3)
+        self.variable(function, "cut_off", b"\x03")
+        function.add("variable", name="no_place", type=self.int, location=5)
+        self.variable(function, "odd", lambda: b"\x31\xa8" + unsigned_leb(self.odd.place) + b"\x9f")
+        self.row([begin], "odd in 0 is unknown: a base type", "cut_off in 0 is an operation is cut off",
+                 "no_place in 0 is libdw refuses the debug information")
         self.row([begin + 0x12], "a in 0 is 01000000", "not_there in 0 is 00000000", "shared in 0 is 10111213",
                  "number in 0 is fdffffff", "too_deep in 0 is missing", "try in 0 is missing")
         for number, tag in enumerate(("try", "catch", "with")):
@@ -119,6 +131,11 @@ class Functions(Tree):
         for inner in (wrong, broken, unlinked):
             self.row([inner.begin, outside, place], "kept in 0 is 04050607")
             self.row([inner.begin, place, place], "kept in 0 is a variable of another function")
+        # a link, and a caller whose base isn't known
+        baseless = self.function()
+        self.variable(baseless, "kept", b"\x30\x9f")
+        within = self.function(baseless, static_link=base(0x1100))
+        self.row([within.begin, baseless.begin + 9], "kept in 0 is 00000000")
         self.row([deep.begin, unlinked.begin + 1, place], "own in 0 is 00010203", "kept in 0 is 04050607")
         self.row([deep.begin, outside, place], "kept in 0 is a variable of another function")
         self.row([linked.begin], "kept in 0 is a variable of another function")
@@ -189,6 +206,13 @@ class Functions(Tree):
         for callee in (instance, completed):
             self.parameter(callee)
         one("0a000000", callee=instance, call_origin=abstract)
+        declared = completed.attributes["specification"]
+        one("0a000000", callee=completed, call_origin=declared)
+        # a declaration of the same name, and of another one
+        for said, name in [("0a000000", "seen"), (unknown, "unseen")]:
+            seen = self.function(name="seen", external=True)
+            self.parameter(seen)
+            one(said, callee=seen, call_origin=self.root.add("function", name=name, external=True, declaration=True))
         for said, attributes in [
             ("0a000000", {"name": "alias"}), (unknown, {"name": "no_alias"}), (unknown, {}),
             ("0a000000", {"name": "x", "linkage_name": "alias"}),
@@ -203,14 +227,15 @@ class Functions(Tree):
         one(unknown, call_origin=circle)
         for bad in (b"\x50\x96", b"\x92\0\0", b"\x01", b"\x70\0"):
             one(unknown, place=bad, call_origin=called)
+            self.row([called.begin + 3, place], f"entry of typed is {unknown}")
         for name, expression, said in [
             ("long", IN_0 + 40 * b"\x96", "an operation can't be encoded"), ("without", None, "optimized away"),
-            ("typed", b"\xa5\0" + unsigned_leb(self.int.place or 0x2B), "0a000000"), ("empty", b"", "optimized away"),
-            ("unreadable", b"\x01", "an entry value"), ("two", IN_0 + IN_0, "an entry value"),
+            ("typed", lambda: b"\xa5\0" + unsigned_leb(self.int.place), "0a000000"), ("empty", b"", "optimized away"),
+            ("unreadable", b"\x01", "an entry value"), ("untyped", b"\x70\0", "an entry value"),
+            ("framed", b"\x91\0", "an entry value"), ("two", IN_0 + IN_0, "an entry value"),
         ]:  # fmt: skip
             self.variable(called, name, expression, "parameter")
-            if name != "typed":
-                self.row([called.begin + 3, caller.begin + 0x14], f"entry of {name} is {said}")
+            self.row([called.begin + 3, caller.begin + 0x14], f"entry of {name} is {said}")
         no_place = self.root.add("function", name="f")
         one(unknown, callee=other, call_origin=no_place)
         # the entry of the function in the place of its parameter, as GCC wrote before version 5
@@ -231,6 +256,7 @@ class Functions(Tree):
 
         def called_by(function, called):
             caller = self.function()
+            self.site(caller, None, call_origin=called)
             self.site(caller, caller.begin + 0x10, call_origin=function)
             self.parameter(called)
             return [called.begin + 3, caller.begin + 0x10]
@@ -248,11 +274,19 @@ class Functions(Tree):
         self.row(called_by(plain[0], plain[1]), f"given in 0 is {unknown}")
         # by an address that the caller computes, and one at which no function begins
         target = chain(2)
-        for address, said in [(target[0].begin, "0b000000"), (target[0].begin + 1, unknown), (0, unknown)]:
+        nowhere = FIRST + len(CODE) - 0x10  # it has no function
+        for address, said in [
+            (target[0].begin, "0b000000"), (target[0].begin + 1, unknown), (0, unknown), (nowhere, unknown)
+        ]:  # fmt: skip
             caller = self.function()
             self.site(caller, caller.begin + 0x10, call_target=b"\x0c" + self.pack("I", address))
             self.row([target[1].begin + 3, caller.begin + 0x10], f"given in 0 is {said}")
         self.parameter(target[1])
+        # by a name that only a symbol has, that of a function which isn't exported
+        named = chain(2)
+        by_symbol = self.root.add("function", name="by_symbol", external=True, declaration=True)
+        self.symbols.append(("by_symbol", named[0].begin, 0x02))
+        self.row(called_by(by_symbol, named[1]), "given in 0 is 0b000000")
         # it may have called itself: by a circle, by an address, or by more functions than are looked at
         circle = chain(3, 0)
         self.row(called_by(circle[0], circle[0]), f"given in 0 is {unknown}")
@@ -297,11 +331,12 @@ class Functions(Tree):
         content = b""
         for number, at in enumerate((begin, begin + 8), 0x31):
             content += front + self.address(at) + self.address(at + 8) + length + bytes([number, 0x9F])
+        content += front + self.address(begin + 16) + self.address(begin + 24) + bytes(len(length))
         content += end
         sections, offset = super().lists(content)
         function.add("variable", name="listed", type=self.int, location=(0x17, self.offset(offset)))
         self.root.add("variable", name="listed_global", type=self.int, location=(0x17, self.offset(offset)))
-        for at, said in [(0, "01000000"), (9, "02000000"), (0x20, "optimized away")]:
+        for at, said in [(0, "01000000"), (9, "02000000"), (0x11, "optimized away"), (0x20, "optimized away")]:
             self.row([begin + at], f"listed in 0 is {said}")
         return sections
 
@@ -324,9 +359,11 @@ class Functions(Tree):
         self.variable(function, "defined", b"\x03" + self.address(0x1018), external=True)
         self.variable(function, "indirect", b"\x03" + self.address(0x1018) + b"\x23\4", external=True)
         self.variable(function, "in_local", b"\x0e" + self.address(4) + b"\xe0", external=True)
+        self.variable(function, "indexed", b"\xa1\0", external=True)
         # another unit has a variable of the same name to itself
         self.symbols += [("in_memory", 0x1008, 0x11), ("local", 4, 0x16), ("defined", 0x1000, 0x11)]
-        self.symbols += [("in_memory", 0x1004, 0x01), ("nowhere", 0x1004, 0x01), ("hidden", 0x1004, 0x01)]
+        self.symbols += [("in_memory", None, 0x11), ("in_memory", 0x1004, 0x01), ("nowhere", 0x1004, 0x01)]
+        self.symbols.append(("hidden", 0x1004, 0x01))
         # one that isn't exported is found by its entry, and not that of a unit's own
         for place, attributes in [(0x1004, {}), (0x1020, {"external": True})]:
             self.variable(self.root, "hidden", b"\x03" + self.address(place), **attributes)
@@ -334,9 +371,20 @@ class Functions(Tree):
         self.row([function.begin], "in_memory in 0 is 08090a0b", "local in 0 is thread-local storage",
                  "nowhere in 0 is it is only declared", "hidden in 0 is 20212223", "defined in 0 is 18191a1b",
                  "indirect in 0 is 1c1d1e1f",
-                 "in_local in 0 is thread-local storage")
+                 "in_local in 0 is thread-local storage", "nameless in 0 is it is only declared")
+
+    def globals(self):
+        """Variables and a constant for functions.c's check_globals."""
+        for parent, name in [
+            (self.root, "global"), (self.root.add("namespace", name="space"), "in_namespace"),
+            (self.root.add("module", name="module"), "in_module"),
+        ]:  # fmt: skip
+            self.variable(parent, name, b"\x30", **({"linkage_name": "linked"} if name == "global" else {}))
+        self.root.add("constant", name="fixed", type=self.int, const_value=1)
+        self.variable(self.root, "", b"\x30").attributes.pop("name")
 
     def sections(self):
+        self.globals()
         self.bases()
         self.blocks()
         self.instances()
@@ -347,6 +395,9 @@ class Functions(Tree):
         self.declared()
         lists = self.lists()
         names = {".text": CODE, ".debug_frame": self.rules(), ".debug_ranges": self.ranges}
+        if self.version >= 5:
+            words = self.pack("HBB", 5, 8, 0) + self.address(0x1010)
+            names[".debug_addr"] = self.length(len(words)) + words
         return {**self.tree(), **lists, **names}
 
     def program(self):

@@ -8,7 +8,9 @@
 void rules(void);
 
 /* The CFA is what memory holds 8 bytes above rsp. Registers: 3 is at the CFA + 16, by an expression with a number of
- * two bytes; 12 has the value CFA * 2 - 1; 6 is at the CFA - 16; 14 has the value CFA - 8; 13 is in 15. */
+ * two bytes; 12 has the value CFA * 2 - 1; 6 is at the CFA - 16; 14 has the value CFA - 8; 13 is in 15; 8 has the value
+ * 5, by an expression that isn't a place; 9 has that of rsp, by an operation that isn't in its shortest form; 10 is at
+ * the CFA. */
 __asm__(".text\n"
         ".globl rules\n"
         ".type rules, @function\n"
@@ -21,12 +23,35 @@ __asm__(".text\n"
         ".cfi_val_offset 14, -8\n"
         ".cfi_register 13, 15\n"
         ".cfi_escape 0x10, 0x01, 0x04, 0x93, 0x04, 0x93, 0x04\n"
+        ".cfi_escape 0x16, 0x08, 0x02, 0x35, 0x9f\n"
+        ".cfi_escape 0x16, 0x09, 0x04, 0x92, 0x87, 0x00, 0x00\n"
+        ".cfi_offset 10, 0\n"
         ".cfi_undefined 2\n"
         ".cfi_same_value 5\n"
         "nop\n"
         "ret\n"
         ".cfi_endproc\n"
         ".size rules, .-rules\n");
+
+/* A function without a CFA, and one whose CFA isn't an expression. */
+void without_cfa(void), bad_cfa(void);
+__asm__(".globl without_cfa\n"
+        ".type without_cfa, @function\n"
+        "without_cfa:\n"
+        ".cfi_startproc simple\n"
+        "nop\n"
+        "ret\n"
+        ".cfi_endproc\n"
+        ".size without_cfa, .-without_cfa\n"
+        ".globl bad_cfa\n"
+        ".type bad_cfa, @function\n"
+        "bad_cfa:\n"
+        ".cfi_startproc\n"
+        ".cfi_escape 0x0f, 0x01, 0x00\n"
+        "nop\n"
+        "ret\n"
+        ".cfi_endproc\n"
+        ".size bad_cfa, .-bad_cfa\n");
 
 /* A function without a rule. */
 void plain(void);
@@ -54,6 +79,10 @@ static const struct {
     {13, "90 0f", 0, 0, 0, DWEXPR_IN_REGISTER, 15},
     {2, "", 0, 0, DWEXPR_LIBDW_OPTIMIZED_AWAY, 0, 0},
     {5, "", 0, 0, DWEXPR_LIBDW_SAME_VALUE, 0, 0},
+    {8, "35 9f", 1, 1, 0, DWEXPR_HOLDS_VALUE, 5},
+    {9, "", 1, 1, DWEXPR_LIBDW_NOT_ENCODABLE, 0, 0},
+    {10, "23 00", 1, 0, 0, DWEXPR_AT_ADDRESS, 0x5000},
+    {-2, "", 0, 0, DWEXPR_LIBDW_FAILED, 0, 0},
     /* no rule names rax, which a call may change */
     {0, "", 0, 0, DWEXPR_LIBDW_OPTIMIZED_AWAY, 0, 0},
 };
@@ -95,6 +124,7 @@ static void check_registers(dwexpr_libdw_frame *frame)
         {7, 0x5000, 0},
         {5, 0, DWEXPR_LIBDW_NOT_READABLE},
         {1, 0, DWEXPR_LIBDW_NO_NUMBER}, /* it is in two pieces */
+        {8, 5, 0},
     };
     size_t i;
     for (i = 0; i < COUNT(wanted); i++) {
@@ -130,6 +160,13 @@ static void check_plain(Dwfl *dwfl)
     check(state != NULL, "no rules", "a state");
     check(dwexpr_libdw_rule(state, elf, 3, &text) == DWEXPR_LIBDW_SAME_VALUE, "rbx", "it is kept");
     check(dwexpr_libdw_rule(state, elf, 0, &text) == DWEXPR_LIBDW_OPTIMIZED_AWAY, "rax", "it isn't");
+    check(dwexpr_libdw_rule(state, NULL, 0, &text) == DWEXPR_LIBDW_FAILED, "rax", "no file");
+    free(state);
+    state = rules_at(dwfl, without_cfa, &elf);
+    check(state && dwexpr_libdw_rule(state, elf, DWEXPR_LIBDW_CFA, &text) == DWEXPR_LIBDW_FAILED, "no CFA", "none");
+    free(state);
+    state = rules_at(dwfl, bad_cfa, &elf);
+    check(state && dwexpr_libdw_rule(state, elf, DWEXPR_LIBDW_CFA, &text) == DWEXPR_LIBDW_FAILED, "a bad CFA", "none");
     free(state);
 }
 
@@ -139,6 +176,7 @@ int main(void)
     Dwfl *dwfl = dwfl_begin(&finders);
     const dwexpr_libdw_source source = {.dwfl = dwfl, .pc = (Dwarf_Addr)(uintptr_t)rules, .is_activation = 1,
                                         .read_register = read_register, .read_memory = read_memory};
+    static const uint64_t other_cfa = 0x100;
     Dwarf_Frame *state;
     dwexpr_libdw_frame *frame;
     Elf *elf;
@@ -164,6 +202,12 @@ int main(void)
             check(!dwexpr_libdw_evaluate(frame, &expression, NULL, NULL, &value) && value->outcome.pieces == 1 &&
                       value->pieces[0].kind == rows[i].piece && value->pieces[0].number == rows[i].value,
                   name, "its value");
+            dwexpr_libdw_release(value);
+        }
+        if (rows[i].number == 6) {
+            check(!dwexpr_libdw_evaluate(frame, &expression, NULL, &other_cfa, &value) &&
+                      value->pieces[0].number == other_cfa - 16,
+                  name, "on a CFA that is given");
             dwexpr_libdw_release(value);
         }
         dwexpr_libdw_free_text(&expression);

@@ -20,14 +20,15 @@ ATTRIBUTES = {
     "allocated": 0x4E, "associated": 0x4F, "data_location": 0x50, "byte_stride": 0x51, "ranges": 0x55,
     "data_bit_offset": 0x6B, "linkage_name": 0x6E, "length_bytes": 0x70, "rank": 0x71, "return_pc": 0x7D,
     "call_value": 0x7E, "call_origin": 0x7F, "tail_call": 0x82, "call_target": 0x83, "signature": 0x69,
-    "MIPS_linkage_name": 0x2007, "vtable_elem": 0x4D,
+    "MIPS_linkage_name": 0x2007, "vtable_elem": 0x4D, "addr_base": 0x73,
+    "loclists_base": 0x8C,
 }  # fmt: skip
 
 
 class Entry:
     """An entry of a tree: its tag, its children, and its attributes by their names: a number is data or, if it is
-    negative, sdata; text is a string, bytes an expression, True a flag, an entry a reference, and a pair is what it
-    says, a form and its bytes."""
+    negative, sdata; text is a string, bytes an expression, True a flag, an entry a reference, a pair is what it says,
+    a form and its bytes, and a function gives one of them once the places of entries are known."""
 
     def __init__(self, tag, *children, **attributes):
         self.tag, self.children, self.attributes = TAGS[tag], list(children), attributes
@@ -48,6 +49,8 @@ class Tree(Unit):
 
     def content(self, value):
         """The form of an attribute's value, and its bytes."""
+        if callable(value):
+            value = value()
         if value is True:
             return (0x0C, b"\1")
         if isinstance(value, Entry):
@@ -63,10 +66,11 @@ class Tree(Unit):
     def written(self, entry, begin):
         """The bytes of an entry and its children. The first time the places of later entries aren't known."""
         entry.place = begin
-        contents = {ATTRIBUTES[name]: self.content(value) for name, value in entry.attributes.items()}
-        shape = (entry.tag, bool(entry.children), *((name, form) for name, (form, _) in contents.items()))
-        code = self.shapes.setdefault(shape, len(self.shapes) + 1)
-        made = unsigned_leb(code) + b"".join(content for _, content in contents.values())
+        contents = [(ATTRIBUTES[name], *self.content(value)) for name, value in entry.attributes.items()]
+        # DW_FORM_implicit_const stands in the abbreviation
+        shape = [(name, form, content if form == 0x21 else b"") for name, form, content in contents]
+        code = self.shapes.setdefault((entry.tag, bool(entry.children), *shape), len(self.shapes) + 1)
+        made = unsigned_leb(code) + b"".join(content for _, form, content in contents if form != 0x21)
         for child in entry.children:
             made += self.written(child, begin + len(made))
         return made + (b"\0" if entry.children else b"")
@@ -79,7 +83,7 @@ class Tree(Unit):
         abbreviations = b""
         for (tag, has_children, *attributes), code in self.shapes.items():
             abbreviations += unsigned_leb(code) + unsigned_leb(tag) + bytes([has_children])
-            for name, form in attributes:
-                abbreviations += unsigned_leb(name) + unsigned_leb(form)
+            for name, form, content in attributes:
+                abbreviations += unsigned_leb(name) + unsigned_leb(form) + content
             abbreviations += b"\0\0"
         return {".debug_abbrev": abbreviations + b"\0", ".debug_info": self.info(made)}

@@ -5,15 +5,15 @@
  *     at I,J B N           where the element begins in bits, and how many it has
  *     member NAME B N      the same of a member
  *     data N               the address of the data
+ *     vtable N             where its virtual function is
  *     value HEX            its bytes, read there
  *     without              the size isn't known without the object
  *     type none            it has no type
  *
  * In place of a number is `none` if there is none. */
 #include "check.h"
+#include "files.h"
 #include "frame.h"
-#include <fcntl.h>
-#include <unistd.h>
 
 static const uint64_t object = 0x1010;
 
@@ -84,6 +84,11 @@ static void check_words(dwexpr_libdw_frame *frame, const char *name, Dwarf_Die *
     } else if (!strncmp(words, "data ", 5)) {
         code = dwexpr_libdw_data(frame, type, object, &number);
         check(is_said(words + 5, code, number), name, "its data");
+    } else if (!strncmp(words, "vtable ", 7)) {
+        Dwarf_Attribute attribute;
+        dwarf_attr(type, DW_AT_vtable_elem_location, &attribute);
+        code = dwexpr_libdw_number(frame, &attribute, &object, &number);
+        check(is_said(words + 7, code, number), name, "its virtual function");
     } else if (!strncmp(words, "value ", 6)) {
         const size_t size = bytes_of(words + 6, wanted);
         check(!dwexpr_libdw_memory(frame, object, got, size) && !memcmp(got, wanted, size), name, "its value");
@@ -122,19 +127,5 @@ static void check_variable(Dwarf_Die *variable)
 
 int main(int argc, char **argv)
 {
-    int i;
-    for (i = 1; i < argc; i++) {
-        const int file = open(argv[i], O_RDONLY);
-        Dwarf *dwarf = dwarf_begin(file, DWARF_C_READ);
-        Dwarf_CU *unit = NULL;
-        Dwarf_Die entry;
-        int more = dwarf_get_units(dwarf, unit, &unit, NULL, NULL, &entry, NULL);
-        check(more == 0, argv[i], "it has a unit");
-        for (more = dwarf_child(&entry, &entry); more == 0; more = dwarf_siblingof(&entry, &entry))
-            if (dwarf_tag(&entry) == DW_TAG_variable)
-                check_variable(&entry);
-        dwarf_end(dwarf);
-        close(file);
-    }
-    return finish();
+    return check_files(argc, argv, check_variable);
 }

@@ -30,6 +30,13 @@ class Types(Tree):
         add = self.root.add
         self.int, self.byte = add("base", byte_size=4, encoding=SIGNED), add("base", byte_size=1, encoding=UNSIGNED)
         self.short = add("base", byte_size=2, encoding=SIGNED)
+        self.lists_section = {}
+        if self.version >= 5:
+            self.root.attributes["loclists_base"] = (0x17, self.offset(12))
+            # the value 3 at each address
+            self.lists_section, place = self.lists(b"\5\1\x33\0")
+            for count in ((0x22, b"\0"), (0x17, self.offset(place))):
+                self.variable("size 12", self.array(self.int, Entry("subrange", count=count)))
 
     def variable(self, said, kind, **attributes):
         self.root.add("variable", name=said, type=kind, **attributes)
@@ -125,6 +132,10 @@ class Types(Tree):
         left_out = itself_too = self.root.add("typedef")
         itself_too.attributes["type"] = left_out
         self.variable("type none", itself_too)
+        self.variable("size none; type none", self.root.add("typedef"))
+        circle = self.array(None, Entry("subrange", count=1))
+        circle.attributes["type"] = circle
+        self.variable("size none", circle)
         for tag in ("const", "volatile", "restrict", "atomic", "immutable", "typedef"):
             self.variable("size 2", self.root.add(tag, type=self.short))
 
@@ -136,6 +147,8 @@ class Types(Tree):
         self.variable(f"size {address}", self.root.add("to_member"))
         self.variable(f"size {2 * address}", self.root.add("to_member", type=self.root.add("subroutine_type")))
         self.variable("size none", self.root.add("subroutine_type"))
+        self.variable("size 4", self.root.add("enumeration", type=self.int))
+        self.variable("vtable 4115", self.root.add("class", byte_size=4, vtable_elem=b"\x23\3"))
         self.variable("size 2", self.root.add("base", bit_size=12, encoding=UNSIGNED))
         self.variable("size 1", self.root.add("base", bit_size=8, encoding=UNSIGNED))
         self.variable("size none", self.root.add("base", bit_size=b"\x22"))
@@ -243,7 +256,7 @@ class Types(Tree):
         for write in (self.arrays, self.orders, self.enumerations, self.ranges, self.others, self.strings, self.numbers,
                       self.members, self.definitions, self.places):
             write()
-        return self.tree()
+        return {**self.tree(), **self.lists_section}
 
 
 def main():

@@ -44,44 +44,47 @@ class Unit:
         return self.length(len(self.header()) + len(entries)) + self.header() + entries
 
     def lists(self, content):
-        """The section of location lists with this content, by its name, and where the content begins in it."""
+        """The section of location lists with this content, by its name, and where the content begins in it. In version
+        5 that has index 0 too."""
         if self.version < 5:
             return {".debug_loc": content}, 0
-        header = self.pack("HBBI", 5, self.address_size, 0, 0)
+        header = self.pack("HBBI", 5, self.address_size, 0, 1) + self.offset(self.offset_size)
         length = self.length(len(header) + len(content))
         return {".debug_loclists": length + header + content}, len(length) + len(header)
 
-    def elf(self, sections, loads=(), kind=1, symbols=()):
-        """The bytes of an object file with these sections, by name; or of a program or a core dump, with segments: of
-        each the type, the address, the bytes and how many it has in memory. A symbol is a name, an address and what it
-        is."""
+    def elf(self, sections, loads=(), kind=1, symbols=(), table_name=".symtab"):
+        """The bytes of an object file with these sections, by name; or of a program or a core dump, with segments.
+
+        A segment is its type, its address, its bytes, how many it has in memory, and its alignment if that isn't 1. A
+        symbol is a name, an address, which is None if another file has it, and what it is."""
         wide = self.address_size == 8
         if symbols:
             strings = b"\0" + b"".join(name.encode() + b"\0" for name, *_ in symbols)
             table = bytes(24 if wide else 16)
             for name, address, info in symbols:
                 at = strings.index(b"\0" + name.encode() + b"\0") + 1
-                fields = ("IBBHQQ", at, info, 0, 1, address, 8) if wide else ("IIIBBH", at, address, 8, info, 0, 1)
-                table += self.pack(*fields)
-            sections = sections | {".symtab": table, ".strtab": strings}
+                section, place = int(address is not None), address or 0
+                wide_fields = ("IBBHQQ", at, info, 0, section, place, 8)
+                table += self.pack(*wide_fields if wide else ("IIIBBH", at, place, 8, info, 0, section))
+            sections = sections | {table_name: table, ".strtab": strings}
         names = b"\0" + b"".join(name.encode() + b"\0" for name in [*sections, ".shstrtab"])
         sections = sections | {".shstrtab": names}
         word = "Q" if wide else "I"
         front = 64 if wide else 52
         place, body, headers = front + len(loads) * (56 if wide else 32), b"", bytes(64 if wide else 40)
         segments = b""
-        for segment, address, content, size in loads:
-            at = place + len(body)
+        for segment, address, content, size, *align in loads:
+            at, align = place + len(body), align[0] if align else 1
             if wide:
-                segments += self.pack("IIQQQQQQ", segment, 7, at, address, address, len(content), size, 1)
+                segments += self.pack("IIQQQQQQ", segment, 7, at, address, address, len(content), size, align)
             else:
-                segments += self.pack("IIIIIIII", segment, at, address, address, len(content), size, 7, 1)
+                segments += self.pack("IIIIIIII", segment, at, address, address, len(content), size, 7, align)
             body += content
-        kinds = {".shstrtab": 3, ".strtab": 3, ".symtab": 2}
+        kinds = {".shstrtab": 3, ".strtab": 3, ".symtab": 2, ".dynsym": 11}
         for index, (name, content) in enumerate(sections.items()):
             at = names.index(name.encode() + b"\0")
             form = f"II{word * 4}II{word * 2}"
-            is_symbols = name == ".symtab"
+            is_symbols = kinds.get(name) in (2, 11)
             links = [index + 2, 1, 8, 24 if wide else 16] if is_symbols else [0, 0, 1, 0]
             headers += self.pack(form, at, kinds.get(name, 1), 0, 0, place + len(body), len(content), *links)
             body += content

@@ -22,6 +22,7 @@ static const struct {
 } rows[] = {
     {"a register", 0, "50", 32, "88776655", "00000000", 0},
     {"a register", 1, "50", 32, "55667788", "00000000", 0},
+    {"bits beyond a register", 0, "50 9d 08 d804", 8, "00", "ff", SMALL},
     {"one bit of a register", 0, "50 9d 01 03", 1, "01", "00", 0},
     {"one bit of a register", 1, "50 9d 01 03", 1, "80", "00", 0},
     {"two registers", 0, "50 93 08 51 93 08", 128, "8877665544332211 00ffeeddccbbaa99",
@@ -135,6 +136,50 @@ static void check_values(void)
             check(!memcmp(unknown, wanted, size), rows[i].name, "unknown bits");
         }
     }
+}
+
+/* A value that names no frame is read in the one that is given. */
+static void check_no_frame(void)
+{
+    const dwexpr_libdw_value value = {.outcome = {.pieces = 1}, .encoding = LE8,
+                                      .pieces = {{.kind = DWEXPR_AT_ADDRESS, .number = 0x1010}}};
+    int big_endian = 0;
+    uint8_t content = 0;
+    dwexpr_libdw_frame *frame = make_frame(&big_endian);
+    check(!dwexpr_libdw_read(frame, &value, 8, &content, NULL) && content == 0x10, "no frame", "its memory");
+    dwexpr_libdw_free_frame(frame);
+}
+
+/* Bits from within a byte of memory, in more bytes than are read at once. */
+static void check_long_memory(void)
+{
+    static const uint8_t place[] = {0x0c, 0, 0x10, 0, 0, 0x9d, 0xb4, 0x10, 4};
+    const dwexpr_libdw_text text = {.text = {place, sizeof place}, .encoding = LE8};
+    uint8_t content[263];
+    int big_endian = 0, wrong = 0;
+    unsigned i;
+    dwexpr_libdw_frame *frame = make_frame(&big_endian);
+    dwexpr_libdw_value *value;
+    check(!dwexpr_libdw_evaluate(frame, &text, NULL, NULL, &value), "much memory", "its place");
+    check(!dwexpr_libdw_read(frame, value, 2100, content, NULL), "much memory", "it is read");
+    for (i = 0; i < 262; i++)
+        wrong += content[i] != (uint8_t)((i & 0xff) >> 4 | (i + 1) << 4);
+    check(!wrong && content[262] == 0, "much memory", "its bits");
+    dwexpr_libdw_release(value);
+    dwexpr_libdw_free_frame(frame);
+}
+
+/* An attribute that no unit has, and so no file. */
+static void check_no_unit(void)
+{
+    Dwarf_Attribute attribute = {.cu = NULL};
+    const dwexpr_libdw_value value = {.unit = NULL};
+    const dwexpr_piece piece = {.kind = DWEXPR_AT_ADDRESS}, pointer = {.kind = DWEXPR_POINTS_INTO};
+    dwexpr_libdw_text text;
+    Dwarf_Die variable;
+    check(dwexpr_libdw_expression(&attribute, 0, &text) == DWEXPR_LIBDW_FAILED, "no unit", "no expression");
+    check(dwexpr_libdw_points_into(&value, &piece, &variable) == DWEXPR_LIBDW_FAILED, "no pointer", "no variable");
+    check(dwexpr_libdw_points_into(&value, &pointer, &variable) == DWEXPR_LIBDW_FAILED, "no unit", "no variable");
 }
 
 /* A generic value has the size of an address, which isn't always 8 bytes. */
@@ -300,6 +345,8 @@ static const struct {
     {"a number of a size that it can't have", 8, 4, 5, 0, {{0x10, 300, 0, 0}}, 1, BAD, 2},
     {"more bytes than it has", 8, 4, 5, 0, {{0x30, 0, 0, 0}}, 1, BAD, 2},
     {"an offset with a sign", 8, 4, 5, 0, {{0xa0, 1, (Dwarf_Word)-1, 0}}, 1, "a0 01000000 7f", 0},
+    {"an offset with a sign and a size", 8, 4, 5, 0, {{0xa0, 1, (Dwarf_Word)-2, 0}}, 1, "a0 01000000 feff7f", 8},
+    {"an offset of ten bytes", 8, 4, 5, 0, {{0xa0, 1, (Dwarf_Word)-1, 0}}, 1, "a0 01000000 ffffffffffffffffff7f", 15},
     {"an offset with a size", 8, 4, 5, 0, {{0xa0, 1, 64, 0}, {0x96, 0, 0, 7}}, 2, "a0 01000000 c000 96", 0},
     {"an offset with a smaller size", 8, 4, 5, 0, {{0xa0, 1, 64, 0}, {0x96, 0, 0, 6}}, 2, "a0 01000000 40 96", 0},
     {"a LEB128 number that is too long", 8, 4, 5, 0, {{0x10, 5, 0, 0}, {0x9f, 0, 0, 2000}}, 2, BAD, 0},
@@ -345,6 +392,9 @@ int main(void)
 {
     uint32_t code;
     check_values();
+    check_no_frame();
+    check_long_memory();
+    check_no_unit();
     check_narrow_value();
     check_given();
     check_callbacks();

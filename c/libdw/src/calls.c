@@ -67,7 +67,7 @@ int dwexpr_libdw_call_target(Dwarf_Die *site, Dwarf_Attribute *target)
 
 /* ---- which function a call site names */
 
-/* The entry that an entry of a function is an instance of, or that it completes. */
+/* The entry of which a function's entry is an instance, or which it completes: the last of such a chain. */
 static Dwarf_Die root_of(const Dwarf_Die *function)
 {
     Dwarf_Die root = *function;
@@ -145,11 +145,11 @@ int dwexpr_libdw_find_tail_call(const dwexpr_libdw_frame *between, const dwexpr_
     return !walk.code && count == 1 && dwexpr_libdw_names(site, between, called, &address) > 0;
 }
 
-/* The most functions that are looked at for a tail call of the first of them. */
+/* How many functions are followed at most, in search of a tail call of the first one. */
 enum { MOST_FUNCTIONS = 32 };
 
-/* Adds the functions to which one leaves by tail calls. Gives back 1 if one of them may be the first, or if there is no
- * memory to know; else 0. */
+/* Adds the functions that one calls by tail calls. Gives back 1 if one of them may be the first function, or if there
+ * is no memory to know; else 0. */
 static int add_tail_calls(dwexpr_libdw_frame *functions, int at, int *count)
 {
     dwexpr_libdw_frame *next;

@@ -1,16 +1,16 @@
 /* Expressions, evaluated in a frame. */
 #include "private.h"
 
-/* What an expression is for. That of a frame base can't ask for the frame base, and that of a CFA asks only for
- * registers and memory. */
+/* What an expression is for. A frame base's can't ask for the frame base; a CFA's can only ask for registers and
+ * memory. */
 enum purpose { FOR_VALUE, FOR_BASE, FOR_CFA };
 
 /* The most operations of an expression. */
 #define OPERATIONS 100000
 #define TEXTS (sizeof ((dwexpr_libdw_value *)0)->texts / sizeof(dwexpr_text))
 
-/* An expression that is evaluated. One that asks for a value on entry waits until that of the caller's is there, which
- * may wait for another: so values that go through many callers take no stack. */
+/* An evaluation. If it asks for a value on entry, it waits for an evaluation in the caller, which may wait in turn. So
+ * values that go through many callers take no stack. */
 struct job {
     struct job *waits; /* the one that waits for this one's number, or NULL */
     enum purpose purpose;
@@ -91,7 +91,7 @@ static uint32_t find_rule(dwexpr_libdw_frame *frame, int number, dwexpr_libdw_te
     return code;
 }
 
-/* The number that a value is, or that its register has. */
+/* The number of a value that is one, or that is in a register. */
 static uint32_t number_of_value(const dwexpr_libdw_frame *frame, const dwexpr_libdw_value *value, uint64_t *number)
 {
     if (value->outcome.value_type != DWEXPR_NO_TYPE) {
@@ -230,7 +230,7 @@ static int has_only(dwexpr_text text, dwexpr_encoding encoding, const uint8_t *k
     return 1;
 }
 
-/* Whether an expression only moves values: then a number can have the bits of a float. */
+/* Whether an expression only moves values. A float may then be handled as a number with the same bits. */
 static int moves_only(dwexpr_text text, dwexpr_encoding encoding)
 {
     static const uint8_t kinds[] = {DWEXPR_OP_DEREF, DWEXPR_OP_UNSIGNED_CONSTANT, DWEXPR_OP_SIGNED_CONSTANT,
@@ -241,7 +241,7 @@ static int moves_only(dwexpr_text text, dwexpr_encoding encoding)
     return has_only(text, encoding, kinds, sizeof kinds);
 }
 
-/* The type of whole numbers for a base type. */
+/* The integer type that stands for a base type. */
 static int base_type_of(struct job *job, uint64_t offset, uint32_t *value_type)
 {
     Dwarf_Die type;
@@ -275,7 +275,7 @@ static void end_job(struct job *job)
     free(job);
 }
 
-/* Takes memory for the evaluation of an expression, one of those that are left. */
+/* Makes an evaluation. `left` counts how many more there may be. */
 static uint32_t make_job(enum purpose purpose, dwexpr_libdw_frame *frame, const dwexpr_libdw_text *expression,
                          uint32_t *left, struct job **made)
 {
@@ -328,7 +328,7 @@ static uint32_t resume(struct job *job)
                                     value->pieces, DWEXPR_MAX_PIECES);
 }
 
-/* What a job answers if its request can't be answered, as why the answer isn't there. */
+/* The code of a job whose request can't be answered: `why` if a limit was reached, else the request. */
 static uint32_t refused(const struct job *job, uint32_t why)
 {
     const int is_limit = why == DWEXPR_LIBDW_NO_MEMORY || why == DWEXPR_LIBDW_TOO_MANY_EXPRESSIONS ||
@@ -338,7 +338,7 @@ static uint32_t refused(const struct job *job, uint32_t why)
 
 /* ---- values on entry */
 
-/* Makes the job of an attribute in the caller, for whose number a job waits. */
+/* Makes the job that evaluates an attribute in the caller. The first job waits for its number. */
 static uint32_t ask_caller(struct job *job, Dwarf_Attribute *attribute, uint32_t *left, struct job **next)
 {
     dwexpr_libdw_frame *caller = job->between ? job->between : job->frame->source.caller;
@@ -364,8 +364,8 @@ static uint32_t ask_passed(struct job *job, uint32_t *left, struct job **next)
     return ask_caller(job, &attribute, left, next);
 }
 
-/* Asks for what a function passed that the caller called at an address, and that left by a tail call. Its own values
- * are those that it had on entry. */
+/* The caller called another function, at `address`, which then left for this one by a tail call. Asks for what that
+ * function passed. Its own values are those that it had on entry. */
 static uint32_t ask_between(struct job *job, uint64_t address, uint32_t *left, struct job **next)
 {
     job->between = (dwexpr_libdw_frame *)malloc(sizeof *job->between);
@@ -379,7 +379,7 @@ static uint32_t ask_between(struct job *job, uint64_t address, uint32_t *left, s
     return ask_passed(job, left, next);
 }
 
-/* Asks for what the caller passed, but first which function it called if its call site computes that. */
+/* Asks for what the caller passed. If its call site computes the function's address, that is asked for first. */
 static uint32_t ask_call_site(struct job *job, uint32_t *left, struct job **next)
 {
     Dwarf_Attribute attribute;
@@ -400,7 +400,7 @@ static uint32_t ask_call_site(struct job *job, uint32_t *left, struct job **next
     return ask_caller(job, &attribute, left, next);
 }
 
-/* Takes the number for which a job has waited. */
+/* Goes on with a job that has waited for this number. */
 static uint32_t take(struct job *job, uint64_t number, uint32_t *left, struct job **next)
 {
     if (!job->waits_for_target) {
@@ -556,8 +556,8 @@ uint32_t dwexpr_libdw_evaluate(dwexpr_libdw_frame *frame, const dwexpr_libdw_tex
 
 /* ---- the frame of an entry's function */
 
-/* The caller whose function encloses that of a frame: the one whose frame base DW_AT_static_link gives, or else the
- * only one there is. GCC writes a link also if no caller sets it. NULL if it isn't known. */
+/* The frame of the enclosing function: the caller whose frame base DW_AT_static_link gives, or else the only caller of
+ * that function. GCC writes a link also if no caller sets it. NULL if it isn't known. */
 static dwexpr_libdw_frame *enclosing_frame(dwexpr_libdw_frame *inner, const Dwarf_Die *function)
 {
     const struct dwexpr_libdw_given given = {inner, NULL, NULL};
@@ -581,7 +581,7 @@ static dwexpr_libdw_frame *enclosing_frame(dwexpr_libdw_frame *inner, const Dwar
     return count == 1 ? found : NULL;
 }
 
-/* Goes out of the function of a frame, through those that enclose it, to one of them. */
+/* Finds the frame of a function that encloses the frame's, through all that stand between them. */
 static uint32_t go_out(dwexpr_libdw_frame *frame, const Dwarf_Die *function, dwexpr_libdw_frame **owner)
 {
     struct dwexpr_libdw_walk walk;
@@ -728,9 +728,8 @@ static uint32_t hidden(dwexpr_libdw_frame *frame, Dwarf_Die *variable, Dwfl_Modu
     return code;
 }
 
-/* The value of a variable that other units see by its name, if it is that of another one: it is only declared here, or
- * a module has its own before this one in the order in which names are looked for, as a program has copies of what its
- * libraries export. */
+/* The value of a variable that its name finds elsewhere: it is only declared here, or the dynamic linker takes that of
+ * another module, as a program has copies of what its libraries export. */
 static uint32_t named(dwexpr_libdw_frame *frame, Dwarf_Die *variable, int is_declared, dwexpr_libdw_value **value)
 {
     struct dwexpr_libdw_symbol symbol = {.name = dwexpr_libdw_linkage_name(variable)};
@@ -833,7 +832,7 @@ static uint32_t member_value(dwexpr_libdw_frame *frame, Dwarf_Die *member, const
     return make_value(frame, attribute.cu, *object + place, value);
 }
 
-/* The number of so many bytes that a value has. */
+/* Reads a value of so many bytes as a number. */
 static uint32_t read_number(const dwexpr_libdw_frame *frame, const dwexpr_libdw_value *value, Dwarf_Word size,
                             int is_signed, uint64_t *number)
 {

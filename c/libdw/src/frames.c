@@ -71,7 +71,7 @@ uint64_t dwexpr_libdw_entry_of(const dwexpr_libdw_frame *frame)
 
 /* ---- scopes */
 
-/* Entries that hold an address if they have it. All others hold what their children do. */
+/* Whether entries of this tag have addresses. All others hold what their children hold. */
 static int has_code(int tag)
 {
     return tag == DW_TAG_subprogram || tag == DW_TAG_inlined_subroutine || tag == DW_TAG_lexical_block ||
@@ -83,8 +83,8 @@ static int holds(Dwarf_Die *entry, Dwarf_Addr address)
     return has_code(dwarf_tag(entry)) && dwarf_haspc(entry, address) > 0;
 }
 
-/* Goes to the entry of the function that has the address. It mostly stands below namespaces and classes. Some stand
- * within others that don't have the address: they are looked for if `anywhere`. Gives back whether there is one. */
+/* Goes to the function that has the address, and gives back whether there is one. Most functions stand in namespaces
+ * and classes. With `anywhere` those are found too that stand in functions which don't have the address. */
 static int go_to_function(struct dwexpr_libdw_walk *walk, Dwarf_Addr address, int anywhere)
 {
     int enters = 1;
@@ -131,8 +131,8 @@ static uint32_t find_scopes(Dwarf_Die *unit, Dwarf_Addr address, struct dwexpr_l
 
 /* ---- the place of a frame */
 
-/* Whether a unit has an address: by its own addresses, or by those of its functions if it has none, or not all, as in
- * version 2, which has no ranges. */
+/* Whether a unit has an address. If the unit has no addresses of its own, or not all of them, as in version 2, those of
+ * its functions tell. */
 static int unit_has(Dwarf_Die *unit, Dwarf_Addr address, uint32_t *code)
 {
     struct dwexpr_libdw_walk walk;
@@ -146,7 +146,7 @@ static int unit_has(Dwarf_Die *unit, Dwarf_Addr address, uint32_t *code)
     return walk.path.length > 1;
 }
 
-/* The unit that has an address, by the table of addresses, or by their own if a compiler writes no table. */
+/* The unit that has an address: by .debug_aranges, or if that doesn't tell, by each unit's own addresses. */
 static uint32_t find_unit(Dwfl_Module *module, Dwarf_Addr address, Dwarf_Addr *bias, Dwarf_Die **unit)
 {
     uint32_t code = 0;
@@ -229,7 +229,7 @@ Dwfl_Module *dwexpr_libdw_next_module(Dwfl *dwfl, Dwfl_Module *passed)
     return modules.next;
 }
 
-/* Whether debug information is that of a module, or if `is_split`, in a file of its own that a unit of it names. */
+/* Whether debug information belongs to a module; if `is_split`, as a separate file that one of its units names. */
 static int is_of(Dwfl_Module *module, const Dwarf *wanted, int is_split, Dwarf_Addr *bias)
 {
     Dwarf *dwarf = dwfl_module_getdwarf(module, bias);
@@ -322,7 +322,7 @@ static int has_instance(Dwarf_Die *scope, const Dwarf_Die *entry)
     return 0;
 }
 
-/* Adds the variables that stand in an entry, but those that have an instance in a scope unless that is NULL. */
+/* Adds the variables that stand in an entry. If `scope` isn't NULL, those with an instance there are left out. */
 static uint32_t add_variables(struct found *found, Dwarf_Die *parent, Dwarf_Die *scope)
 {
     Dwarf_Die entry;
@@ -339,8 +339,8 @@ static uint32_t add_variables(struct found *found, Dwarf_Die *parent, Dwarf_Die 
     return code;
 }
 
-/* Adds the function that ends a level, and the variables of its scopes, the innermost first: those that stand there,
- * and those that only the entry of which a scope is an instance has. */
+/* Adds the function that ends a level, and the variables of its scopes, innermost first. If a scope is an instance of
+ * another entry, what only that entry has is added too. */
 static uint32_t add_level(struct found *found, Dwarf_Die *scopes, size_t count)
 {
     uint32_t code = add_entry(found, &scopes[count - 1]);

@@ -1,7 +1,7 @@
 /* What is looked for by its name: variables of modules, symbols, and the definitions of what is only declared. */
 #include "private.h"
 
-/* What is done with a unit. Gives back whether the search ends there. */
+/* Looks at a unit. Gives back whether the search ends there. */
 typedef int unit_search(Dwarf_Die *unit, void *given);
 
 static int search_module(Dwfl_Module *module, const void *passed, unit_search *on_unit, void *given)
@@ -158,7 +158,7 @@ static Elf_Data *section_of(Dwfl_Module *module, unsigned type, GElf_Shdr *heade
     return elf_getdata(section, NULL);
 }
 
-/* Whether a module is the program: the linker leaves room there for what debuggers look for. */
+/* Whether a module is the program: only its dynamic section has DT_DEBUG. */
 static int is_program(Dwfl_Module *module)
 {
     GElf_Shdr header;

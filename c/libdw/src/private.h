@@ -76,7 +76,8 @@ int dwexpr_libdw_scalar(Dwarf_Die *type, Dwarf_Word *size, Dwarf_Word *encoding)
 
 /* ---- evaluate.c */
 
-/* What the number of an attribute is computed with: the object's address, and the value on the stack at the begin. */
+/* What an attribute's number is computed with: a frame and, unless they are NULL, the object's address and the value
+ * that is on the stack at first. */
 struct dwexpr_libdw_given {
     dwexpr_libdw_frame *frame;
     const uint64_t *object, *initial;

@@ -40,7 +40,7 @@ static struct stack_frame *frames_of(const dwexpr_libdw_stack *stack)
 
 /* ---- registers from the kernel's sets */
 
-/* Those of the x87 aren't among them: they have 80 bits, and a variable of 64 in one isn't its lowest 64. */
+/* The x87 registers are left out. They have 80 bits, and a variable of 64 bits in one isn't its lowest 64. */
 static const struct row {
     uint16_t machine, first, count, set, offset, size;
 } rows[] = {
@@ -87,8 +87,8 @@ static int read_set(const dwexpr_libdw_stack *stack, uint32_t number, uint8_t *b
 
 /* ---- registers of callers */
 
-/* Whether a call kept a register of its caller that call frame information says nothing of. GCC names a register that a
- * call may change only if it knows that this call doesn't. */
+/* Whether a call kept a register of its caller, though call frame information doesn't say so. GCC only names a register
+ * that calls may change if it knows that this call doesn't. */
 static int is_kept(dwexpr_libdw_frame *caller, unsigned machine, uint32_t number)
 {
     Dwarf_Attribute attribute;
@@ -102,8 +102,8 @@ static int is_kept(dwexpr_libdw_frame *caller, unsigned machine, uint32_t number
     return producer && !strncmp(producer, "GNU ", 4);
 }
 
-/* Whether a frame was interrupted by a signal: the one that it called is that of the kernel, whose call frame
- * information says so. */
+/* Whether a signal interrupted a frame. Then the frame before it is the kernel's, whose call frame information says
+ * so. */
 static int is_interrupted(const dwexpr_libdw_stack *stack, size_t index)
 {
     Dwarf_Frame *state;
@@ -164,8 +164,8 @@ static int read_memory(void *context, uint64_t address, uint8_t *bytes, size_t s
 
 /* ---- thread-local storage */
 
-/* The base of the segment that gs selects on i386: register 10 of the general ones, and the entries that the kernel has
- * of a thread, each with its number and its base. */
+/* The base of the segment that gs selects on i386. Register 10 of the general ones is gs; the kernel keeps a list of
+ * segments for each thread, with their numbers and bases. */
 static int find_segment(const dwexpr_libdw_stack *stack, uint64_t *base)
 {
     const uint8_t *general = stack->sets.bytes[GENERAL], *entries = stack->sets.bytes[SEGMENTS];
@@ -200,7 +200,7 @@ static int find_tls(void *context, Dwfl_Module *module, uint64_t offset, uint64_
            dwexpr_libdw_find_block(stack->target, module, pointer, offset, address);
 }
 
-/* ---- the way through the frames */
+/* ---- the walk through the frames */
 
 /* Reads the thread's register sets by ptrace; libdwfl keeps it stopped during the walk. */
 static uint32_t trace_sets(dwexpr_libdw_stack *stack)

@@ -6,8 +6,7 @@
 
 #pragma GCC visibility push(hidden)
 
-/* The kernel's sets of registers: general; of floating point; those as FXSAVE has them on i386; as XSAVE has them;
- * segments on i386. */
+/* The kernel's sets of registers: general, floating point, FXSAVE's on i386, XSAVE's, and segments on i386. */
 enum set { GENERAL, FLOATING, FXSAVE, XSAVE, SEGMENTS, SETS };
 
 /* The type of a set's note in a core dump, and for ptrace. */
@@ -29,7 +28,7 @@ struct dwexpr_libdw_target {
 /* Keeps a text for dwexpr_libdw_target_error. */
 void dwexpr_libdw_keep_error(const char *text);
 
-/* The sets of a thread. */
+/* The register sets of a thread, as bytes. */
 struct dwexpr_libdw_sets {
     uint8_t *bytes[SETS];
     size_t lengths[SETS];

@@ -17,7 +17,7 @@ static int find_segment(Dwfl_Module *module, unsigned type, GElf_Phdr *segment, 
 
 /* ---- what glibc keeps of other modules */
 
-/* What is read of a thread's process. If a read fails, the others give 0. */
+/* Reads a process's memory. After a read that failed, all give 0. */
 struct reader {
     const dwexpr_libdw_target *target;
     size_t word; /* the bytes of an address */
@@ -62,7 +62,7 @@ static uint64_t find_map(struct reader *reader, Dwfl_Module *module)
     return i < 10000 ? map : 0;
 }
 
-/* Whether a thread's vector of blocks is newer than a module's number in it. */
+/* Whether a thread's vector of blocks is up to date for a module: no older than when the module got its number. */
 static int is_current(struct reader *reader, uint64_t vector, uint64_t number)
 {
     uint64_t list = word_at(reader, symbol_at(reader, "_rtld_global") +
@@ -72,7 +72,7 @@ static int is_current(struct reader *reader, uint64_t vector, uint64_t number)
     const uint64_t next = offset_of(reader, "_thread_db_dtv_slotinfo_list_next");
     uint64_t first = 0, length;
     int i;
-    for (i = 0; i < 1000 && list && !reader->failed; i++, first += length) {
+    for (i = 0; i < 1000 && list; i++, first += length) {
         length = word_at(reader, list); /* its first field */
         if (number - first < length) {
             const uint64_t slot = list + slots + (number - first) * size;
@@ -83,8 +83,8 @@ static int is_current(struct reader *reader, uint64_t vector, uint64_t number)
     return 0;
 }
 
-/* That of a module which was there at the start has a distance from the thread pointer. Else the thread has its address
- * in a vector, if it has used it. */
+/* The block of a module that was loaded at the start is at a distance from the thread pointer. Other blocks are in the
+ * thread's vector once the thread has used them. */
 static int find_library_block(const dwexpr_libdw_target *target, Dwfl_Module *module, uint64_t pointer,
                               uint64_t offset, uint64_t *address)
 {
@@ -107,7 +107,7 @@ static int find_library_block(const dwexpr_libdw_target *target, Dwfl_Module *mo
     return !number || !block || block % 2 || !is_current(&reader, vector, number) || reader.failed;
 }
 
-/* The program's own ends at the thread pointer, and begins at an address with the alignment of its segment. */
+/* The program's own block ends at the thread pointer, and begins as its segment is aligned. */
 static uint64_t program_block(const GElf_Phdr *segment, uint64_t pointer)
 {
     const uint64_t align = segment->p_align ? segment->p_align : 1, first = (0 - segment->p_vaddr) % align;

@@ -66,10 +66,11 @@ class Tree(Unit):
     def written(self, entry, begin):
         """The bytes of an entry and its children. The first time the places of later entries aren't known."""
         entry.place = begin
-        contents = {ATTRIBUTES[name]: self.content(value) for name, value in entry.attributes.items()}
-        shape = (entry.tag, bool(entry.children), *((name, form) for name, (form, _) in contents.items()))
-        code = self.shapes.setdefault(shape, len(self.shapes) + 1)
-        made = unsigned_leb(code) + b"".join(content for _, content in contents.values())
+        contents = [(ATTRIBUTES[name], *self.content(value)) for name, value in entry.attributes.items()]
+        # DW_FORM_implicit_const stands in the abbreviation
+        shape = [(name, form, content if form == 0x21 else b"") for name, form, content in contents]
+        code = self.shapes.setdefault((entry.tag, bool(entry.children), *shape), len(self.shapes) + 1)
+        made = unsigned_leb(code) + b"".join(content for _, form, content in contents if form != 0x21)
         for child in entry.children:
             made += self.written(child, begin + len(made))
         return made + (b"\0" if entry.children else b"")
@@ -82,7 +83,7 @@ class Tree(Unit):
         abbreviations = b""
         for (tag, has_children, *attributes), code in self.shapes.items():
             abbreviations += unsigned_leb(code) + unsigned_leb(tag) + bytes([has_children])
-            for name, form in attributes:
-                abbreviations += unsigned_leb(name) + unsigned_leb(form)
+            for name, form, content in attributes:
+                abbreviations += unsigned_leb(name) + unsigned_leb(form) + content
             abbreviations += b"\0\0"
         return {".debug_abbrev": abbreviations + b"\0", ".debug_info": self.info(made)}

@@ -34,8 +34,9 @@ class Types(Tree):
         if self.version >= 5:
             self.root.attributes["loclists_base"] = (0x17, self.offset(12))
             # the value 3 at each address
-            self.lists_section, _ = self.lists(b"\5\1\x33\0")
-            self.variable("size 12", self.array(self.int, Entry("subrange", count=(0x22, b"\0"))))
+            self.lists_section, place = self.lists(b"\5\1\x33\0")
+            for count in ((0x22, b"\0"), (0x17, self.offset(place))):
+                self.variable("size 12", self.array(self.int, Entry("subrange", count=count)))
 
     def variable(self, said, kind, **attributes):
         self.root.add("variable", name=said, type=kind, **attributes)

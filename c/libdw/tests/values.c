@@ -174,11 +174,12 @@ static void check_no_unit(void)
 {
     Dwarf_Attribute attribute = {.cu = NULL};
     const dwexpr_libdw_value value = {.unit = NULL};
-    const dwexpr_piece piece = {.kind = DWEXPR_AT_ADDRESS};
+    const dwexpr_piece piece = {.kind = DWEXPR_AT_ADDRESS}, pointer = {.kind = DWEXPR_POINTS_INTO};
     dwexpr_libdw_text text;
     Dwarf_Die variable;
     check(dwexpr_libdw_expression(&attribute, 0, &text) == DWEXPR_LIBDW_FAILED, "no unit", "no expression");
     check(dwexpr_libdw_points_into(&value, &piece, &variable) == DWEXPR_LIBDW_FAILED, "no pointer", "no variable");
+    check(dwexpr_libdw_points_into(&value, &pointer, &variable) == DWEXPR_LIBDW_FAILED, "no unit", "no variable");
 }
 
 /* A generic value has the size of an address, which isn't always 8 bytes. */

@@ -4,11 +4,13 @@
 ghost use Rattle.dwarf_expr.specs.Evaluation.{IsClosed};
 
 mod registers;
+mod replays;
 mod requests;
 #[cfg(test)]
 mod tests;
 
 use crate::registers::complete_with_registers;
+use crate::replays::replay_bounded;
 use crate::requests::{Process, complete, count_requests};
 use dwarf_expr::base::{
     DebugAddrIndex, Encoding, EndianSlice, Error, Format, Reader, Register, Result, RunTimeEndian,
@@ -16,7 +18,7 @@ use dwarf_expr::base::{
 };
 use dwarf_expr::eval::Evaluation;
 use dwarf_expr::op::{DieReference, Expression, Piece};
-use dwarf_expr::replay::{Step, replay};
+use dwarf_expr::replay::Step;
 use dwarf_expr::store::{EvaluationStorage, SliceVec, StoreInSlices};
 use dwarf_expr::value::{Value, ValueType};
 use std::io;
@@ -196,7 +198,7 @@ fn show_replayed<'a>(
 ) -> io::Result<()> {
     let mut evaluation = Evaluation::new(rt.alloc(), bytes, ENCODING);
     let mut answers = Vec::new(rt.alloc());
-    let replayed = replay(&mut evaluation, steps, &mut answers);
+    let replayed = replay_bounded(&mut evaluation, 100_000, steps, &mut answers);
     println!(rt; "replayed: {replayed:?} {:?}", answers.as_slice())
 }
 

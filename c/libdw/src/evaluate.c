@@ -17,7 +17,7 @@ struct job {
     dwexpr_libdw_frame *frame;
     Dwarf_Attribute unit; /* its `cu`; nothing else of it is set */
     dwexpr_libdw_value *value;
-    dwexpr_step answer;
+    dwexpr_answer answer;
     /* while it waits: the call site in the caller, and the place or the entry of what is passed */
     Dwarf_Die site;
     dwexpr_text place;
@@ -422,59 +422,59 @@ static uint32_t answer(struct job *job, uint32_t *left, struct job **next)
 {
     const dwexpr_outcome *asked = &job->value->outcome;
     dwexpr_libdw_frame *frame = job->frame;
-    dwexpr_step *step = &job->answer;
+    dwexpr_answer *answer = &job->answer;
     int failed = !may_ask(job->purpose, asked->request);
     uint32_t why = 0;
-    memset(step, 0, sizeof *step);
-    step->value_type = DWEXPR_GENERIC;
+    memset(answer, 0, sizeof *answer);
+    answer->value_type = DWEXPR_GENERIC;
     if (failed)
         return refused(job, 0);
-    if (asked->base_type && base_type_of(job, asked->base_type, &step->value_type))
+    if (asked->base_type && base_type_of(job, asked->base_type, &answer->value_type))
         return DWEXPR_LIBDW_WANTS + DWEXPR_WANTS_BASE_TYPE;
     switch (asked->request) {
     case DWEXPR_WANTS_MEMORY:
-        step->kind = DWEXPR_ANSWER_MEMORY;
-        failed = memory_number(job, &step->number);
+        answer->kind = DWEXPR_ANSWER_MEMORY;
+        failed = memory_number(job, &answer->number);
         break;
     case DWEXPR_WANTS_REGISTER:
-        step->kind = DWEXPR_ANSWER_REGISTER;
-        why = register_number(frame, asked->register_number, job->value->encoding.big_endian, &step->number);
+        answer->kind = DWEXPR_ANSWER_REGISTER;
+        why = register_number(frame, asked->register_number, job->value->encoding.big_endian, &answer->number);
         break;
     case DWEXPR_WANTS_FRAME_BASE:
-        step->kind = DWEXPR_ANSWER_FRAME_BASE;
+        answer->kind = DWEXPR_ANSWER_FRAME_BASE;
         why = find_base(frame, left);
-        step->number = frame->base;
+        answer->number = frame->base;
         break;
     case DWEXPR_WANTS_CFA:
-        step->kind = DWEXPR_ANSWER_CFA;
+        answer->kind = DWEXPR_ANSWER_CFA;
         why = find_cfa(frame, left);
-        step->number = frame->cfa;
+        answer->number = frame->cfa;
         break;
     case DWEXPR_WANTS_TLS:
-        step->kind = DWEXPR_ANSWER_TLS;
-        failed = thread_local_address(job, &step->number);
+        answer->kind = DWEXPR_ANSWER_TLS;
+        failed = thread_local_address(job, &answer->number);
         break;
     case DWEXPR_WANTS_LOCATION:
-        step->kind = DWEXPR_ANSWER_LOCATION;
-        why = location_of(job, &step->text);
+        answer->kind = DWEXPR_ANSWER_LOCATION;
+        why = location_of(job, &answer->text);
         break;
     case DWEXPR_WANTS_RELOCATED:
-        step->kind = DWEXPR_ANSWER_RELOCATED;
-        step->number = asked->number;
-        failed = relocate(job, &step->number);
+        answer->kind = DWEXPR_ANSWER_RELOCATED;
+        answer->number = asked->number;
+        failed = relocate(job, &answer->number);
         break;
     case DWEXPR_WANTS_INDEXED:
-        step->kind = DWEXPR_ANSWER_INDEXED;
-        failed = indexed_address(job, &step->number);
+        answer->kind = DWEXPR_ANSWER_INDEXED;
+        failed = indexed_address(job, &answer->number);
         break;
-    case DWEXPR_WANTS_BASE_TYPE: step->kind = DWEXPR_ANSWER_BASE_TYPE; break;
+    case DWEXPR_WANTS_BASE_TYPE: answer->kind = DWEXPR_ANSWER_BASE_TYPE; break;
     case DWEXPR_WANTS_ENTRY_VALUE:
-        step->kind = DWEXPR_ANSWER_ENTRY_VALUE;
+        answer->kind = DWEXPR_ANSWER_ENTRY_VALUE;
         job->place = dwexpr_outcome_block(asked, job->value->texts, job->value->texts_length);
         job->entry.addr = NULL;
         return ask_call_site(job, left, next);
     case DWEXPR_WANTS_PARAMETER:
-        step->kind = DWEXPR_ANSWER_PARAMETER;
+        answer->kind = DWEXPR_ANSWER_PARAMETER;
         if (!entry_of(&job->unit, DW_OP_GNU_parameter_ref, asked->number, &job->entry))
             return ask_call_site(job, left, next);
         failed = 1;

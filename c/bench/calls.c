@@ -15,24 +15,24 @@ uint64_t bench_decode(const uint8_t *bytes, size_t length, dwexpr_encoding encod
     return count;
 }
 
-static dwexpr_step answer_to(const dwexpr_outcome *asked)
+static dwexpr_answer answer_to(const dwexpr_outcome *asked)
 {
-    dwexpr_step step = {.value_type = DWEXPR_GENERIC, .number = ADDRESS, .text = 1};
+    dwexpr_answer answer = {.value_type = DWEXPR_GENERIC, .number = ADDRESS, .text = 1};
     switch (asked->request) {
-    case DWEXPR_WANTS_MEMORY: step.kind = DWEXPR_ANSWER_MEMORY, step.number = CONTENT; break;
-    case DWEXPR_WANTS_REGISTER: step.kind = DWEXPR_ANSWER_REGISTER, step.number = CONTENT; break;
-    case DWEXPR_WANTS_FRAME_BASE: step.kind = DWEXPR_ANSWER_FRAME_BASE; break;
-    case DWEXPR_WANTS_TLS: step.kind = DWEXPR_ANSWER_TLS; break;
-    case DWEXPR_WANTS_CFA: step.kind = DWEXPR_ANSWER_CFA; break;
-    case DWEXPR_WANTS_LOCATION: step.kind = DWEXPR_ANSWER_LOCATION; break;
-    case DWEXPR_WANTS_ENTRY_VALUE: step.kind = DWEXPR_ANSWER_ENTRY_VALUE, step.number = CONTENT; break;
-    case DWEXPR_WANTS_PARAMETER: step.kind = DWEXPR_ANSWER_PARAMETER; break;
-    case DWEXPR_WANTS_RELOCATED: step.kind = DWEXPR_ANSWER_RELOCATED, step.number = asked->number; break;
-    case DWEXPR_WANTS_INDEXED: step.kind = DWEXPR_ANSWER_INDEXED; break;
-    case DWEXPR_WANTS_BASE_TYPE: step.kind = DWEXPR_ANSWER_BASE_TYPE; break;
-    default: step.kind = DWEXPR_ANSWER_WASM, step.number = CONTENT;
+    case DWEXPR_WANTS_MEMORY: answer.kind = DWEXPR_ANSWER_MEMORY, answer.number = CONTENT; break;
+    case DWEXPR_WANTS_REGISTER: answer.kind = DWEXPR_ANSWER_REGISTER, answer.number = CONTENT; break;
+    case DWEXPR_WANTS_FRAME_BASE: answer.kind = DWEXPR_ANSWER_FRAME_BASE; break;
+    case DWEXPR_WANTS_TLS: answer.kind = DWEXPR_ANSWER_TLS; break;
+    case DWEXPR_WANTS_CFA: answer.kind = DWEXPR_ANSWER_CFA; break;
+    case DWEXPR_WANTS_LOCATION: answer.kind = DWEXPR_ANSWER_LOCATION; break;
+    case DWEXPR_WANTS_ENTRY_VALUE: answer.kind = DWEXPR_ANSWER_ENTRY_VALUE, answer.number = CONTENT; break;
+    case DWEXPR_WANTS_PARAMETER: answer.kind = DWEXPR_ANSWER_PARAMETER; break;
+    case DWEXPR_WANTS_RELOCATED: answer.kind = DWEXPR_ANSWER_RELOCATED, answer.number = asked->number; break;
+    case DWEXPR_WANTS_INDEXED: answer.kind = DWEXPR_ANSWER_INDEXED; break;
+    case DWEXPR_WANTS_BASE_TYPE: answer.kind = DWEXPR_ANSWER_BASE_TYPE; break;
+    default: answer.kind = DWEXPR_ANSWER_WASM, answer.number = CONTENT;
     }
-    return step;
+    return answer;
 }
 
 /* One and the number of pieces, or 0 if it isn't complete. */

@@ -4,8 +4,7 @@
  * which value a register had in the caller (DWARF 5, sections 2.5 and 2.6). The calls are
  *
  *   dwexpr_decode        decodes the operation at an offset of an expression
- *   dwexpr_evaluate      evaluates an expression, given the answers to its requests so far
- *   dwexpr_evaluation_*  does the same one answer after another, in memory of the caller's
+ *   dwexpr_evaluation_*  evaluates an expression, one answer after another, in memory of the caller's
  *   dwexpr_value_*       does an operation on values; dwexpr_type_* is about their types
  *
  * Each result of these is proved. dwexpr_run.h has plain C over them: one call, with callbacks that answer.
@@ -64,10 +63,9 @@ enum dwexpr_code {
     DWEXPR_STACK_FULL = 21,                     /* DWEXPR_MAX_* values, callers or pieces are there */
     DWEXPR_BAD_ENCODING = 64,                   /* a number of the encoding isn't allowed */
     DWEXPR_BAD_OFFSET = 65,                     /* decode: there is no byte at the offset */
-    DWEXPR_BAD_TEXT = 66,                       /* evaluate: no texts, or a step names one that isn't there */
-    DWEXPR_BAD_STEP = 67,                       /* evaluate: unknown step kind or value type, or a maximum of 2^32 or
-                                                   more */
-    DWEXPR_MISPLACED = 68,                      /* evaluate: the step isn't allowed where it stands */
+    DWEXPR_BAD_TEXT = 66,                       /* evaluate: no texts; resume: the answer's text isn't there */
+    DWEXPR_BAD_ANSWER = 67,                     /* resume: unknown kind of answer or type of value */
+    DWEXPR_MISPLACED = 68,                      /* resume: no request of the answer's kind is open */
     DWEXPR_LOST_TEXT = 69,                      /* resume: the texts lack bytes of an earlier one */
     DWEXPR_TOO_MANY_TEXTS = 70,                 /* run: more texts are called than there is room for */
     DWEXPR_BAD_VALUE = 71,                      /* value: no such operation, type, byte order or mask */
@@ -175,9 +173,21 @@ uint32_t dwexpr_decode(const uint8_t *bytes, size_t length, dwexpr_encoding enco
 
 /* ---------------------------------------------------------------- evaluation */
 
-/* An evaluation asks its caller for a register, memory, or the frame's base. dwexpr_evaluate keeps nothing between
- * calls. The caller keeps a list of steps, whose first is mostly DWEXPR_EVALUATE. It adds its answer to each request,
- * and calls again with the longer list, until the evaluation is complete.
+/* An evaluation asks its caller for a register, memory, or the frame's base. Each request is answered by a call, until
+ * the evaluation is complete. It lies in memory of the caller's, and can be used again for the next expression:
+ *
+ *     dwexpr_evaluation evaluation = {malloc(dwexpr_evaluation_size())};
+ *     dwexpr_evaluation_begin(&evaluation);
+ *     code = dwexpr_evaluation_evaluate(&evaluation, texts, 1, encoding, &settings, &outcome, pieces, 32);
+ *     while (code == DWEXPR_OK && outcome.request != DWEXPR_COMPLETE)
+ *         code = dwexpr_evaluation_resume(&evaluation, texts, 1, answer_to(&outcome), &outcome, pieces, 32);
+ *
+ * The caller sees to these too:
+ *   - the memory has dwexpr_evaluation_size() bytes, is aligned to 8, and is not moved;
+ *   - dwexpr_evaluation_begin is called once on it, before all other calls, and nothing else writes there;
+ *   - one call at a time;
+ *   - the texts of dwexpr_evaluation_evaluate, and those that answers name, stay as they are until its next call, and
+ *     each call gets the same table of texts, to which more may have been added.
  *
  * An empty expression means that the variable was optimized away: don't evaluate it, which would be
  * DWEXPR_NOT_ENOUGH_STACK_ITEMS. An empty text is a valid answer to a call. */
@@ -207,34 +217,17 @@ typedef struct dwexpr_text {
     size_t length;
 } dwexpr_text;
 
-enum dwexpr_step_kind {
-    DWEXPR_SET_INITIAL_VALUE = 1,   /* number: it stands on the stack at the start. Once, before the first EVALUATE */
-    DWEXPR_SET_OBJECT_ADDRESS = 2,  /* number: for DW_OP_push_object_address */
-    DWEXPR_SET_MAX_ITERATIONS = 3,  /* number: how many operations there may be, below 2 to the 32 */
-    DWEXPR_EVALUATE = 4,            /* the start */
-    DWEXPR_ANSWER_MEMORY = 5,       /* value_type, number: what memory holds */
-    DWEXPR_ANSWER_REGISTER = 6,     /* value_type, number */
-    DWEXPR_ANSWER_WASM = 7,         /* value_type, number: to each of the three requests of WebAssembly */
-    DWEXPR_ANSWER_ENTRY_VALUE = 8,  /* value_type, number */
-    DWEXPR_ANSWER_FRAME_BASE = 9,   /* number: an address */
-    DWEXPR_ANSWER_TLS = 10,         /* number: an address */
-    DWEXPR_ANSWER_CFA = 11,         /* number: an address */
-    DWEXPR_ANSWER_PARAMETER = 12,   /* number: the parameter's value */
-    DWEXPR_ANSWER_RELOCATED = 13,   /* number: an address */
-    DWEXPR_ANSWER_INDEXED = 14,     /* number: an address or a constant */
-    DWEXPR_ANSWER_LOCATION = 15,    /* text: index of the text that is called; length 0 if there is none */
-    DWEXPR_ANSWER_BASE_TYPE = 16,   /* value_type: the type */
-};
-
-typedef struct dwexpr_step {
-    uint32_t kind;       /* DWEXPR_SET_*, DWEXPR_EVALUATE or DWEXPR_ANSWER_* */
-    uint32_t value_type; /* DWEXPR_GENERIC to DWEXPR_U64, if the kind names it */
-    uint64_t number;     /* of a value the lowest bits, as many as its type has */
-    size_t text;
-} dwexpr_step;
+/* What an evaluation starts with. */
+typedef struct dwexpr_settings {
+    uint32_t max_iterations;     /* how many operations there may be; 0 are none */
+    uint16_t has_object_address; /* 0: no object's address is known */
+    uint16_t has_initial_value;  /* 0: the stack is empty at the start */
+    uint64_t object_address;     /* for DW_OP_push_object_address */
+    uint64_t initial_value;      /* stands on the stack at the start */
+} dwexpr_settings;
 
 enum dwexpr_request {
-    DWEXPR_NOTHING = 0,             /* nothing was evaluated yet, or the code isn't 0 */
+    DWEXPR_NOTHING = 0,             /* the code isn't 0 */
     DWEXPR_COMPLETE = 1,            /* value_type, value, pieces */
     DWEXPR_WANTS_MEMORY = 2,        /* number: address; size; base_type; flag: in the address space `space` */
     DWEXPR_WANTS_REGISTER = 3,      /* register_number; base_type */
@@ -252,12 +245,34 @@ enum dwexpr_request {
     DWEXPR_WANTS_WASM_STACK = 15,   /* number: index */
 };
 
-/* What the steps led to. Fields that the request doesn't name are 0. */
+enum dwexpr_answer_kind {
+    DWEXPR_ANSWER_MEMORY = 1,       /* value_type, number: what memory holds */
+    DWEXPR_ANSWER_REGISTER = 2,     /* value_type, number */
+    DWEXPR_ANSWER_WASM = 3,         /* value_type, number: to each of the three requests of WebAssembly */
+    DWEXPR_ANSWER_ENTRY_VALUE = 4,  /* value_type, number */
+    DWEXPR_ANSWER_FRAME_BASE = 5,   /* number: an address */
+    DWEXPR_ANSWER_TLS = 6,          /* number: an address */
+    DWEXPR_ANSWER_CFA = 7,          /* number: an address */
+    DWEXPR_ANSWER_PARAMETER = 8,    /* number: the parameter's value */
+    DWEXPR_ANSWER_RELOCATED = 9,    /* number: an address */
+    DWEXPR_ANSWER_INDEXED = 10,     /* number: an address or a constant */
+    DWEXPR_ANSWER_LOCATION = 11,    /* text: index of the text that is called; length 0 if there is none */
+    DWEXPR_ANSWER_BASE_TYPE = 12,   /* value_type: the type */
+};
+
+/* The answer to a request. */
+typedef struct dwexpr_answer {
+    uint32_t kind;       /* DWEXPR_ANSWER_* */
+    uint32_t value_type; /* DWEXPR_GENERIC to DWEXPR_U64, if the kind names it */
+    uint64_t number;     /* of a value the lowest bits, as many as its type has */
+    size_t text;
+} dwexpr_answer;
+
+/* What a call led to. Fields that the request doesn't name are 0. */
 typedef struct dwexpr_outcome {
     uint32_t code;            /* what the call answered */
     uint32_t request;         /* DWEXPR_NOTHING, DWEXPR_COMPLETE or DWEXPR_WANTS_* */
     uint64_t detail;          /* the number that a fault carries */
-    size_t step;              /* if the code isn't 0, the index of the step that ended it; later ones weren't read */
     uint64_t number;
     uint64_t base_type;       /* the type that the answer is to have: offset of its entry in the unit, 0 for generic */
     uint64_t space;
@@ -296,32 +311,7 @@ typedef struct dwexpr_piece {
     size_t block_length;
 } dwexpr_piece;
 
-/* Evaluates texts[0] from the start in the steps, one after another, and tells what the last of them answered.
- * Evaluation stops at the first step that is unknown, isn't allowed or meets a fault; `step` is its index.
- *
- * Answers 0; a fault; DWEXPR_BAD_ENCODING; or DWEXPR_BAD_TEXT to DWEXPR_MISPLACED. `outcome` is written in each case;
- * of `pieces` as many as fit are written once the evaluation is complete, and the others stay. */
-uint32_t dwexpr_evaluate(const dwexpr_text *texts, size_t texts_length, dwexpr_encoding encoding,
-                         const dwexpr_step *steps, size_t steps_length, dwexpr_outcome *outcome,
-                         dwexpr_piece *pieces, size_t pieces_length);
-
-/* ---------------------------------------------------------------- an evaluation that is held */
-
-/* dwexpr_evaluate begins anew at each request. An evaluation that is held goes on: start it once, and resume it with
- * each answer. It lies in memory of the caller's, and can be started again for the next expression:
- *
- *     dwexpr_evaluation evaluation = {malloc(dwexpr_evaluation_size())};
- *     dwexpr_evaluation_begin(&evaluation);
- *     code = dwexpr_evaluation_evaluate(&evaluation, texts, 1, encoding, settings, &outcome, pieces, 32);
- *     while (code == DWEXPR_OK && outcome.request != DWEXPR_COMPLETE)
- *         code = dwexpr_evaluation_resume(&evaluation, texts, 1, answer_to(&outcome), &outcome, pieces, 32);
- *
- * The caller sees to these too:
- *   - the memory has dwexpr_evaluation_size() bytes, is aligned to 8, and is not moved;
- *   - `begin` is called once on it, before all other calls, and nothing else writes there;
- *   - one call at a time;
- *   - the texts of a start, and those that answers name, stay as they are until the next start, and each call gets the
- *     same table of texts, to which more may have been added. */
+/* An evaluation in memory of the caller's. */
 typedef struct dwexpr_evaluation {
     void *memory;
 } dwexpr_evaluation;
@@ -331,40 +321,24 @@ size_t dwexpr_evaluation_size(void);
 
 #define DWEXPR_EVALUATION_SIZE 4864
 
-/* Makes an evaluation in the memory, which can then be started. */
+/* Makes an evaluation in the memory. */
 void dwexpr_evaluation_begin(dwexpr_evaluation *evaluation);
 
-/* Starts texts[0] in the steps, mostly settings and then DWEXPR_EVALUATE. It forgets the expression before. It answers
- * and writes the same as dwexpr_evaluate. If the encoding is bad or there are no texts, the evaluation is as it was. */
-uint32_t dwexpr_evaluation_start(dwexpr_evaluation *evaluation, const dwexpr_text *texts, size_t texts_length,
-                                 dwexpr_encoding encoding, const dwexpr_step *steps, size_t steps_length,
-                                 dwexpr_outcome *outcome, dwexpr_piece *pieces, size_t pieces_length);
-
-/* What an evaluation starts with. */
-typedef struct dwexpr_settings {
-    uint32_t max_iterations;     /* how many operations there may be; 0 are none */
-    uint16_t has_object_address; /* 0: no object's address is known */
-    uint16_t has_initial_value;  /* 0: the stack is empty at the start */
-    uint64_t object_address;     /* for DW_OP_push_object_address */
-    uint64_t initial_value;      /* stands on the stack at the start */
-} dwexpr_settings;
-
-/* Starts texts[0] with the settings, and evaluates it to the first request or to the end. It answers and writes the same
- * as dwexpr_evaluation_start with up to four steps, and takes less time: DWEXPR_SET_MAX_ITERATIONS, then
- * DWEXPR_SET_OBJECT_ADDRESS and DWEXPR_SET_INITIAL_VALUE if they are there, and DWEXPR_EVALUATE. `step` has the index
- * of the last one if there is a fault, 1 to 3. */
+/* Evaluates texts[0] with the settings to the first request or to the end. It forgets the expression before.
+ *
+ * Answers 0; a fault; DWEXPR_BAD_ENCODING; or DWEXPR_BAD_TEXT if there are no texts. The last two leave the evaluation
+ * as it was. `outcome` is written in each case. Of `pieces` as many as fit are written if the evaluation is complete;
+ * the others stay. */
 uint32_t dwexpr_evaluation_evaluate(dwexpr_evaluation *evaluation, const dwexpr_text *texts, size_t texts_length,
                                     dwexpr_encoding encoding, const dwexpr_settings *settings,
                                     dwexpr_outcome *outcome, dwexpr_piece *pieces, size_t pieces_length);
 
-/* Takes one more step: the answer to what was asked, or a setting.
+/* Goes on with the answer to what was asked, to the next request or to the end.
  *
  * Answers 0; a fault, which every later answer gets too; DWEXPR_BAD_TEXT to DWEXPR_MISPLACED, which change nothing; or
- * DWEXPR_LOST_TEXT. `outcome` is written in each case. It shows what the step answered; after a setting DWEXPR_NOTHING,
- * or again the end; `step` is 0. Of `pieces` as many as fit are written if the evaluation is complete. At
- * DWEXPR_LOST_TEXT some of them may be written. */
+ * DWEXPR_LOST_TEXT, at which some of the pieces may be written. `outcome` and `pieces` are written as above. */
 uint32_t dwexpr_evaluation_resume(dwexpr_evaluation *evaluation, const dwexpr_text *texts, size_t texts_length,
-                                  dwexpr_step step, dwexpr_outcome *outcome, dwexpr_piece *pieces,
+                                  dwexpr_answer answer, dwexpr_outcome *outcome, dwexpr_piece *pieces,
                                   size_t pieces_length);
 
 /* ---------------------------------------------------------------- values */
@@ -467,8 +441,8 @@ static inline const char *dwexpr_code_name(uint32_t code)
     case DWEXPR_BAD_ENCODING: return "no such encoding";
     case DWEXPR_BAD_OFFSET: return "no byte is at this offset";
     case DWEXPR_BAD_TEXT: return "no such text";
-    case DWEXPR_BAD_STEP: return "no such step";
-    case DWEXPR_MISPLACED: return "the step isn't allowed here";
+    case DWEXPR_BAD_ANSWER: return "no such answer";
+    case DWEXPR_MISPLACED: return "the answer isn't allowed here";
     case DWEXPR_LOST_TEXT: return "a text of before isn't there";
     case DWEXPR_TOO_MANY_TEXTS: return "too many texts are called";
     case DWEXPR_BAD_VALUE: return "no such operation, type or mask";
@@ -532,11 +506,11 @@ DWEXPR_AT(dwexpr_operation, detail, 80, 64, 64);
 DWEXPR_SIZE(dwexpr_text, 16, 8, 8);
 DWEXPR_AT(dwexpr_text, bytes, 0, 0, 0);
 DWEXPR_AT(dwexpr_text, length, 8, 4, 4);
-DWEXPR_SIZE(dwexpr_step, 24, 24, 20);
-DWEXPR_AT(dwexpr_step, kind, 0, 0, 0);
-DWEXPR_AT(dwexpr_step, value_type, 4, 4, 4);
-DWEXPR_AT(dwexpr_step, number, 8, 8, 8);
-DWEXPR_AT(dwexpr_step, text, 16, 16, 16);
+DWEXPR_SIZE(dwexpr_answer, 24, 24, 20);
+DWEXPR_AT(dwexpr_answer, kind, 0, 0, 0);
+DWEXPR_AT(dwexpr_answer, value_type, 4, 4, 4);
+DWEXPR_AT(dwexpr_answer, number, 8, 8, 8);
+DWEXPR_AT(dwexpr_answer, text, 16, 16, 16);
 DWEXPR_SIZE(dwexpr_settings, 24, 24, 24);
 DWEXPR_AT(dwexpr_settings, max_iterations, 0, 0, 0);
 DWEXPR_AT(dwexpr_settings, has_object_address, 4, 4, 4);
@@ -546,23 +520,22 @@ DWEXPR_AT(dwexpr_settings, initial_value, 16, 16, 16);
 DWEXPR_SIZE(dwexpr_value, 16, 16, 12);
 DWEXPR_AT(dwexpr_value, value_type, 0, 0, 0);
 DWEXPR_AT(dwexpr_value, content, 8, 8, 4);
-DWEXPR_SIZE(dwexpr_outcome, 104, 88, 84);
+DWEXPR_SIZE(dwexpr_outcome, 96, 80, 80);
 DWEXPR_AT(dwexpr_outcome, code, 0, 0, 0);
 DWEXPR_AT(dwexpr_outcome, request, 4, 4, 4);
 DWEXPR_AT(dwexpr_outcome, detail, 8, 8, 8);
-DWEXPR_AT(dwexpr_outcome, step, 16, 16, 16);
-DWEXPR_AT(dwexpr_outcome, number, 24, 24, 20);
-DWEXPR_AT(dwexpr_outcome, base_type, 32, 32, 28);
-DWEXPR_AT(dwexpr_outcome, space, 40, 40, 36);
-DWEXPR_AT(dwexpr_outcome, register_number, 48, 48, 44);
-DWEXPR_AT(dwexpr_outcome, size, 52, 52, 48);
-DWEXPR_AT(dwexpr_outcome, flag, 56, 56, 52);
-DWEXPR_AT(dwexpr_outcome, value_type, 60, 60, 56);
-DWEXPR_AT(dwexpr_outcome, value, 64, 64, 60);
-DWEXPR_AT(dwexpr_outcome, block_text, 72, 72, 68);
-DWEXPR_AT(dwexpr_outcome, block_offset, 80, 76, 72);
-DWEXPR_AT(dwexpr_outcome, block_length, 88, 80, 76);
-DWEXPR_AT(dwexpr_outcome, pieces, 96, 84, 80);
+DWEXPR_AT(dwexpr_outcome, number, 16, 16, 16);
+DWEXPR_AT(dwexpr_outcome, base_type, 24, 24, 24);
+DWEXPR_AT(dwexpr_outcome, space, 32, 32, 32);
+DWEXPR_AT(dwexpr_outcome, register_number, 40, 40, 40);
+DWEXPR_AT(dwexpr_outcome, size, 44, 44, 44);
+DWEXPR_AT(dwexpr_outcome, flag, 48, 48, 48);
+DWEXPR_AT(dwexpr_outcome, value_type, 52, 52, 52);
+DWEXPR_AT(dwexpr_outcome, value, 56, 56, 56);
+DWEXPR_AT(dwexpr_outcome, block_text, 64, 64, 64);
+DWEXPR_AT(dwexpr_outcome, block_offset, 72, 68, 68);
+DWEXPR_AT(dwexpr_outcome, block_length, 80, 72, 72);
+DWEXPR_AT(dwexpr_outcome, pieces, 88, 76, 76);
 DWEXPR_SIZE(dwexpr_piece, 72, 64, 60);
 DWEXPR_AT(dwexpr_piece, kind, 0, 0, 0);
 DWEXPR_AT(dwexpr_piece, has_size, 4, 4, 4);

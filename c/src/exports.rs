@@ -1,9 +1,9 @@
 //! The exports of `include/dwexpr.h`: each makes references of what a caller hands over, and makes the proved call.
 
 use crate::sources::c::{
-    self, DwexprEncoding as Encoding, DwexprEvaluation as Evaluation, DwexprOperation as Operation,
-    DwexprOutcome as Outcome, DwexprPiece as Piece, DwexprSettings as Settings, DwexprStep as Step, DwexprText,
-    DwexprValue as Value,
+    self, DwexprAnswer as Answer, DwexprEncoding as Encoding, DwexprEvaluation as Evaluation,
+    DwexprOperation as Operation, DwexprOutcome as Outcome, DwexprPiece as Piece, DwexprSettings as Settings,
+    DwexprText, DwexprValue as Value,
 };
 use core::marker::PhantomData;
 use core::slice::{from_raw_parts, from_raw_parts_mut};
@@ -60,37 +60,25 @@ exports! {
     fn dwexpr_decode(bytes: *const u8, length: usize, encoding: Encoding, offset: usize, operation: *mut Operation)
         -> u32 = (items(bytes, length), encoding, offset, &mut *operation);
 
-    /// The pointers with lengths lead to as many items, and those in the texts to as many bytes. `outcome` leads to
-    /// one, set or not. What is written overlaps nothing else.
-    fn dwexpr_evaluate(texts: *const Text, texts_length: usize, encoding: Encoding, steps: *const Step,
-        steps_length: usize, outcome: *mut Outcome, pieces: *mut Piece, pieces_length: usize)
-        -> u32 = (items(texts, texts_length), encoding, items(steps, steps_length), &mut *outcome,
-        room(pieces, pieces_length));
-
     /// Any call is safe.
     fn dwexpr_evaluation_size() -> usize = ();
 
     /// The memory has as many bytes, is aligned to 8, is not moved, and holds no evaluation that is to be kept.
     fn dwexpr_evaluation_begin(evaluation: *mut Evaluation) = (&mut *evaluation);
 
-    /// As of `dwexpr_evaluate`. The evaluation was begun, nothing else wrote there, and one call is made at a time. The
-    /// bytes of the texts stay as they are until the next start.
-    fn dwexpr_evaluation_start(evaluation: *mut Evaluation, texts: *const Text, texts_length: usize,
-        encoding: Encoding, steps: *const Step, steps_length: usize, outcome: *mut Outcome, pieces: *mut Piece,
-        pieces_length: usize)
-        -> u32 = (&mut *evaluation, items(texts, texts_length), encoding, items(steps, steps_length), &mut *outcome,
-        room(pieces, pieces_length));
-
-    /// As of `dwexpr_evaluation_start`. `settings` leads to one that is set.
+    /// The evaluation was begun, nothing else wrote there, and one call is made at a time. The pointers with lengths
+    /// lead to as many items, and those in the texts to as many bytes, which stay as they are until the next call of
+    /// this function. `settings` leads to one that is set, and `outcome` to one, set or not. What is written overlaps
+    /// nothing else.
     fn dwexpr_evaluation_evaluate(evaluation: *mut Evaluation, texts: *const Text, texts_length: usize,
         encoding: Encoding, settings: *const Settings, outcome: *mut Outcome, pieces: *mut Piece, pieces_length: usize)
         -> u32 = (&mut *evaluation, items(texts, texts_length), encoding, &*settings, &mut *outcome,
         room(pieces, pieces_length));
 
-    /// As of `dwexpr_evaluation_start`.
-    fn dwexpr_evaluation_resume(evaluation: *mut Evaluation, texts: *const Text, texts_length: usize, step: Step,
+    /// As of `dwexpr_evaluation_evaluate`.
+    fn dwexpr_evaluation_resume(evaluation: *mut Evaluation, texts: *const Text, texts_length: usize, answer: Answer,
         outcome: *mut Outcome, pieces: *mut Piece, pieces_length: usize)
-        -> u32 = (&mut *evaluation, items(texts, texts_length), step, &mut *outcome, room(pieces, pieces_length));
+        -> u32 = (&mut *evaluation, items(texts, texts_length), answer, &mut *outcome, room(pieces, pieces_length));
 
     /// `result` leads to one, set or not; so in the calls below.
     fn dwexpr_value_unary(operation: u32, value: Value, addr_mask: u64, result: *mut Value)

@@ -6,61 +6,61 @@ const char *dwexpr_version(void)
     return DWEXPR_VERSION;
 }
 
-/* Answers what the outcome asks for, into the step. Gives back 0, or what a callback refused with. */
-static int answer(const dwexpr_outcome *asked, const dwexpr_texts *texts, const dwexpr_callbacks *calls, void *context,
-                  dwexpr_step *step, dwexpr_text *called)
+/* Writes the answer to what the outcome asks for. Gives back 0, or what a callback refused with. */
+static int answer_request(const dwexpr_outcome *asked, const dwexpr_texts *texts, const dwexpr_callbacks *calls,
+                          void *context, dwexpr_answer *answer, dwexpr_text *called)
 {
-    uint64_t *number = &step->number;
+    uint64_t *number = &answer->number;
     dwexpr_text block;
-    step->value_type = asked->base_type ? DWEXPR_NO_TYPE : DWEXPR_GENERIC;
+    answer->value_type = asked->base_type ? DWEXPR_NO_TYPE : DWEXPR_GENERIC;
     if (asked->base_type) {
-        int failed = calls->base_type ? calls->base_type(context, asked->base_type, &step->value_type) : -1;
-        if (failed || step->value_type == DWEXPR_NO_TYPE)
+        int failed = calls->base_type ? calls->base_type(context, asked->base_type, &answer->value_type) : -1;
+        if (failed || answer->value_type == DWEXPR_NO_TYPE)
             return failed ? failed : -1;
     }
     switch (asked->request) {
     case DWEXPR_WANTS_MEMORY:
-        step->kind = DWEXPR_ANSWER_MEMORY;
+        answer->kind = DWEXPR_ANSWER_MEMORY;
         return calls->memory ? calls->memory(context, asked->number, asked->size,
                                              asked->flag ? &asked->space : NULL, number)
                              : -1;
     case DWEXPR_WANTS_REGISTER:
-        step->kind = DWEXPR_ANSWER_REGISTER;
+        answer->kind = DWEXPR_ANSWER_REGISTER;
         return calls->register_content ? calls->register_content(context, asked->register_number, number) : -1;
     case DWEXPR_WANTS_FRAME_BASE:
-        step->kind = DWEXPR_ANSWER_FRAME_BASE;
+        answer->kind = DWEXPR_ANSWER_FRAME_BASE;
         return calls->frame_base ? calls->frame_base(context, number) : -1;
     case DWEXPR_WANTS_TLS:
-        step->kind = DWEXPR_ANSWER_TLS;
+        answer->kind = DWEXPR_ANSWER_TLS;
         return calls->tls ? calls->tls(context, asked->number, number) : -1;
     case DWEXPR_WANTS_CFA:
-        step->kind = DWEXPR_ANSWER_CFA;
+        answer->kind = DWEXPR_ANSWER_CFA;
         return calls->cfa ? calls->cfa(context, number) : -1;
     case DWEXPR_WANTS_LOCATION:
-        step->kind = DWEXPR_ANSWER_LOCATION;
+        answer->kind = DWEXPR_ANSWER_LOCATION;
         called->bytes = NULL;
         called->length = 0;
         return calls->location ? calls->location(context, asked->flag != 0, asked->number, called) : -1;
     case DWEXPR_WANTS_ENTRY_VALUE:
-        step->kind = DWEXPR_ANSWER_ENTRY_VALUE;
+        answer->kind = DWEXPR_ANSWER_ENTRY_VALUE;
         block = dwexpr_outcome_block(asked, texts->items, texts->length);
         return calls->entry_value ? calls->entry_value(context, block.bytes, block.length, number) : -1;
     case DWEXPR_WANTS_PARAMETER:
-        step->kind = DWEXPR_ANSWER_PARAMETER;
+        answer->kind = DWEXPR_ANSWER_PARAMETER;
         return calls->parameter ? calls->parameter(context, asked->number, number) : -1;
     case DWEXPR_WANTS_RELOCATED:
-        step->kind = DWEXPR_ANSWER_RELOCATED;
+        answer->kind = DWEXPR_ANSWER_RELOCATED;
         *number = asked->number;
         return calls->relocated ? calls->relocated(context, asked->number, number) : 0;
     case DWEXPR_WANTS_INDEXED:
-        step->kind = DWEXPR_ANSWER_INDEXED;
+        answer->kind = DWEXPR_ANSWER_INDEXED;
         return calls->indexed ? calls->indexed(context, asked->number, asked->flag != 0, number) : -1;
     case DWEXPR_WANTS_BASE_TYPE:
-        step->kind = DWEXPR_ANSWER_BASE_TYPE;
+        answer->kind = DWEXPR_ANSWER_BASE_TYPE;
         return 0;
     case DWEXPR_WANTS_WASM_LOCAL: case DWEXPR_WANTS_WASM_GLOBAL: case DWEXPR_WANTS_WASM_STACK:
-        step->kind = DWEXPR_ANSWER_WASM;
-        return calls->wasm ? calls->wasm(context, asked->request, asked->number, &step->value_type, number) : -1;
+        answer->kind = DWEXPR_ANSWER_WASM;
+        return calls->wasm ? calls->wasm(context, asked->request, asked->number, &answer->value_type, number) : -1;
     default: return -1; /* there is no such request */
     }
 }
@@ -92,20 +92,21 @@ uint32_t dwexpr_run_in(dwexpr_evaluation *evaluation, const dwexpr_settings *set
     code = dwexpr_evaluation_evaluate(evaluation, texts->items, 1, encoding, settings, outcome, pieces, pieces_length);
     while (code == DWEXPR_OK && outcome->request != DWEXPR_COMPLETE) {
         /* not the answer before, if a callback writes none */
-        dwexpr_step step = {0};
+        dwexpr_answer answer = {0};
         dwexpr_text called;
-        int refused = answer(outcome, texts, calls, context, &step, &called);
+        int refused = answer_request(outcome, texts, calls, context, &answer, &called);
         if (refused) {
             if (refusal)
                 *refusal = refused;
             return DWEXPR_REFUSED;
         }
-        if (step.kind == DWEXPR_ANSWER_LOCATION) {
-            step.text = index_of(texts, called);
-            if (step.text == texts->room)
+        if (answer.kind == DWEXPR_ANSWER_LOCATION) {
+            answer.text = index_of(texts, called);
+            if (answer.text == texts->room)
                 return DWEXPR_TOO_MANY_TEXTS;
         }
-        code = dwexpr_evaluation_resume(evaluation, texts->items, texts->length, step, outcome, pieces, pieces_length);
+        code = dwexpr_evaluation_resume(evaluation, texts->items, texts->length, answer, outcome, pieces,
+                                        pieces_length);
     }
     return code;
 }

@@ -10,10 +10,8 @@
 #define PROVED(name) extern __typeof__(name) proved_##name
 
 PROVED(dwexpr_decode);
-PROVED(dwexpr_evaluate);
 PROVED(dwexpr_evaluation_size);
 PROVED(dwexpr_evaluation_begin);
-PROVED(dwexpr_evaluation_start);
 PROVED(dwexpr_evaluation_evaluate);
 PROVED(dwexpr_evaluation_resume);
 PROVED(dwexpr_value_unary);
@@ -23,7 +21,7 @@ PROVED(dwexpr_value_parse);
 PROVED(dwexpr_type_bit_size);
 PROVED(dwexpr_type_from_encoding);
 
-enum { TEXTS = 4, BYTES = 160, STEPS = 40, PIECES = DWEXPR_MAX_PIECES };
+enum { TEXTS = 4, BYTES = 160, ANSWERS = 40, PIECES = DWEXPR_MAX_PIECES };
 
 /* What a call wrote. */
 struct written {
@@ -36,7 +34,6 @@ struct maker {
     dwexpr_encoding encoding;
     uint8_t bytes[TEXTS][BYTES];
     dwexpr_text texts[TEXTS];
-    dwexpr_step steps[STEPS];
 };
 
 /* How often each code, kind of operation, request and kind of piece came. */
@@ -89,48 +86,26 @@ static int decodes(const struct maker *made)
     return 1;
 }
 
-static int evaluates(struct maker *made, dwexpr_evaluation *proved, dwexpr_evaluation *by_rustc)
+static int evaluates(const struct maker *made, dwexpr_evaluation *proved, dwexpr_evaluation *by_rustc)
 {
     static struct written one, other;
-    dwexpr_step *steps = made->steps;
-    size_t room = below(3) ? PIECES : size_below(PIECES), count = 0;
+    const size_t room = below(3) ? PIECES : size_below(PIECES);
+    const dwexpr_settings settings = any_settings();
+    size_t count = 0;
 
-    steps[count++] = any_step(DWEXPR_SET_MAX_ITERATIONS, TEXTS);
-    while (!below(3) && count < 4)
-        steps[count++] = any_step((uint32_t)(below(20) ? 1 + below(2) : below(18)), TEXTS);
-    steps[count++] = any_step(DWEXPR_EVALUATE, TEXTS);
     fill(&one, &other);
-    if (below(2)) {
-        const dwexpr_settings settings = {(uint32_t)below(150), (uint16_t)below(2), (uint16_t)below(2), any_number(),
-                                          any_number()};
-        count = steps_of(&settings, steps);
-        one.code = proved_dwexpr_evaluation_evaluate(proved, made->texts, TEXTS, made->encoding, &settings,
-                                                     &one.outcome, one.pieces, room);
-        other.code = dwexpr_evaluation_evaluate(by_rustc, made->texts, TEXTS, made->encoding, &settings,
-                                                &other.outcome, other.pieces, room);
-    } else {
-        one.code = proved_dwexpr_evaluation_start(proved, made->texts, TEXTS, made->encoding, steps, count,
-                                                  &one.outcome, one.pieces, room);
-        other.code = dwexpr_evaluation_start(by_rustc, made->texts, TEXTS, made->encoding, steps, count,
-                                             &other.outcome, other.pieces, room);
-    }
+    one.code = proved_dwexpr_evaluation_evaluate(proved, made->texts, TEXTS, made->encoding, &settings, &one.outcome,
+                                                 one.pieces, room);
+    other.code = dwexpr_evaluation_evaluate(by_rustc, made->texts, TEXTS, made->encoding, &settings, &other.outcome,
+                                            other.pieces, room);
     while (is_same(&one, &other)) {
         const size_t texts = below(24) ? TEXTS : size_below(TEXTS);
-        if (one.code == DWEXPR_BAD_ENCODING || count == STEPS || (one.outcome.request <= 1 && below(4))) {
-            fill(&one, &other);
-            one.code = proved_dwexpr_evaluate(made->texts, texts, made->encoding, steps, count, &one.outcome,
-                                              one.pieces, room);
-            other.code = dwexpr_evaluate(made->texts, texts, made->encoding, steps, count, &other.outcome,
-                                         other.pieces, room);
-            return is_same(&one, &other);
-        }
-        steps[count] = any_answer(&one.outcome, TEXTS);
+        const dwexpr_answer answer = any_answer(&one.outcome, TEXTS);
+        if (count++ == ANSWERS || (one.outcome.request <= DWEXPR_COMPLETE && below(4)))
+            return 1;
         fill(&one, &other);
-        one.code = proved_dwexpr_evaluation_resume(proved, made->texts, texts, steps[count], &one.outcome, one.pieces,
-                                                   room);
-        other.code = dwexpr_evaluation_resume(by_rustc, made->texts, texts, steps[count], &other.outcome, other.pieces,
-                                              room);
-        count++;
+        one.code = proved_dwexpr_evaluation_resume(proved, made->texts, texts, answer, &one.outcome, one.pieces, room);
+        other.code = dwexpr_evaluation_resume(by_rustc, made->texts, texts, answer, &other.outcome, other.pieces, room);
     }
     return 0;
 }

@@ -175,40 +175,26 @@ static void compare_pieces(const struct block *met, size_t count, const dwexpr_o
     bad += i != outcome->pieces;
 }
 
-/* By dwexpr_evaluate with all steps so far, and by an evaluation that is held. */
+static const dwexpr_settings settings = {.max_iterations = UINT32_MAX};
+
 static void evaluate(const struct block *met, size_t count, dwexpr_evaluation *held)
 {
-    static dwexpr_step steps[MOST + 2];
-    static dwexpr_piece pieces[DWEXPR_MAX_PIECES], again[DWEXPR_MAX_PIECES];
-    dwexpr_outcome outcome, other;
-    size_t length = 1, at = 0;
-    uint32_t code;
-    memset(steps, 0, sizeof steps[0]);
-    steps[0].kind = DWEXPR_EVALUATE;
-    code = dwexpr_evaluation_start(held, texts, TEXTS, encoding, steps, 1, &outcome, pieces, DWEXPR_MAX_PIECES);
-    while (code == DWEXPR_OK && length < MOST + 2) {
-        dwexpr_step *step = &steps[length];
-        code = dwexpr_evaluate(texts, TEXTS, encoding, steps, length, &other, again, DWEXPR_MAX_PIECES);
-        bad += !same_outcome(&outcome, &other);
-        if (outcome.request == DWEXPR_COMPLETE) {
-            bad += !same_pieces(pieces, again, outcome.pieces);
-            bad += next(met, count, &at, 0) != NULL;
-            compare_pieces(met, count, &outcome, pieces);
-            return;
-        }
-        memset(step, 0, sizeof *step);
-        step->value_type = DWEXPR_GENERIC;
+    static dwexpr_piece pieces[DWEXPR_MAX_PIECES];
+    dwexpr_outcome outcome;
+    size_t at = 0;
+    uint32_t code = dwexpr_evaluation_evaluate(held, texts, TEXTS, encoding, &settings, &outcome, pieces,
+                                               DWEXPR_MAX_PIECES);
+    while (code == DWEXPR_OK && outcome.request != DWEXPR_COMPLETE) {
+        dwexpr_answer answer = {DWEXPR_ANSWER_LOCATION, DWEXPR_GENERIC, 0, (size_t)outcome.number};
         if (outcome.request == DWEXPR_WANTS_ENTRY_VALUE) {
             const struct block *want = next(met, count, &at, 0);
             bad += !want || !is_at(want, outcome.block_text, outcome.block_offset, outcome.block_length);
-            step->kind = DWEXPR_ANSWER_ENTRY_VALUE;
-        } else {
-            step->kind = DWEXPR_ANSWER_LOCATION, step->text = (size_t)outcome.number;
+            answer.kind = DWEXPR_ANSWER_ENTRY_VALUE;
         }
-        length++;
-        code = dwexpr_evaluation_resume(held, texts, TEXTS, *step, &outcome, pieces, DWEXPR_MAX_PIECES);
+        code = dwexpr_evaluation_resume(held, texts, TEXTS, answer, &outcome, pieces, DWEXPR_MAX_PIECES);
     }
-    bad++;
+    bad += code != DWEXPR_OK || next(met, count, &at, 0) != NULL;
+    compare_pieces(met, count, &outcome, pieces);
 }
 
 /* Evaluates the texts that were made. */
@@ -303,16 +289,13 @@ static size_t put_front(const char *opcode, size_t length, const char *digits)
 /* Whether table[0] asks for this block, or if it is complete has it in its last piece. It may call a text. */
 static int is_shown(dwexpr_evaluation *held, size_t called, size_t offset, size_t length)
 {
-    static dwexpr_piece pieces[2], again[2];
-    const dwexpr_step steps[] = {{DWEXPR_EVALUATE, 0, 0, 0}, {DWEXPR_ANSWER_LOCATION, 0, 0, called}};
+    static dwexpr_piece pieces[2];
+    const dwexpr_answer location = {DWEXPR_ANSWER_LOCATION, 0, 0, called};
     const struct block want = {0, called, offset, length};
-    dwexpr_outcome outcome, other;
-    dwexpr_evaluate(table, called + 1, encoding, steps, called ? 2 : 1, &other, again, 2);
-    dwexpr_evaluation_start(held, table, called + 1, encoding, steps, 1, &outcome, pieces, 2);
+    dwexpr_outcome outcome;
+    dwexpr_evaluation_evaluate(held, table, called + 1, encoding, &settings, &outcome, pieces, 2);
     if (called)
-        dwexpr_evaluation_resume(held, table, called + 1, steps[1], &outcome, pieces, 2);
-    if (!same_outcome(&outcome, &other) || !same_pieces(pieces, again, outcome.pieces))
-        return 0;
+        dwexpr_evaluation_resume(held, table, called + 1, location, &outcome, pieces, 2);
     if (outcome.request == DWEXPR_WANTS_ENTRY_VALUE)
         return is_at(&want, outcome.block_text, outcome.block_offset, outcome.block_length);
     if (outcome.request != DWEXPR_COMPLETE || !outcome.pieces)

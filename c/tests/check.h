@@ -57,7 +57,7 @@ static inline int bad_operation(const dwexpr_operation *op, uint32_t code, size_
 /* Whether two structs have the same fields. There may be room between them that nothing sets. */
 static inline int same_outcome(const dwexpr_outcome *a, const dwexpr_outcome *b)
 {
-    return a->code == b->code && a->request == b->request && a->detail == b->detail && a->step == b->step &&
+    return a->code == b->code && a->request == b->request && a->detail == b->detail &&
            a->number == b->number && a->base_type == b->base_type && a->space == b->space &&
            a->register_number == b->register_number && a->size == b->size && a->flag == b->flag &&
            a->value_type == b->value_type && a->value == b->value && a->block_text == b->block_text &&
@@ -87,12 +87,12 @@ static inline uint64_t any(void)
     return made_up_state;
 }
 
-/* The step that answers a request; of none and of one that is complete the start. */
+/* The kind of the answer to a request; 0 if there is none. */
 static inline uint32_t answer_of(uint32_t request)
 {
     static const uint32_t answers[] = {
-        [DWEXPR_NOTHING] = DWEXPR_EVALUATE,
-        [DWEXPR_COMPLETE] = DWEXPR_EVALUATE,
+        [DWEXPR_NOTHING] = 0,
+        [DWEXPR_COMPLETE] = 0,
         [DWEXPR_WANTS_MEMORY] = DWEXPR_ANSWER_MEMORY,
         [DWEXPR_WANTS_REGISTER] = DWEXPR_ANSWER_REGISTER,
         [DWEXPR_WANTS_FRAME_BASE] = DWEXPR_ANSWER_FRAME_BASE,
@@ -109,20 +109,6 @@ static inline uint32_t answer_of(uint32_t request)
         [DWEXPR_WANTS_WASM_STACK] = DWEXPR_ANSWER_WASM,
     };
     return answers[request];
-}
-
-/* The steps that settings stand for, and how many they are. */
-static inline size_t steps_of(const dwexpr_settings *settings, dwexpr_step *steps)
-{
-    size_t count = 0;
-    memset(steps, 0, 4 * sizeof *steps);
-    steps[count].kind = DWEXPR_SET_MAX_ITERATIONS, steps[count++].number = settings->max_iterations;
-    if (settings->has_object_address)
-        steps[count].kind = DWEXPR_SET_OBJECT_ADDRESS, steps[count++].number = settings->object_address;
-    if (settings->has_initial_value)
-        steps[count].kind = DWEXPR_SET_INITIAL_VALUE, steps[count++].number = settings->initial_value;
-    steps[count++].kind = DWEXPR_EVALUATE;
-    return count;
 }
 
 #endif

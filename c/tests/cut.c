@@ -10,23 +10,21 @@ static const uint8_t nop[] = {0x96};
  * type */
 static int ends(const uint8_t *bytes, size_t length, dwexpr_encoding encoding)
 {
-    dwexpr_text texts[2] = {{bytes, length}, {nop, 1}};
-    dwexpr_step steps[18] = {{DWEXPR_SET_MAX_ITERATIONS, 0, 16, 0}, {DWEXPR_EVALUATE, 0, 0, 0}};
+    static uint64_t memory[DWEXPR_EVALUATION_SIZE / 8];
+    const dwexpr_settings settings = {.max_iterations = 16};
+    const dwexpr_text texts[2] = {{bytes, length}, {nop, 1}};
+    dwexpr_evaluation evaluation = {memory};
     dwexpr_outcome outcome;
-    size_t count;
-    for (count = 2; count <= 18; count++) {
-        uint32_t code = dwexpr_evaluate(texts, 2, encoding, steps, count, &outcome, NULL, 0);
-        if (code)
-            return code < DWEXPR_BAD_ENCODING && outcome.step == count - 1;
-        if (outcome.request == DWEXPR_COMPLETE)
-            return 1;
-        if (count < 18) {
-            steps[count].kind = answer_of(outcome.request);
-            steps[count].value_type = outcome.request == DWEXPR_WANTS_BASE_TYPE ? DWEXPR_U8 : DWEXPR_GENERIC;
-            steps[count].text = 1;
-        }
+    int left = 16;
+    dwexpr_evaluation_begin(&evaluation);
+    dwexpr_evaluation_evaluate(&evaluation, texts, 2, encoding, &settings, &outcome, NULL, 0);
+    while (outcome.request > DWEXPR_COMPLETE && left--) {
+        dwexpr_answer answer = {answer_of(outcome.request), DWEXPR_GENERIC, 0, 1};
+        if (outcome.request == DWEXPR_WANTS_BASE_TYPE)
+            answer.value_type = DWEXPR_U8;
+        dwexpr_evaluation_resume(&evaluation, texts, 2, answer, &outcome, NULL, 0);
     }
-    return 0;
+    return outcome.request <= DWEXPR_COMPLETE && outcome.code < DWEXPR_BAD_ENCODING;
 }
 
 /* whether each operation lies within the bytes, up to the first fault */

@@ -1,12 +1,12 @@
-/* A million made-up expressions with made-up answers, steps and places, each right before memory that can't be touched:
- * an evaluation that is held answers in every field what dwexpr_evaluate answers with all steps so far, and each
- * operation and each block lies within its text. */
+/* A million made-up expressions with made-up settings, answers and places, each right before memory that can't be
+ * touched: an evaluation that goes on after each answer, and is used for all expressions, shows in every field what one
+ * shows that is begun anew and is given all answers so far; and each operation and each block lies within its text. */
 #define _DEFAULT_SOURCE
 #include <sys/mman.h>
 
 #include "made_up.h"
 
-enum { PAGE = 4096, ROUNDS = 1000000, BYTES = 160, STEPS = 8, ROOM = 4 };
+enum { PAGE = 4096, ROUNDS = 1000000, BYTES = 160, ANSWERS = 6, ROOM = 4 };
 
 /* the end of two pages, before one that can't be touched */
 static uint8_t *guarded(void)
@@ -24,22 +24,35 @@ static size_t bad_block(const dwexpr_text *texts, size_t text, size_t offset, si
     return length && (text > 1 || offset + length > texts[text].length);
 }
 
-static int is_setting(uint32_t kind)
+/* What an expression comes to in an evaluation that is begun anew, with all answers so far. */
+static uint32_t evaluate_anew(const dwexpr_text *texts, dwexpr_encoding encoding, const dwexpr_settings *settings,
+                              const dwexpr_answer *answers, size_t count, dwexpr_outcome *outcome,
+                              dwexpr_piece *pieces, size_t room)
 {
-    return kind >= DWEXPR_SET_INITIAL_VALUE && kind <= DWEXPR_SET_MAX_ITERATIONS;
+    static uint64_t memory[DWEXPR_EVALUATION_SIZE / 8];
+    dwexpr_evaluation evaluation = {memory};
+    uint32_t code;
+    dwexpr_evaluation_begin(&evaluation);
+    code = dwexpr_evaluation_evaluate(&evaluation, texts, 2, encoding, settings, outcome, pieces, room);
+    while (count--) {
+        memset(pieces, 0xa5, room * sizeof *pieces);
+        code = dwexpr_evaluation_resume(&evaluation, texts, 2, *answers++, outcome, pieces, room);
+    }
+    return code;
 }
 
 int main(void)
 {
-    uint8_t *text_end = guarded(), *operation_end = guarded(), *pieces_end = guarded(), *steps_end = guarded();
+    uint8_t *text_end = guarded(), *operation_end = guarded(), *pieces_end = guarded(), *settings_end = guarded();
     uint8_t *texts_end = guarded(), *outcome_end = guarded();
     dwexpr_operation *op = (dwexpr_operation *)(void *)(operation_end - sizeof *op);
     dwexpr_outcome *outcome = (dwexpr_outcome *)(void *)(outcome_end - sizeof *outcome), held;
     dwexpr_text *texts = (dwexpr_text *)(void *)(texts_end - 2 * sizeof *texts);
     dwexpr_evaluation evaluation = {guarded() - dwexpr_evaluation_size()};
+    dwexpr_settings *settings = (dwexpr_settings *)(void *)(settings_end - sizeof *settings);
     dwexpr_piece places[ROOM];
-    dwexpr_step steps[STEPS];
-    size_t round, i, bad = 0, differ = 0, complete = 0, faults = 0, answers = 0;
+    dwexpr_answer answers[ANSWERS];
+    size_t round, i, bad = 0, differ = 0, complete = 0, faults = 0, answered = 0;
     static size_t requests[DWEXPR_WANTS_WASM_STACK + 1], codes[DWEXPR_MISPLACED + 1];
     dwexpr_evaluation_begin(&evaluation);
     for (round = 0; round < ROUNDS; round++) {
@@ -48,7 +61,7 @@ int main(void)
         const size_t room = size_below(ROOM + 1);
         uint8_t *bytes = memmove(text_end - length, text_end - BYTES, length);
         dwexpr_piece *pieces = (dwexpr_piece *)(void *)(pieces_end - room * sizeof *pieces);
-        size_t count = 2 + size_below(2), at;
+        size_t count = 0, at;
         for (at = 0; at <= length; at += op->size) {
             const uint32_t code = dwexpr_decode(bytes, length, encoding, at, op);
             bad += (size_t)bad_operation(op, code, length);
@@ -57,31 +70,17 @@ int main(void)
         }
         texts[0].bytes = bytes, texts[0].length = length;
         texts[1].bytes = bytes + length / 2, texts[1].length = length - length / 2;
-        for (i = 0; i < count; i++)
-            steps[i] = any_step((uint32_t)(i ? below(20) ? 1 + below(3) : below(19) : DWEXPR_SET_MAX_ITERATIONS), 2);
-        steps[count - 1].kind = DWEXPR_EVALUATE;
+        *settings = any_settings();
         memset(pieces, 0xa5, room * sizeof *pieces);
-        if (below(2)) {
-            dwexpr_evaluation_start(&evaluation, texts, 2, encoding, steps, count, outcome, pieces, room);
-        } else {
-            const dwexpr_settings settings = {(uint32_t)below(32), (uint16_t)below(4), (uint16_t)below(2), any(), any()};
-            count = steps_of(&settings, steps);
-            dwexpr_evaluation_evaluate(&evaluation, texts, 2, encoding, &settings, outcome, pieces, room);
-        }
+        dwexpr_evaluation_evaluate(&evaluation, texts, 2, encoding, settings, outcome, pieces, room);
         for (;;) {
-            dwexpr_step *given = (dwexpr_step *)(void *)(steps_end - count * sizeof *given);
             size_t shown;
             held = *outcome;
             memcpy(places, pieces, room * sizeof *pieces);
-            memcpy(given, steps, count * sizeof *given);
             memset(pieces, 0xa5, room * sizeof *pieces);
-            bad += dwexpr_evaluate(texts, 2, encoding, given, count, outcome, pieces, room) != outcome->code;
+            bad += evaluate_anew(texts, encoding, settings, answers, count, outcome, pieces, room) != outcome->code;
             shown = outcome->pieces < room ? outcome->pieces : room;
-            /* after a setting in a request the one that is held shows nothing */
-            if (outcome->request <= DWEXPR_COMPLETE || !is_setting(steps[count - 1].kind)) {
-                differ += !same_outcome(&held, outcome);
-                differ += outcome->request == DWEXPR_COMPLETE && !same_pieces(places, pieces, room);
-            }
+            differ += !same_outcome(&held, outcome) || !same_pieces(places, pieces, room);
             if (outcome->code > DWEXPR_MISPLACED || outcome->request > DWEXPR_WANTS_WASM_STACK)
                 bad++;
             else
@@ -91,26 +90,25 @@ int main(void)
                 bad += bad_block(texts, pieces[i].block_text, pieces[i].block_offset, pieces[i].block_length);
             complete += outcome->request == DWEXPR_COMPLETE;
             faults += outcome->code != DWEXPR_OK;
-            if (outcome->code || count == STEPS || (outcome->request == DWEXPR_COMPLETE && below(4)))
+            if (count == ANSWERS || outcome->code == DWEXPR_BAD_ENCODING ||
+                (outcome->request <= DWEXPR_COMPLETE && below(4)))
                 break;
-            answers++;
-            steps[count] = any_answer(outcome, 2);
+            answered++;
+            answers[count] = any_answer(outcome, 2);
             memset(pieces, 0xa5, room * sizeof *pieces);
-            if (dwexpr_evaluation_resume(&evaluation, texts, 2, steps[count], outcome, pieces, room))
-                outcome->step = count;
-            count++;
+            dwexpr_evaluation_resume(&evaluation, texts, 2, answers[count++], outcome, pieces, room);
         }
     }
     check(differ == 0, "a million expressions", "held and not alike");
     check(bad == 0, "a million expressions", "what is answered");
     check(complete > ROUNDS / 10, "a million expressions", "many are complete");
     check(faults > ROUNDS / 10, "a million expressions", "many meet a fault");
-    check(answers > ROUNDS / 2, "a million expressions", "many answers");
+    check(answered > ROUNDS / 2, "a million expressions", "many answers");
     for (i = 0; i < COUNT(requests); i++)
         check(requests[i] > 0, "a million expressions", "each request");
     for (i = 0; i < COUNT(codes); i++)
         if (dwexpr_code_name((uint32_t)i) && i != DWEXPR_UNSUPPORTED_OFFSET && i != DWEXPR_BAD_OFFSET)
             check(codes[i] > 0, dwexpr_code_name((uint32_t)i), "it comes up");
-    printf("complete %zu, faults %zu, answers %zu\n", complete, faults, answers);
+    printf("complete %zu, faults %zu, answers %zu\n", complete, faults, answered);
     return finish();
 }

@@ -133,19 +133,18 @@ static inline dwexpr_encoding any_encoding(void)
     return encoding;
 }
 
-/* A step of this kind, mostly with one of so many texts. A maximum is low, or more than there may be. */
-static inline dwexpr_step any_step(uint32_t kind, size_t texts)
+/* Settings with a low maximum, mostly without an object's address or an initial value. */
+static inline dwexpr_settings any_settings(void)
 {
-    dwexpr_step step = {kind, below(4) ? DWEXPR_GENERIC : (uint32_t)below(11), any_number(), size_below(texts + 1)};
-    if (kind == DWEXPR_SET_MAX_ITERATIONS)
-        step.number = below(100) ? below(400) : any() | (uint64_t)1 << 32;
-    return step;
+    return (dwexpr_settings){(uint32_t)below(400), below(3) ? 0 : (uint16_t)any(), below(3) ? 0 : (uint16_t)any(),
+                             any_number(), any_number()};
 }
 
-/* The answer to a request, or any step. */
-static inline dwexpr_step any_answer(const dwexpr_outcome *outcome, size_t texts)
+/* An answer to a request, or to any, mostly with one of so many texts. */
+static inline dwexpr_answer any_answer(const dwexpr_outcome *outcome, size_t texts)
 {
-    return any_step(below(16) ? answer_of(outcome->request) : (uint32_t)below(18), texts);
+    return (dwexpr_answer){below(16) ? answer_of(outcome->request) : (uint32_t)below(14),
+                           below(4) ? DWEXPR_GENERIC : (uint32_t)below(11), any_number(), size_below(texts + 1)};
 }
 
 #endif

@@ -45,7 +45,7 @@ static void codes(void)
         {DWEXPR_TOO_MANY_ITERATIONS, "too many operations"}, {DWEXPR_INVALID_PIECE, "piece is missing"},
         {DWEXPR_INVALID_EXPRESSION_TERMINATOR, "location is followed"}, {DWEXPR_STACK_FULL, "full"},
         {DWEXPR_BAD_ENCODING, "encoding"}, {DWEXPR_BAD_OFFSET, "at this offset"}, {DWEXPR_BAD_TEXT, "no such text"},
-        {DWEXPR_BAD_STEP, "no such step"}, {DWEXPR_MISPLACED, "isn't allowed here"},
+        {DWEXPR_BAD_ANSWER, "no such answer"}, {DWEXPR_MISPLACED, "isn't allowed here"},
         {DWEXPR_LOST_TEXT, "text of before"}, {DWEXPR_TOO_MANY_TEXTS, "too many texts"},
         {DWEXPR_BAD_VALUE, "mask"},
         {DWEXPR_REFUSED, "refused"},

@@ -23,9 +23,10 @@ uint32_t dwexpr_evaluation_evaluate(dwexpr_evaluation *evaluation, const dwexpr_
 }
 
 uint32_t dwexpr_evaluation_resume(dwexpr_evaluation *evaluation, const dwexpr_text *texts, size_t texts_length,
-                                  dwexpr_step step, dwexpr_outcome *outcome, dwexpr_piece *pieces, size_t pieces_length)
+                                  dwexpr_answer answer, dwexpr_outcome *outcome, dwexpr_piece *pieces,
+                                  size_t pieces_length)
 {
-    (void)evaluation, (void)texts, (void)texts_length, (void)step, (void)pieces, (void)pieces_length;
+    (void)evaluation, (void)texts, (void)texts_length, (void)answer, (void)pieces, (void)pieces_length;
     resumed++;
     outcome->request = DWEXPR_COMPLETE;
     return DWEXPR_OK;

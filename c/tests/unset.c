@@ -25,7 +25,7 @@ int main(void)
     /* A frame base, a call and memory; two pieces; a block; a value; an unknown opcode; no bytes. */
     static const char *const lines[] = {"917006", "98050006", "5093049d0801", "9e02aabb", "3132229f", "01", ""};
     const dwexpr_encoding encoding = LE8, bad = encoding_of(8, 4, 9, 0);
-    const dwexpr_settings settings = {9, 1, 0, 7, 0};
+    const dwexpr_settings settings = {9, 1, 0, 7, 0}, start = {.max_iterations = UINT32_MAX};
 
     for (size_t i = 0; i < COUNT(lines); i++) {
         struct room *room = malloc(sizeof *room);
@@ -34,21 +34,19 @@ int main(void)
         dwexpr_piece *pieces = room->pieces;
         dwexpr_evaluation evaluation = {room->memory};
         const dwexpr_text texts[] = {{room->bytes, bytes_of(lines[i], room->bytes)}, {NULL, 0}};
-        const dwexpr_step evaluate = {.kind = DWEXPR_EVALUATE};
         const dwexpr_value one = {DWEXPR_I32, 5};
         unsigned long of_all = 0;
 
         of_all += dwexpr_decode(room->bytes, texts->length, bad, 0, operation) + sum(operation, sizeof *operation);
         of_all += dwexpr_decode(room->bytes, texts->length, encoding, 0, operation) + sum(operation, sizeof *operation);
-        of_all += dwexpr_evaluate(texts, 2, encoding, &evaluate, 1, outcome, pieces, 0) + sum(outcome, sizeof *outcome);
         dwexpr_evaluation_begin(&evaluation);
         of_all += dwexpr_evaluation_evaluate(&evaluation, texts, 2, encoding, &settings, outcome, pieces, 0);
         of_all += sum(outcome, sizeof *outcome);
-        dwexpr_evaluation_start(&evaluation, texts, 2, encoding, &evaluate, 1, outcome, pieces, DWEXPR_MAX_PIECES);
+        dwexpr_evaluation_evaluate(&evaluation, texts, 2, encoding, &start, outcome, pieces, DWEXPR_MAX_PIECES);
         for (int left = 9; left && outcome->code == DWEXPR_OK && outcome->request != DWEXPR_COMPLETE; left--) {
-            dwexpr_step step = {answer_of(outcome->request), DWEXPR_GENERIC, 0x1000, 1};
+            dwexpr_answer answer = {answer_of(outcome->request), DWEXPR_GENERIC, 0x1000, 1};
             of_all += sum(outcome, sizeof *outcome);
-            dwexpr_evaluation_resume(&evaluation, texts, 2, step, outcome, pieces, DWEXPR_MAX_PIECES);
+            dwexpr_evaluation_resume(&evaluation, texts, 2, answer, outcome, pieces, DWEXPR_MAX_PIECES);
         }
         of_all += sum(outcome, sizeof *outcome) + sum(pieces, outcome->pieces * sizeof *pieces);
         /* Between the two fields of a value there is room. */

@@ -47,10 +47,19 @@ struct Text {
     length: usize,
 }
 
-/// A step of an evaluation: a setting (1 to 3), the start (4), or an answer (5 to 16).
 #[repr(C)]
-#[derive(Clone, Copy, Debug, Default, PartialEq, Eq)]
-pub struct Step {
+#[derive(Clone, Copy, Debug, Default)]
+pub struct Settings {
+    pub max_iterations: u32,
+    pub has_object_address: u16,
+    pub has_initial_value: u16,
+    pub object_address: u64,
+    pub initial_value: u64,
+}
+
+#[repr(C)]
+#[derive(Clone, Copy, Debug, Default)]
+pub struct Answer {
     pub kind: u32,
     pub value_type: u32,
     pub number: u64,
@@ -70,7 +79,6 @@ pub struct Outcome {
     pub code: u32,
     pub request: u32,
     pub detail: u64,
-    pub step: usize,
     pub number: u64,
     pub base_type: u64,
     pub space: u64,
@@ -109,9 +117,10 @@ struct Evaluation {
 // The sizes and the last places that the header asserts.
 const _: () = assert!(size_of::<Encoding>() == 4 && size_of::<Text>() == 16 && size_of::<Evaluation>() == 8);
 const _: () = assert!(size_of::<Operation>() == 88 && offset_of!(Operation, detail) == 80);
-const _: () = assert!(size_of::<Step>() == 24 && offset_of!(Step, text) == 16);
+const _: () = assert!(size_of::<Settings>() == 24 && offset_of!(Settings, initial_value) == 16);
+const _: () = assert!(size_of::<Answer>() == 24 && offset_of!(Answer, text) == 16);
 const _: () = assert!(size_of::<Value>() == 16 && offset_of!(Value, content) == 8);
-const _: () = assert!(size_of::<Outcome>() == 104 && offset_of!(Outcome, pieces) == 96);
+const _: () = assert!(size_of::<Outcome>() == 96 && offset_of!(Outcome, pieces) == 88);
 const _: () = assert!(size_of::<Piece>() == 72 && offset_of!(Piece, block_length) == 64);
 
 #[link(name = "dwexpr_c", kind = "static")]
@@ -124,28 +133,16 @@ unsafe extern "C" {
         operation: *mut Operation,
     ) -> u32;
 
-    fn dwexpr_evaluate(
-        texts: *const Text,
-        texts_length: usize,
-        encoding: Encoding,
-        steps: *const Step,
-        steps_length: usize,
-        outcome: *mut Outcome,
-        pieces: *mut Piece,
-        pieces_length: usize,
-    ) -> u32;
-
     fn dwexpr_evaluation_size() -> usize;
 
     fn dwexpr_evaluation_begin(evaluation: *mut Evaluation);
 
-    fn dwexpr_evaluation_start(
+    fn dwexpr_evaluation_evaluate(
         evaluation: *mut Evaluation,
         texts: *const Text,
         texts_length: usize,
         encoding: Encoding,
-        steps: *const Step,
-        steps_length: usize,
+        settings: *const Settings,
         outcome: *mut Outcome,
         pieces: *mut Piece,
         pieces_length: usize,
@@ -155,7 +152,7 @@ unsafe extern "C" {
         evaluation: *mut Evaluation,
         texts: *const Text,
         texts_length: usize,
-        step: Step,
+        answer: Answer,
         outcome: *mut Outcome,
         pieces: *mut Piece,
         pieces_length: usize,
@@ -200,24 +197,6 @@ fn texts_of(texts: &[Vec<u8>]) -> Vec<Text> {
     texts.iter().map(|text| Text { bytes: text.as_ptr(), length: text.len() }).collect()
 }
 
-/// Takes all steps of the first text at once.
-pub fn evaluate(texts: &[Vec<u8>], encoding: Encoding, steps: &[Step], shown: &mut Shown) {
-    let texts = texts_of(texts);
-    // SAFETY: pointers and lengths are those of slices, and what is written overlaps nothing.
-    unsafe {
-        dwexpr_evaluate(
-            texts.as_ptr(),
-            texts.len(),
-            encoding,
-            steps.as_ptr(),
-            steps.len(),
-            &mut shown.outcome,
-            shown.pieces.as_mut_ptr(),
-            MAX_PIECES,
-        )
-    };
-}
-
 /// Memory in which the archive holds an evaluation.
 pub struct Memory(Box<[u64]>);
 
@@ -232,7 +211,7 @@ impl Memory {
     }
 }
 
-/// An evaluation that the archive holds. It borrows its texts, which stay as they are until the next start.
+/// An evaluation that the archive holds. It borrows its texts, which stay as they are until the next one.
 pub struct Held<'a> {
     memory: &'a mut Memory,
     texts: Vec<Text>,
@@ -240,24 +219,23 @@ pub struct Held<'a> {
 }
 
 impl<'a> Held<'a> {
-    /// Starts the first of the texts in the steps.
-    pub fn start(
+    /// Evaluates the first of the texts with the settings.
+    pub fn evaluate(
         memory: &'a mut Memory,
         texts: &'a [Vec<u8>],
         encoding: Encoding,
-        steps: &[Step],
+        settings: &Settings,
         shown: &mut Shown,
     ) -> Self {
         let held = Held { memory, texts: texts_of(texts), _texts: texts };
         // SAFETY: `new` has begun the evaluation, and its memory isn't moved; pointers and lengths are those of slices.
         unsafe {
-            dwexpr_evaluation_start(
+            dwexpr_evaluation_evaluate(
                 &mut Evaluation { memory: held.memory.0.as_mut_ptr() },
                 held.texts.as_ptr(),
                 held.texts.len(),
                 encoding,
-                steps.as_ptr(),
-                steps.len(),
+                settings,
                 &mut shown.outcome,
                 shown.pieces.as_mut_ptr(),
                 MAX_PIECES,
@@ -266,15 +244,15 @@ impl<'a> Held<'a> {
         held
     }
 
-    /// Takes one more step.
-    pub fn resume(&mut self, step: Step, shown: &mut Shown) {
-        // SAFETY: as in `start`; the texts are the same.
+    /// Goes on with an answer.
+    pub fn resume(&mut self, answer: Answer, shown: &mut Shown) {
+        // SAFETY: as in `evaluate`; the texts are the same.
         unsafe {
             dwexpr_evaluation_resume(
                 &mut Evaluation { memory: self.memory.0.as_mut_ptr() },
                 self.texts.as_ptr(),
                 self.texts.len(),
-                step,
+                answer,
                 &mut shown.outcome,
                 shown.pieces.as_mut_ptr(),
                 MAX_PIECES,

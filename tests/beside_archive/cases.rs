@@ -1,6 +1,6 @@
 //! Expressions with settings and answers, and the lines that say them, in the words and steps of the program `dwexpr`.
 
-use crate::archive::{Encoding, Step};
+use crate::archive::{Answer, Encoding, Settings};
 use crate::shown::value_of;
 use std::fmt;
 
@@ -34,6 +34,37 @@ pub const LAST_ANSWER: u32 = 16;
 
 /// `DW_OP_bra` and `DW_OP_skip`.
 const BRANCHES: [u8; 2] = [0x28, 0x2f];
+
+/// A step of an evaluation: a setting, the start, or an answer.
+#[derive(Clone, Copy, Debug, Default, PartialEq, Eq)]
+pub struct Step {
+    pub kind: u32,
+    pub value_type: u32,
+    pub number: u64,
+    pub text: usize,
+}
+
+impl Step {
+    /// The answer as the archive takes it, whose kinds begin with the first answer.
+    pub fn answer(&self) -> Answer {
+        let Step { kind, value_type, number, text } = *self;
+        Answer { kind: kind - EVALUATE, value_type, number, text }
+    }
+}
+
+/// The settings as the archive takes them. A maximum that isn't set is the largest.
+pub fn settings_of(steps: &[Step]) -> Settings {
+    let mut settings = Settings { max_iterations: u32::MAX, ..Settings::default() };
+    for step in steps {
+        match step.kind {
+            INITIAL_VALUE => (settings.has_initial_value, settings.initial_value) = (1, step.number),
+            OBJECT_ADDRESS => (settings.has_object_address, settings.object_address) = (1, step.number),
+            MAXIMUM => settings.max_iterations = u32::try_from(step.number).expect("a maximum has 32 bits"),
+            _ => {}
+        }
+    }
+    settings
+}
 
 #[derive(Clone, Copy)]
 enum Operand {
@@ -71,10 +102,20 @@ impl Case {
         self.encoding.big_endian == 1
     }
 
-    /// How many steps there are up to the start, the first `evaluate`.
-    pub fn beginning(&self) -> usize {
-        let start = self.steps.iter().position(|step| step.kind == EVALUATE);
-        start.map_or(self.steps.len(), |start| start + 1)
+    /// How many steps there are up to the start, the first `evaluate`, if there is one.
+    pub fn beginning(&self) -> Option<usize> {
+        self.steps.iter().position(|step| step.kind == EVALUATE).map(|start| start + 1)
+    }
+
+    /// The same case, up to the first step that C can't take: it has settings once, before the start, and then answers.
+    /// `None` if that comes before the start.
+    pub fn in_c(mut self) -> Option<Case> {
+        let beginning = self.beginning()?;
+        let answers = self.steps[beginning..].iter().take_while(|step| step.kind > EVALUATE).count();
+        self.steps.truncate(beginning + answers);
+        let values = self.steps[..beginning].iter().filter(|step| step.kind == INITIAL_VALUE).count();
+        let is_in_turn = self.steps[..beginning - 1].iter().all(|step| step.kind < EVALUATE);
+        (values <= 1 && is_in_turn).then_some(self)
     }
 
     /// Whether no byte can be the opcode of a branch.

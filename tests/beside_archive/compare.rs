@@ -1,7 +1,7 @@
 //! Compares the answers of the crate and of the archive to a case.
 
-use crate::archive::{self, COMPLETE, Held, MAX_CALLERS, MAX_PIECES, MAX_VALUES, MISPLACED, Memory, STACK_FULL, Step};
-use crate::cases::{Case, EVALUATE, INITIAL_VALUE, MAXIMUM, OBJECT_ADDRESS};
+use crate::archive::{self, COMPLETE, Held, MAX_CALLERS, MAX_PIECES, MAX_VALUES, MISPLACED, Memory, STACK_FULL};
+use crate::cases::{Case, EVALUATE, INITIAL_VALUE, MAXIMUM, OBJECT_ADDRESS, Step, settings_of};
 use crate::made_up;
 use crate::met::Met;
 use crate::numbers::Numbers;
@@ -118,7 +118,7 @@ macro_rules! resume {
             step: &Step,
         ) -> Answered<'a> {
             let status = evaluation.status();
-            $(if step.kind == once!(number_within("DWEXPR_ANSWER_", stringify!($name))) {
+            $(if step.kind == EVALUATE + once!(number_within("DWEXPR_ANSWER_", stringify!($name))) {
                 let answered = evaluation.$name(Argument::of(step, case));
                 // The call was in turn, since it didn't panic.
                 assert!(matches!(status, Status::Waiting(WaitingKind::$kind) | Status::Failed(_)), "{status:?}");
@@ -131,79 +131,58 @@ macro_rules! resume {
 
 resumes!(resume);
 
-/// Takes a step; `None` if it is a setting.
-fn take<'a, S: EvaluationStorage<Text<'a>>>(
-    evaluation: &mut Evaluation<Text<'a>, S>,
-    case: &'a Case,
-    step: &Step,
-) -> Option<Answered<'a>> {
+/// Takes the settings, which are all before the start.
+fn set<'a, S: EvaluationStorage<Text<'a>>>(evaluation: &mut Evaluation<Text<'a>, S>, step: &Step) {
     let number = step.number;
     match step.kind {
         INITIAL_VALUE => evaluation.set_initial_value(number),
         OBJECT_ADDRESS => evaluation.set_object_address(number),
         MAXIMUM => evaluation.set_max_iterations(u32::try_from(number).expect("a maximum has 32 bits")),
-        EVALUATE => return Some(evaluation.evaluate()),
-        _ => return Some(resume(evaluation, case, step)),
+        _ => {}
     }
-    None
 }
 
-/// An evaluation of the crate, which takes the archive's steps and shows its outcomes.
+/// An evaluation of the crate, which takes the case's steps and shows the archive's outcomes.
 struct Stepped<'a, S: EvaluationStorage<Text<'a>>> {
     evaluation: Evaluation<Text<'a>, S>,
     case: &'a Case,
-    is_complete: bool,
 }
 
 impl<'a, S: EvaluationStorage<Text<'a>>> Stepped<'a, S> {
     fn restart(&mut self, case: &'a Case) {
         self.evaluation.restart(text_of(case, 0), encoding_of(case));
-        (self.case, self.is_complete) = (case, false);
+        self.case = case;
     }
 
-    /// Takes a step, and shows what it answered; `None` if it is a setting. A call out of turn panics, as in gimli.
-    fn take(&mut self, step: &Step) -> Option<archive::Outcome> {
+    /// Takes the settings and the start.
+    fn start(&mut self, steps: &[Step]) -> archive::Outcome {
+        steps.iter().for_each(|step| set(&mut self.evaluation, step));
+        let answered = self.evaluation.evaluate();
+        self.show(answered)
+    }
+
+    /// Takes an answer. A call out of turn panics, as in gimli.
+    fn resume(&mut self, step: &Step) -> archive::Outcome {
         let (evaluation, case) = (&mut self.evaluation, self.case);
-        Some(match catch_unwind(AssertUnwindSafe(|| take(evaluation, case, step))) {
+        match catch_unwind(AssertUnwindSafe(|| resume(evaluation, case, step))) {
             Err(_) => shown::ended(MISPLACED, 0),
-            Ok(answered) => match answered? {
-                Err(error) => {
-                    let (code, detail) = shown::code_of(error);
-                    shown::ended(code, detail)
-                }
-                Ok(EvaluationResult::Complete) => {
-                    self.is_complete = true;
-                    self.complete()
-                }
-                Ok(reply) => shown::reply(reply, &case.texts),
-            },
-        })
+            Ok(answered) => self.show(answered),
+        }
+    }
+
+    fn show(&self, answered: Answered<'a>) -> archive::Outcome {
+        match answered {
+            Err(error) => {
+                let (code, detail) = shown::code_of(error);
+                shown::ended(code, detail)
+            }
+            Ok(EvaluationResult::Complete) => self.complete(),
+            Ok(reply) => shown::reply(reply, &self.case.texts),
+        }
     }
 
     fn complete(&self) -> archive::Outcome {
         shown::complete(self.evaluation.value_result(), self.evaluation.as_result().len())
-    }
-
-    /// Takes a step as `dwexpr_evaluation_resume` does.
-    fn resume(&mut self, step: &Step) -> archive::Outcome {
-        match self.take(step) {
-            Some(outcome) => outcome,
-            None if self.is_complete => self.complete(),
-            None => archive::Outcome::default(),
-        }
-    }
-
-    /// Takes steps as `dwexpr_evaluate` does, up to the first that ends the evaluation.
-    fn start(&mut self, steps: &[Step]) -> archive::Outcome {
-        let mut outcome = archive::Outcome::default();
-        for (index, step) in steps.iter().enumerate() {
-            outcome = self.take(step).unwrap_or(outcome);
-            if outcome.code != 0 {
-                outcome.step = index;
-                break;
-            }
-        }
-        outcome
     }
 
     /// Compares an outcome, and the pieces of one that is complete.
@@ -251,7 +230,7 @@ impl<'a> Sides<'a> {
             SliceVec::new(&mut slots.callers),
             SliceVec::new(&mut slots.pieces),
         );
-        let in_slices = Stepped { evaluation, case, is_complete: false };
+        let in_slices = Stepped { evaluation, case };
         Sides { memory: Memory::new(), in_slices, shown: archive::Shown::default() }
     }
 
@@ -260,20 +239,24 @@ impl<'a> Sides<'a> {
         for index in 0..case.texts.len() {
             decode(case, index, met)?;
         }
-        let mut steps = case.steps[..case.beginning()].to_vec();
-        let done = self.hold(case, &mut steps, met).and_then(|()| self.at_once(case, &steps));
+        let Some(beginning) = case.beginning() else {
+            return Ok(());
+        };
+        let mut steps = case.steps[..beginning].to_vec();
+        let done = self.hold(case, &mut steps, met).and_then(|outcome| self.anew(case, &steps, &outcome));
         done.map_err(|difference| Difference { steps, ..difference })
     }
 
     /// Evaluates step by step, and adds the steps that are taken. The heap has no limits, so it is compared up to the
-    /// first list that is full.
-    fn hold(&mut self, case: &'a Case, steps: &mut Vec<Step>, met: &mut Met) -> Compared {
+    /// first list that is full. Gives back the last outcome.
+    fn hold(&mut self, case: &'a Case, steps: &mut Vec<Step>, met: &mut Met) -> Result<archive::Outcome, Difference> {
         self.in_slices.restart(case);
         let evaluation = Evaluation::new(text_of(case, 0), encoding_of(case));
-        let mut on_heap = Stepped::<StoreOnHeap> { evaluation, case, is_complete: false };
+        let mut on_heap = Stepped::<StoreOnHeap> { evaluation, case };
         let mut numbers = Numbers::new(case.answers.map_or(0, |answers| answers.seed));
 
-        let mut held = Held::start(&mut self.memory, &case.texts, case.encoding, steps, &mut self.shown);
+        let settings = settings_of(steps);
+        let mut held = Held::evaluate(&mut self.memory, &case.texts, case.encoding, &settings, &mut self.shown);
         let (mut in_slices, mut in_heap) = (self.in_slices.start(steps), on_heap.start(steps));
         let mut is_limited = false;
         loop {
@@ -286,10 +269,10 @@ impl<'a> Sides<'a> {
             let given = case.steps.get(steps.len()).copied();
             let Some(step) = given.or_else(|| made_up::answer(case, steps.len(), &self.shown.outcome, &mut numbers))
             else {
-                return Ok(());
+                return Ok(in_slices);
             };
             steps.push(step);
-            held.resume(step, &mut self.shown);
+            held.resume(step.answer(), &mut self.shown);
             in_slices = self.in_slices.resume(&step);
             if !is_limited {
                 in_heap = on_heap.resume(&step);
@@ -297,11 +280,13 @@ impl<'a> Sides<'a> {
         }
     }
 
-    /// Takes the steps once more, all at once.
-    fn at_once(&mut self, case: &'a Case, steps: &[Step]) -> Compared {
-        archive::evaluate(&case.texts, case.encoding, steps, &mut self.shown);
-        self.in_slices.restart(case);
-        let outcome = self.in_slices.start(steps);
-        self.in_slices.compare("an outcome at once", &self.shown, &outcome)
+    /// Takes the steps once more, in memory that is begun anew.
+    fn anew(&mut self, case: &'a Case, steps: &[Step], outcome: &archive::Outcome) -> Compared {
+        let (settings, mut memory) = (settings_of(steps), Memory::new());
+        let mut held = Held::evaluate(&mut memory, &case.texts, case.encoding, &settings, &mut self.shown);
+        for step in steps.iter().filter(|step| step.kind > EVALUATE) {
+            held.resume(step.answer(), &mut self.shown);
+        }
+        self.in_slices.compare("an outcome anew", &self.shown, outcome)
     }
 }

@@ -1,7 +1,7 @@
 //! Made-up cases: expressions of each kind, their settings, and answers to what they ask.
 
-use crate::archive::{COMPLETE, Encoding, Outcome, Step};
-use crate::cases::{Answers, Case, EVALUATE, INITIAL_VALUE, LAST_ANSWER, MAXIMUM, OBJECT_ADDRESS};
+use crate::archive::{COMPLETE, Encoding, Outcome};
+use crate::cases::{Answers, Case, EVALUATE, INITIAL_VALUE, LAST_ANSWER, MAXIMUM, OBJECT_ADDRESS, Step};
 use crate::numbers::Numbers;
 use std::sync::LazyLock;
 
@@ -53,8 +53,8 @@ const READS: [u8; 3] = [0x06, 0x94, 0x9b];
 /// The bytes of a value of each type, by its code from 1 on. The generic type has as many as its largest.
 const SIZES: [usize; 9] = [8, 1, 1, 2, 2, 4, 4, 8, 8];
 
-/// The step that answers each request.
-const ANSWERS: [u32; 16] = [EVALUATE, EVALUATE, 5, 6, 9, 10, 11, 15, 8, 12, 13, 14, 16, 7, 7, 7];
+/// The step that answers each request; 0 if there is none.
+const ANSWERS: [u32; 16] = [0, 0, 5, 6, 9, 10, 11, 15, 8, 12, 13, 14, 16, 7, 7, 7];
 
 /// The case of a kind with this number.
 pub fn case(kind: &Kind, number: u64) -> Case {
@@ -104,14 +104,14 @@ pub fn answer(case: &Case, taken: usize, outcome: &Outcome, numbers: &mut Number
     if is_over && !numbers.one_in(8) {
         return None;
     }
-    let is_stray = numbers.one_in(answers.stray) || outcome.code != 0;
-    let any = numbers.below(LAST_ANSWER as usize) as u32 + 1;
+    let is_stray = numbers.one_in(answers.stray) || is_over;
+    let any = EVALUATE + 1 + numbers.below((LAST_ANSWER - EVALUATE) as usize) as u32;
     let kind = if is_stray { any } else { ANSWERS[outcome.request as usize] };
     let wanted = if outcome.base_type == 0 { 1 } else { type_at(outcome.base_type) };
     Some(Step {
         kind,
         value_type: if numbers.one_in(16) { numbers.below(9) as u32 + 1 } else { wanted },
-        number: if kind == MAXIMUM { numbers.below(64) as u64 } else { numbers.edge() },
+        number: numbers.edge(),
         text: if numbers.one_in(answers.last) { case.texts.len() - 1 } else { numbers.below(case.texts.len()) },
     })
 }
@@ -151,7 +151,7 @@ impl Maker {
     }
 
     fn setting(&mut self, kind: u32) {
-        let number = if kind == MAXIMUM { self.numbers.below(64) as u64 } else { self.numbers.edge() };
+        let number = self.numbers.edge();
         self.steps.push(Step { kind, number, ..Step::default() });
     }
 
@@ -334,13 +334,9 @@ impl Maker {
         self.bytes.push(0x9f);
     }
 
-    /// Short expressions, with settings at any time, and answers that aren't asked for.
+    /// Short expressions, and answers that aren't asked for.
     fn out_of_turn(&mut self) {
         self.answers.stray = 3;
-        for _ in 0..self.numbers.below(4) {
-            let kind = self.numbers.one_of(&[INITIAL_VALUE, OBJECT_ADDRESS, MAXIMUM]);
-            self.setting(kind);
-        }
         for rest in [2, 1, 0] {
             for _ in 0..self.numbers.below(5) {
                 match self.numbers.below(6) {

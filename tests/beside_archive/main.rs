@@ -108,15 +108,21 @@ impl Report {
 
     fn compare_lines(&mut self, text: &str) {
         let began = Instant::now();
+        let mut left_out = 0;
         for line in text.lines() {
-            let case = Case::of_line(line).unwrap_or_else(|| panic!("not a case: {line}")).bounded();
+            let case = Case::of_line(line).unwrap_or_else(|| panic!("not a case: {line}"));
+            let Some(case) = case.bounded().in_c() else {
+                left_out += 1;
+                continue;
+            };
             match compare_one(&case, &mut self.met) {
                 Ok(()) => self.passed += 1,
                 Err(_) if self.failed >= SHOWN => self.failed += 1,
                 Err(difference) => self.differs_in("a row", &case, difference),
             }
         }
-        println!("rows: {} alike, {} differ, {:.1} s", self.passed, self.failed, began.elapsed().as_secs_f64());
+        let (passed, failed, seconds) = (self.passed, self.failed, began.elapsed().as_secs_f64());
+        println!("rows: {passed} alike, {failed} differ, {left_out} that C can't start, {seconds:.1} s");
     }
 
     /// Fails if something that can come up never did.

@@ -17,7 +17,7 @@ struct job {
     dwexpr_libdw_frame *frame;
     Dwarf_Attribute unit; /* its `cu`; nothing else of it is set */
     dwexpr_libdw_value *value;
-    dwexpr_step answer;
+    dwexpr_answer answer;
     /* while it waits: the call site in the caller, and the place or the entry of what is passed */
     Dwarf_Die site;
     dwexpr_text place;
@@ -435,36 +435,36 @@ static const struct {
 static uint32_t answer(struct job *job, uint32_t *left, struct job **next)
 {
     const dwexpr_outcome *asked = &job->value->outcome;
-    dwexpr_step *step = &job->answer;
+    dwexpr_answer *answer = &job->answer;
     int failed = 0;
     uint32_t why = 0;
     if (asked->request > DWEXPR_WANTS_BASE_TYPE || job->purpose > requests[asked->request].last_purpose)
         return refused(job, 0);
-    memset(step, 0, sizeof *step);
-    step->kind = requests[asked->request].answer;
-    step->value_type = DWEXPR_GENERIC;
-    if (asked->base_type && base_type_of(job, asked->base_type, &step->value_type))
+    memset(answer, 0, sizeof *answer);
+    answer->kind = requests[asked->request].answer;
+    answer->value_type = DWEXPR_GENERIC;
+    if (asked->base_type && base_type_of(job, asked->base_type, &answer->value_type))
         return DWEXPR_LIBDW_WANTS + DWEXPR_WANTS_BASE_TYPE;
     switch (asked->request) {
-    case DWEXPR_WANTS_MEMORY: why = memory_number(job, &step->number); break;
+    case DWEXPR_WANTS_MEMORY: why = memory_number(job, &answer->number); break;
     case DWEXPR_WANTS_REGISTER:
-        why = register_number(job->frame, asked->register_number, job->value->encoding.big_endian, &step->number);
+        why = register_number(job->frame, asked->register_number, job->value->encoding.big_endian, &answer->number);
         break;
     case DWEXPR_WANTS_FRAME_BASE:
         why = find_base(job->frame, left);
-        step->number = job->frame->base;
+        answer->number = job->frame->base;
         break;
     case DWEXPR_WANTS_CFA:
         why = find_cfa(job->frame, left);
-        step->number = job->frame->cfa;
+        answer->number = job->frame->cfa;
         break;
-    case DWEXPR_WANTS_TLS: failed = thread_local_address(job, &step->number); break;
-    case DWEXPR_WANTS_LOCATION: why = location_of(job, &step->text); break;
+    case DWEXPR_WANTS_TLS: failed = thread_local_address(job, &answer->number); break;
+    case DWEXPR_WANTS_LOCATION: why = location_of(job, &answer->text); break;
     case DWEXPR_WANTS_RELOCATED:
-        step->number = asked->number;
-        failed = relocate(job, &step->number);
+        answer->number = asked->number;
+        failed = relocate(job, &answer->number);
         break;
-    case DWEXPR_WANTS_INDEXED: failed = indexed_address(job, &step->number); break;
+    case DWEXPR_WANTS_INDEXED: failed = indexed_address(job, &answer->number); break;
     case DWEXPR_WANTS_ENTRY_VALUE:
         job->place = dwexpr_outcome_block(asked, job->value->texts, job->value->texts_length);
         job->entry.addr = NULL;

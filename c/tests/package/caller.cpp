@@ -7,12 +7,14 @@ int main()
     const uint8_t bytes[] = {0x91, 0x70};
     const dwexpr_text text = {bytes, sizeof bytes};
     const dwexpr_encoding encoding = {8, 4, 0, 5};
-    dwexpr_step steps[2] = {};
-    steps[0].kind = DWEXPR_EVALUATE;
-    steps[1].kind = DWEXPR_ANSWER_FRAME_BASE;
-    steps[1].number = 0x3000;
+    const dwexpr_settings settings = {100, 0, 0, 0, 0};
+    const dwexpr_answer frame_base = {DWEXPR_ANSWER_FRAME_BASE, 0, 0x3000, 0};
+    uint64_t memory[DWEXPR_EVALUATION_SIZE / 8];
+    dwexpr_evaluation evaluation = {memory};
     dwexpr_outcome outcome;
     dwexpr_piece piece;
-    const uint32_t code = dwexpr_evaluate(&text, 1, encoding, steps, 2, &outcome, &piece, 1);
+    dwexpr_evaluation_begin(&evaluation);
+    dwexpr_evaluation_evaluate(&evaluation, &text, 1, encoding, &settings, &outcome, &piece, 1);
+    const uint32_t code = dwexpr_evaluation_resume(&evaluation, &text, 1, frame_base, &outcome, &piece, 1);
     std::printf("%u 0x%llx\n", code, static_cast<unsigned long long>(piece.number));
 }

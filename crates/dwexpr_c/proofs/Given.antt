@@ -1,34 +1,28 @@
 -- Each block that an evaluation gives is at some place of the texts that the caller gave.
-use Rattle.std.proofs.Common.{rules, if◌then◌else◌, ℕ, zero, suc, ◌≡◌, ◌+◌, Bool, List, [], ◌∷◌, ◌++◌, map, take, length, slice_get, Option, Some, None, Result, Ok, Err, refl, sym, subst}
-use Rattle.std.specs.Option.{option_map}
+use Rattle.std.proofs.Common.{ℕ, zero, suc, ◌≡◌, ◌+◌, ◌==◌, List, [], ◌∷◌, ◌++◌, take, length, slice_get, Option, Some, None, Result, Ok, Err, refl, sym, subst}
 use Rattle.std.proofs.lemmas.Bool.{cond_both}
 use Rattle.std.proofs.lemmas.Option.{slice_get_read}
 use Rattle.dwarf_base.specs.Faults.{Fault}
 use Rattle.dwarf_base.specs.Reads.{Text}
 use Rattle.dwarf_value.specs.declared.types.Value.{Value}
-use Rattle.dwarf_value.specs.declared.types.ValueType.{ValueType}
 use Rattle.dwarf_meaning.specs.Operations.{Operation}
 use Rattle.dwarf_meaning.specs.Locations.{Location, HoldsBytes, Piece}
-use Rattle.dwarf_meaning.specs.declared.kinds.WaitingKind.{WaitingKind}
 use Rattle.dwarf_meaning.specs.Requests as requests
 use Rattle.dwarf_meaning.specs.Requests.{Request, Answer, Input}
 use Rattle.dwarf_meaning.specs.Meaning.{Outcome, RequestOutcome, CompleteOutcome, First}
 use Rattle.dwarf_meaning.specs.Rest.{State}
 use Rattle.dwarf_meaning.specs.Run.{read}
 use Rattle.dwarf_meaning.proofs.OutcomeByInputs.{outcome_from}
-use Rattle.dwarf_meaning.specs.Steps.{Step, Resume, Log, RequestReply, inputs_after, after, after_step, after_steps, outcome_of}
+use Rattle.dwarf_meaning.specs.Steps.{Evaluate, InitialValue, MaxIterations, ObjectAddress, Step, Resume, Log, RequestReply, inputs_after, after, after_step, after_steps, outcome_of}
 use Rattle.dwarf_meaning.specs.Stores.{Setup}
 use Rattle.dwarf_meaning.specs.Refusals.{Refusal, Never}
 use Rattle.dwarf_replay.specs.Replays.{log_at}
 use Rattle.dwexpr_c.specs.Evaluated.{comes_of}
 use Rattle.dwexpr_c.specs.CodedOperations.{block_in}
-use Rattle.dwexpr_c.specs.Outcomes.{resume_or, step_coded}
-use Rattle.dwexpr_c.specs.CallerTexts.{IsAt, IsPlaced, text_in, AsksNowhere, HoldsNowhere, SomeNowhere}
-use Rattle.dwexpr_c.specs.Held.{given_at}
-use Rattle.dwexpr_c.specs.inner.Runs.{IsGiven}
-use Rattle.dwexpr_c.specs.declared.steps.DwexprStep.{DwexprStep}
-use Rattle.dwexpr_c.specs.declared.steps.DwexprText.{DwexprText}
-use Rattle.dwexpr_c.specs.declared.faults.TheConstants as codes
+use Rattle.dwexpr_c.specs.Settings.{step_if, steps_in}
+use Rattle.dwexpr_c.specs.CallerTexts.{IsAt, IsGiven, IsPlaced, AsksNowhere, HoldsNowhere, SomeNowhere}
+use Rattle.dwexpr_c.specs.declared.settings.DwexprSettings.{DwexprSettings}
+use Rattle.dwexpr_c.specs.declared.texts.DwexprText.{DwexprText}
 use Rattle.dwexpr_c.proofs.DecodedBlocks.{block_at}
 use Rattle.dwexpr_c.proofs.Carried.{OnBlock, OnRead, OnLocation, OnPieces, OnRequest, OnGiven, OnInputs, OnOutcome, Reads, meaning_holds}
 
@@ -81,39 +75,22 @@ module _ (texts : List DwexprText) where
   OnSteps [] = Unit {0}
   OnSteps (step ∷ steps) = OnStep step × OnSteps steps
 
-  abbrev OnSaid : Result Step ℕ → Type 0
-  OnSaid (Ok step) = OnStep step
-  OnSaid (Err code) = Unit {0}
+  on_append : (a b : List Step) → OnSteps a → OnSteps b → OnSteps (a ++ b)
+  on_append [] b h i = i
+  on_append (step ∷ a) b h i = (h.0, on_append a b h.1 i)
 
-  record IsSaid (r : Result Step ℕ) : Type 0 where
-    on : OnSaid r
+  on_step_if : (has : ℕ) (step : Step) → OnStep step → OnSteps (step_if has step)
+  on_step_if has step h = cond_both (has == 0) _ _ OnSteps (λ e. tt) (λ e. (h, tt))
 
-  said_if : (b : Bool) (x y : Result Step ℕ) → IsSaid x → IsSaid y → IsSaid (if b then x else y)
-  said_if b x y h i = cond_both b _ _ IsSaid (λ e. h) (λ e. i)
-
-  on_value : (kind : WaitingKind) (o : Option Value) → IsSaid (resume_or (requests.ValueAnswer kind) o codes.BAD_STEP)
-  on_value kind None = record { on = tt }
-  on_value kind (Some value) = record { on = tt }
-
-  on_type : (o : Option ValueType) → IsSaid (resume_or requests.BaseTypeAnswer o codes.BAD_STEP)
-  on_type None = record { on = tt }
-  on_type (Some t) = record { on = tt }
-
-  on_text : (big : Bool) (index : ℕ) (o : Option DwexprText) → slice_get texts index ≡ o → IsSaid (resume_or requests.LocationAnswer (option_map (text_in big) o) codes.BAD_TEXT)
-  on_text big index None e = record { on = tt }
-  on_text big index (Some text) e = record { on = record { index = index; at = text; is_there = e; same = refl } }
-
-  on_said : (big : Bool) (step : DwexprStep) → IsSaid (step_coded big texts step)
-  on_said big step = search (rules, said_if, on_value, on_type, on_text) depth 40
-
-  on_steps : (big : Bool) (numbers : List DwexprStep) (steps : List Step) → map (step_coded big texts) numbers ≡ map Ok steps → OnSteps steps
-  on_steps big [] [] e = tt
-  on_steps big [] (step ∷ steps) e = absurd cc
-  on_steps big (number ∷ numbers) [] e = absurd cc
-  on_steps big (number ∷ numbers) (step ∷ steps) e =
-      let one : step_coded big texts number ≡ Ok step = cc in
-      let more : map (step_coded big texts) numbers ≡ map Ok steps = cc in
-      (subst OnSaid one (on_said big number).on, on_steps big numbers steps more)
+  on_settings : (settings : DwexprSettings) → OnSteps (steps_in settings)
+  on_settings settings =
+      let maximum = MaxIterations settings.max_iterations ∷ [] in
+      let object = step_if settings.has_object_address (ObjectAddress settings.object_address) in
+      let initial = step_if settings.has_initial_value (InitialValue settings.initial_value) in
+      let on_object = on_step_if settings.has_object_address (ObjectAddress settings.object_address) tt in
+      let on_initial = on_step_if settings.has_initial_value (InitialValue settings.initial_value) tt in
+      on_append ((maximum ++ object) ++ initial) (Evaluate ∷ [])
+      (on_append (maximum ++ object) initial (on_append maximum object (tt, tt) on_object) on_initial) (tt, tt)
 
   snoc_inputs : (inputs : List Input) (input : Input) → OnInputs P inputs → OnGiven P input.answer → OnInputs P (inputs ++ input ∷ [])
   snoc_inputs [] input h i = (i, tt)
@@ -142,19 +119,19 @@ module _ (texts : List DwexprText) where
   on_outcome setup refusal text inputs None given h = tt
   on_outcome setup refusal text inputs (Some first) given h = meaning_holds P Q setup refusal text first inputs (reads setup) given h
 
-  module _ (first : State) (given : IsGiven texts first.text.bytes) (numbers : List DwexprStep) (steps : List Step) (said : map (step_coded first.text.is_big texts) numbers ≡ map Ok steps) where
-    comes : OnComes (comes_of (given_at first texts) steps)
+  module _ (first : State) (given : IsGiven texts first.text.bytes) (settings : DwexprSettings) where
+    comes : OnComes (comes_of first (steps_in settings))
     comes =
-        let log = after_steps first.setup Never first.text (log_at first) steps in
+        let log = after_steps first.setup Never first.text (log_at first) (steps_in settings) in
         on_outcome first.setup Never first.text log.inputs log.first given
-        (on_log first.setup Never first.text (log_at first) steps tt (on_steps first.text.is_big numbers steps said))
+        (on_log first.setup Never first.text (log_at first) (steps_in settings) tt (on_settings settings))
 
     request_somewhere : (request : Request) → OnRequest Q request → AsksNowhere texts (RequestReply request) → ⊥
     request_somewhere (requests.RequiresEntryValue text) h n = n h.text h.offset h.placed
     request_somewhere _ h n = n
 
     -- a block that is asked about is somewhere
-    pub asks_somewhere : (request : Request) (positions : List _) → comes_of (given_at first texts) steps ≡ Some (RequestOutcome request positions) → AsksNowhere texts (RequestReply request) → ⊥
+    pub asks_somewhere : (request : Request) (positions : List _) → comes_of first (steps_in settings) ≡ Some (RequestOutcome request positions) → AsksNowhere texts (RequestReply request) → ⊥
     asks_somewhere request positions e n = request_somewhere request (subst OnComes e comes) n
 
     location_somewhere : (location : Location) → OnLocation Q location → HoldsNowhere texts location → ⊥
@@ -167,7 +144,7 @@ module _ (texts : List DwexprText) where
     at_piece (other ∷ pieces) (suc index) piece e h = at_piece pieces index piece e h.1
 
     -- the bytes of a piece are
-    pub pieces_somewhere : (pieces : List Piece) (value : Option Value) → comes_of (given_at first texts) steps ≡ Some (CompleteOutcome pieces value) → SomeNowhere texts pieces → ⊥
+    pub pieces_somewhere : (pieces : List Piece) (value : Option Value) → comes_of first (steps_in settings) ≡ Some (CompleteOutcome pieces value) → SomeNowhere texts pieces → ⊥
     pieces_somewhere pieces value e some =
         let there : slice_get pieces some.0 ≡ Some some.1 = slice_get_read pieces (length pieces) some.0 some.1 refl some.2 (sym some.3) in
         location_somewhere some.1.location (at_piece pieces some.0 some.1 there (subst OnComes e comes)) some.4

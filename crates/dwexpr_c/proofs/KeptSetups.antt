@@ -1,10 +1,10 @@
 -- What a step keeps, the encoding and the limits, and the status that a reply leads to.
-use Rattle.std.proofs.Common.{ℕ, ◌≡◌, inl, inr, List, Result, Ok, Err, ap, ◌∙◌, refl, sym, subst}
+use Rattle.std.proofs.Common.{ℕ, ◌≡◌, Result, Ok, Err, ap, ◌∙◌, refl, sym, subst}
+use Rattle.std.specs.Prelude.{IsOkAnd}
 use Rattle.dwarf_base.specs.declared.errors.Error.{Error}
 use Rattle.dwarf_meaning.specs.Kinds.{kind_of_answer}
 use Rattle.dwarf_meaning.specs.Requests as requests
 use Rattle.dwarf_meaning.specs.Rest.{State, Status, Start, RequestStatus, CompleteStatus, FaultStatus}
-use Rattle.dwarf_meaning.specs.Stores.{Setup}
 use Rattle.dwarf_meaning.specs.Steps.{Step, InitialValue, ObjectAddress, MaxIterations, Evaluate, Resume, CompleteReply, RequestReply, FaultReply}
 use Rattle.dwarf_base.specs.Faults.{fault_of}
 use Rattle.dwarf_eval.specs.Evaluation.{Evaluates, Resumes, input_of, IsClosed, IsComplete, IsReplied, reply_of}
@@ -12,17 +12,8 @@ use Rattle.dwarf_eval.specs.Permits.{IsOpenFor}
 use Rattle.dwarf_eval.specs.declared.op.results.EvaluationResult.{EvaluationResult}
 use Rattle.dwarf_eval.specs.declared.op.results.EvaluationResult.TheVariants as replied
 use Rattle.dwarf_replay.specs.Stepping.{HasReplied, IsSet}
-use Rattle.dwexpr_c.specs.Held.{StandsAfter}
-use Rattle.dwexpr_c.specs.Outcomes.{step_coded}
-use Rattle.dwexpr_c.specs.StepEffects.{DoesStep, Stops}
 use Rattle.dwexpr_c.specs.CallerTexts.{text_of_placed}
-use Rattle.dwexpr_c.specs.declared.evaluating.Progress.{Progress}
-use Rattle.dwexpr_c.specs.declared.evaluating.Progress.TheVariants.{Set, Asked, Complete, Ended}
-use Rattle.dwexpr_c.specs.declared.faults.FaultNumbers.{FaultNumbers}
-use Rattle.dwexpr_c.specs.declared.outcomes.DwexprOutcome.{DwexprOutcome}
 use Rattle.dwexpr_c.specs.declared.places.Placed.{Placed}
-use Rattle.dwexpr_c.specs.declared.steps.DwexprStep.{DwexprStep}
-use Rattle.dwexpr_c.specs.declared.steps.DwexprText.{DwexprText}
 
 -- after the reply that it is complete
 pub complete_by : (status : Status) → IsReplied CompleteReply status → IsComplete status
@@ -74,27 +65,7 @@ module _ (x new : State) where
     replied_by (Resume answer) h = resumed answer x.status refl h.0 h.1
     replied_by _ h = absurd h
 
-  module _ (texts : List DwexprText) where
-    pub stop_keeps : (said : Result Step ℕ) (end : FaultNumbers) → Stops texts said x new end → new.setup ≡ x.setup
-    stop_keeps (Ok step) end (inl h) = same_keeps h.same
-    stop_keeps (Ok step) end (inr (inl h)) = (replied_by (Err h.error) step h.called).setup
-    stop_keeps (Ok step) end (inr (inr h)) = (replied_by (Ok h.result) step h.called).setup
-    stop_keeps (Err code) end h = same_keeps h.1
-
-    pub step_keeps : (said : Result Step ℕ) (index : ℕ) (before after : DwexprOutcome) (progress : Progress) → DoesStep texts said index x new before after progress → new.setup ≡ x.setup
-    step_keeps said index before after Ended h = stop_keeps said h.end h.stops
-    step_keeps (Ok step) index before after Set h = set_keeps step h.0
-    step_keeps (Ok step) index before after Asked h = (replied_by (Ok h.result) step h.called).setup
-    step_keeps (Ok step) index before after Complete h = (replied_by (Ok replied.Complete) step h).setup
-    step_keeps (Err code) index before after Set h = absurd h.0
-    step_keeps (Err code) index before after _ h = absurd h
-
-    pub step_completes : (said : Result Step ℕ) (index : ℕ) (before after : DwexprOutcome) → DoesStep texts said index x new before after Complete → IsComplete new.status
-    step_completes (Ok step) index before after h = complete_by new.status (replied_by (Ok replied.Complete) step h).status
-    step_completes (Err code) index before after h = absurd h
-
--- the limits stay as the steps lead on
-pub limits_stay : (first : State) (texts : List DwexprText) (numbers : List DwexprStep) (new : State) (out : DwexprOutcome) → StandsAfter first texts numbers new out → new.setup.limits ≡ first.setup.limits
-limits_stay first texts numbers new out (inl h) = ap (λ (s : Setup). s.limits) h.done.setup
-limits_stay first texts numbers new out (inr h) =
-    ap (λ (s : Setup). s.limits) (stop_keeps h.before new texts (step_coded first.text.is_big texts h.cut.at) h.end h.stops ∙ h.done.setup)
+    -- so it is after the answer that the numbers say
+    pub replied_said : (said : Result requests.Answer ℕ) → IsOkAnd said (λ answer. HasReplied text_of_placed (λ x. x) (Resume answer) x new result) → Replied
+    replied_said (Ok answer) h = replied_by (Resume answer) h
+    replied_said (Err code) h = absurd h

@@ -3,5 +3,5 @@ pub mod Carried
 pub mod Given
 pub mod KeptSetups
 pub mod StepsDone
-pub mod Runs
+pub mod Shown
 pub mod SettingsDone

@@ -6,7 +6,6 @@ pub mod CodedOperations
 pub mod Outcomes
 pub mod Settings
 pub mod Owned
-pub mod StepEffects
+pub mod Answered
 pub mod CallerTexts
 pub mod CodedValues
-pub mod inner

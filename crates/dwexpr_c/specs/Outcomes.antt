@@ -1,6 +1,5 @@
--- Requests, the steps that answer them, and what comes out, in the numbers of a caller in C (DWARF 5, sections 2.5 and
--- 2.6).
-use Rattle.std.specs.Prelude.{ℕ, ◌≡◌, List, Option, Some, None, length, ◌≤◌, pos, IfSome, is_some, slice_get, unwrap_or, ◌==◌, ◌^◌, Bool, Result, Ok, Err, nat_lt, if◌then◌else◌}
+-- Requests, their answers, and what comes out, in the numbers of a caller in C (DWARF 5, sections 2.5 and 2.6).
+use Rattle.std.specs.Prelude.{ℕ, ◌≡◌, List, Option, Some, None, length, ◌≤◌, pos, IfSome, is_some, slice_get, unwrap_or, ◌==◌, Bool, Result, Ok, Err, if◌then◌else◌}
 use Rattle.dwarf_value.specs.declared.types.Value.{Value}
 use Rattle.dwarf_meaning.specs.Operations as operations
 use Rattle.dwarf_meaning.specs.Requests as requests
@@ -10,16 +9,15 @@ use Rattle.dwexpr_c.specs.CodedOperations.{flag_of}
 use Rattle.dwexpr_c.specs.CallerTexts.{IsPlaced, text_at}
 use Rattle.dwexpr_c.specs.CodedValues.{shown_value, type_coded, value_coded}
 use Rattle.dwexpr_c.specs.declared.outcomes.DwexprOutcome.{DwexprOutcome}
-use Rattle.dwexpr_c.specs.declared.steps.DwexprText.{DwexprText}
+use Rattle.dwexpr_c.specs.declared.texts.DwexprText.{DwexprText}
 use Rattle.dwarf_meaning.specs.Locations.{Location, Empty, InRegister, AtAddress, HoldsValue, HoldsBytes, PointsInto, Piece}
 use Rattle.dwexpr_c.specs.declared.pieces.DwexprPiece.{DwexprPiece}
 use Rattle.dwarf_meaning.specs.declared.kinds.WaitingKind.TheVariants as kind
-use Rattle.dwarf_meaning.specs.Steps as meaning
-use Rattle.dwexpr_c.specs.declared.steps.DwexprStep.{DwexprStep}
+use Rattle.dwexpr_c.specs.declared.answers.DwexprAnswer.{DwexprAnswer}
 use Rattle.dwexpr_c.specs.declared.faults.TheConstants as codes
 use Rattle.dwexpr_c.specs.declared.piece_kinds.TheConstants as piece_kinds
 use Rattle.dwexpr_c.specs.declared.requests.TheConstants as shown
-use Rattle.dwexpr_c.specs.declared.step_kinds.TheConstants as step_kinds
+use Rattle.dwexpr_c.specs.declared.answer_kinds.TheConstants as kinds
 use Rattle.dwexpr_c.specs.declared.types.TheConstants as types
 
 -- all numbers are 0: nothing was evaluated
@@ -28,7 +26,6 @@ blank_outcome = record {
   code = 0;
   request = shown.NOTHING;
   detail = 0;
-  step = 0;
   number = 0;
   base_type = 0;
   space = 0;
@@ -47,9 +44,9 @@ blank_outcome = record {
 abbrev pub request_outcome : (request number : ℕ) → DwexprOutcome
 request_outcome request number = record blank_outcome { request = request; number = number }
 
--- the step at this index ended the evaluation, by this code
-abbrev pub ended_outcome : (code number step : ℕ) → DwexprOutcome
-ended_outcome code number step = record blank_outcome { code = code; detail = number; step = step }
+-- a fault, or an argument that isn't allowed, by its code and the number that it carries
+abbrev pub ended_outcome : (code number : ℕ) → DwexprOutcome
+ended_outcome code number = record blank_outcome { code = code; detail = number }
 
 -- a request and what it names, but for a block
 abbrev pub shown_request : Request → DwexprOutcome
@@ -102,35 +99,30 @@ complete_outcome pieces (Some value) =
       pieces = pieces;
     }
 
--- ---- steps
+-- ---- answers
 
 -- an answer with what the numbers say, or the code if they say nothing
-abbrev pub resume_or : {X : Type 0} → (X → requests.Answer) → Option X → (code : ℕ) → Result meaning.Step ℕ
-resume_or answer None code = Err code
-resume_or answer (Some x) code = Ok (meaning.Resume (answer x))
+abbrev pub answer_or : {X : Type 0} → (X → requests.Answer) → Option X → (code : ℕ) → Result requests.Answer ℕ
+answer_or answer None code = Err code
+answer_or answer (Some x) code = Ok (answer x)
 
--- the step that the numbers say, or the code if they say none
-abbrev pub step_coded : (big : Bool) → List DwexprText → DwexprStep → Result meaning.Step ℕ
-step_coded big texts step =
-    let value = value_coded step.value_type step.number in
-    if step.kind == step_kinds.SET_INITIAL_VALUE then Ok (meaning.InitialValue step.number)
-    else if step.kind == step_kinds.SET_OBJECT_ADDRESS then Ok (meaning.ObjectAddress step.number)
-    else if step.kind == step_kinds.SET_MAX_ITERATIONS then (if nat_lt step.number (2 ^ 32) then Ok (meaning.MaxIterations step.number)
-    else Err codes.BAD_STEP)
-    else if step.kind == step_kinds.EVALUATE then Ok meaning.Evaluate
-    else if step.kind == step_kinds.ANSWER_MEMORY then resume_or (requests.ValueAnswer kind.Memory) value codes.BAD_STEP
-    else if step.kind == step_kinds.ANSWER_REGISTER then resume_or (requests.ValueAnswer kind.Register) value codes.BAD_STEP
-    else if step.kind == step_kinds.ANSWER_WASM then resume_or (requests.ValueAnswer kind.WasmValue) value codes.BAD_STEP
-    else if step.kind == step_kinds.ANSWER_ENTRY_VALUE then resume_or (requests.ValueAnswer kind.EntryValue) value codes.BAD_STEP
-    else if step.kind == step_kinds.ANSWER_FRAME_BASE then Ok (meaning.Resume (requests.NumberAnswer kind.FrameBase step.number))
-    else if step.kind == step_kinds.ANSWER_TLS then Ok (meaning.Resume (requests.NumberAnswer kind.Tls step.number))
-    else if step.kind == step_kinds.ANSWER_CFA then Ok (meaning.Resume (requests.NumberAnswer kind.CallFrameCfa step.number))
-    else if step.kind == step_kinds.ANSWER_PARAMETER then Ok (meaning.Resume (requests.NumberAnswer kind.ParameterRef step.number))
-    else if step.kind == step_kinds.ANSWER_RELOCATED then Ok (meaning.Resume (requests.NumberAnswer kind.RelocatedAddress step.number))
-    else if step.kind == step_kinds.ANSWER_INDEXED then Ok (meaning.Resume (requests.NumberAnswer kind.IndexedAddress step.number))
-    else if step.kind == step_kinds.ANSWER_LOCATION then resume_or requests.LocationAnswer (text_at big texts step.text) codes.BAD_TEXT
-    else if step.kind == step_kinds.ANSWER_BASE_TYPE then resume_or requests.BaseTypeAnswer (type_coded step.value_type) codes.BAD_STEP
-    else Err codes.BAD_STEP
+-- the answer that the numbers say, or the code if they say none
+abbrev pub answer_coded : (big : Bool) → List DwexprText → DwexprAnswer → Result requests.Answer ℕ
+answer_coded big texts answer =
+    let value = value_coded answer.value_type answer.number in
+    if answer.kind == kinds.ANSWER_MEMORY then answer_or (requests.ValueAnswer kind.Memory) value codes.BAD_ANSWER
+    else if answer.kind == kinds.ANSWER_REGISTER then answer_or (requests.ValueAnswer kind.Register) value codes.BAD_ANSWER
+    else if answer.kind == kinds.ANSWER_WASM then answer_or (requests.ValueAnswer kind.WasmValue) value codes.BAD_ANSWER
+    else if answer.kind == kinds.ANSWER_ENTRY_VALUE then answer_or (requests.ValueAnswer kind.EntryValue) value codes.BAD_ANSWER
+    else if answer.kind == kinds.ANSWER_FRAME_BASE then Ok (requests.NumberAnswer kind.FrameBase answer.number)
+    else if answer.kind == kinds.ANSWER_TLS then Ok (requests.NumberAnswer kind.Tls answer.number)
+    else if answer.kind == kinds.ANSWER_CFA then Ok (requests.NumberAnswer kind.CallFrameCfa answer.number)
+    else if answer.kind == kinds.ANSWER_PARAMETER then Ok (requests.NumberAnswer kind.ParameterRef answer.number)
+    else if answer.kind == kinds.ANSWER_RELOCATED then Ok (requests.NumberAnswer kind.RelocatedAddress answer.number)
+    else if answer.kind == kinds.ANSWER_INDEXED then Ok (requests.NumberAnswer kind.IndexedAddress answer.number)
+    else if answer.kind == kinds.ANSWER_LOCATION then answer_or requests.LocationAnswer (text_at big texts answer.text) codes.BAD_TEXT
+    else if answer.kind == kinds.ANSWER_BASE_TYPE then answer_or requests.BaseTypeAnswer (type_coded answer.value_type) codes.BAD_ANSWER
+    else Err codes.BAD_ANSWER
 
 -- ---- pieces
 

@@ -62,10 +62,10 @@ pub(crate) const BAD_OFFSET: u32 = 65;
 /// The code of a text that isn't there.
 pub(crate) const BAD_TEXT: u32 = 66;
 
-/// The code of a step whose numbers say none.
-pub(crate) const BAD_STEP: u32 = 67;
+/// The code of an answer whose numbers say none.
+pub(crate) const BAD_ANSWER: u32 = 67;
 
-/// The code of a step that isn't allowed where it stands.
+/// The code of an answer that isn't allowed: no request of its kind is open.
 pub(crate) const MISPLACED: u32 = 68;
 
 /// The code of bytes that are in none of the texts. Only an evaluation that is held and is given other texts answers

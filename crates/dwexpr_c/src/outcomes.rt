@@ -8,7 +8,7 @@ ghost use Rattle.dwexpr_c.specs.CallerTexts.{text_of_placed, AsksNowhere};
 
 use crate::faults::{FaultNumbers, OK};
 use crate::places::Placed;
-use crate::steps::{DwexprText, place_of};
+use crate::texts::{DwexprText, place_of};
 use crate::values::{DwexprValue, NO_VALUE, numbers_of_value};
 use crate::{requests, types};
 use dwarf_base::Reader;
@@ -26,8 +26,6 @@ pub struct DwexprOutcome {
     pub request: u32,
     /// The number that a fault carries.
     pub detail: u64,
-    /// The index of the step that ended the evaluation, if the code isn't 0.
-    pub step: usize,
     /// An address, an index or an offset of an entry.
     pub number: u64,
     /// The offset in the unit of the type that the answer is to have; 0 for the generic type.
@@ -58,7 +56,6 @@ pub(crate) const BLANK: DwexprOutcome = DwexprOutcome {
     code: OK,
     request: requests::NOTHING,
     detail: 0,
-    step: 0,
     number: 0,
     base_type: 0,
     space: 0,
@@ -73,14 +70,13 @@ pub(crate) const BLANK: DwexprOutcome = DwexprOutcome {
     pieces: 0,
 };
 
-/// What is shown if a step ended the evaluation.
-pub(crate) fn show_end(fault: FaultNumbers, step: usize) -> DwexprOutcome
-    ensures { result ≡ ended_outcome fault.code fault.number step }
+/// What is shown of a fault, or of an argument that isn't allowed.
+pub(crate) fn show_end(fault: FaultNumbers) -> DwexprOutcome
+    ensures { result ≡ ended_outcome fault.code fault.number }
 {
     DwexprOutcome {
         code: fault.code,
         detail: fault.number,
-        step,
         ..BLANK
     }
 }

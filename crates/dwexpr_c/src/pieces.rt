@@ -8,7 +8,7 @@ ghost use Rattle.dwexpr_c.specs.declared.piece_kinds.TheConstants as piece_kinds
 ghost use Rattle.dwexpr_c.specs.CallerTexts.{text_of_placed, HoldsNowhere, IsNowhere, SomeNowhere};
 
 use crate::places::Placed;
-use crate::steps::{DwexprText, place_of};
+use crate::texts::{DwexprText, place_of};
 use crate::values::numbers_of_value;
 use crate::{piece_kinds, types};
 use dwarf_base::Reader;

@@ -1,32 +1,23 @@
-use Rattle.std.proofs.Common.{ap, refl, ◌∙◌}
+use Rattle.std.proofs.Common.{ap, inl, refl, ◌∙◌}
 use Rattle.dwarf_base.specs.ByteOrder.{is_big_of}
 use Rattle.dwarf_meaning.specs.Stores.{Setup}
-use Rattle.dwexpr_c.specs.Outcomes.{step_coded}
-use Rattle.dwexpr_c.specs.declared.evaluating.Progress.TheVariants.{Complete}
-use Rattle.dwexpr_c.proofs.KeptSetups.{step_completes, step_keeps}
+use Rattle.dwexpr_c.specs.Outcomes.{answer_coded}
+use Rattle.dwexpr_c.proofs.KeptSetups.{replied_said}
+use Rattle.dwexpr_c.proofs.Shown.{taken}
 use Rattle.dwexpr_c.proofs.holding.resume.Goals as goal
 
-pub returns-in-Set-clause-capacities : goal.returns-in-Set-clause-capacities
-returns-in-Set-clause-capacities c =
-    ap (λ (s : Setup). s.limits) (step_keeps c.args.held.now.evaluation c.do_answer.new.evaluation c.args.texts.now (step_coded (is_big_of c.args.held.now.order) c.args.texts.now c.args.step) 0 c.args.outcome.now c.do_answer.new.outcome c.do_answer.result c.do_answer.ensures) ∙ c.requires
+pub show_reply-requires : goal.show_reply-requires
+show_reply-requires c κs =
+    ((refl, tt), (replied_said c.args.held.now.evaluation c.resume_with.new.evaluation c.in-Ok.reply (answer_coded (is_big_of c.args.held.now.order) c.args.texts.now c.args.answer.now) c.in-Ok.ensures.ok).status)
 
-pub returns-in-Complete-clause-resumes : goal.returns-in-Complete-clause-resumes
-returns-in-Complete-clause-resumes c = record {
+pub returns-in-Ok-clause-resumes : goal.returns-in-Ok-clause-resumes
+returns-in-Ok-clause-resumes c = record {
   order = refl;
-  progress = Complete;
-  unfinished = c.do_answer.new.outcome;
-  does = c.in-Complete.ensures;
-  shown = c.show_results.ensures;
+  does =
+      inl (taken c.args.texts.now c.args.held.now.evaluation c.resume_with.new.evaluation c.show_reply.new.outcome c.args.places.now c.show_reply.new.places c.in-Ok.reply
+      (answer_coded (is_big_of c.args.held.now.order) c.args.texts.now c.args.answer.now) c.in-Ok.ensures.ok c.show_reply.ensures);
 }
 
-pub returns-in-Complete-clause-capacities : goal.returns-in-Complete-clause-capacities
-returns-in-Complete-clause-capacities c =
-    ap (λ (s : Setup). s.limits) (step_keeps c.args.held.now.evaluation c.do_answer.new.evaluation c.args.texts.now (step_coded (is_big_of c.args.held.now.order) c.args.texts.now c.args.step) 0 c.args.outcome.now c.do_answer.new.outcome c.do_answer.result c.do_answer.ensures) ∙ c.requires
-
-pub returns-in-Asked-clause-capacities : goal.returns-in-Asked-clause-capacities
-returns-in-Asked-clause-capacities c =
-    ap (λ (s : Setup). s.limits) (step_keeps c.args.held.now.evaluation c.do_answer.new.evaluation c.args.texts.now (step_coded (is_big_of c.args.held.now.order) c.args.texts.now c.args.step) 0 c.args.outcome.now c.do_answer.new.outcome c.do_answer.result c.do_answer.ensures) ∙ c.requires
-
-pub show_results-requires : goal.show_results-requires
-show_results-requires c κs =
-    ((refl, tt), step_completes c.args.held.now.evaluation c.do_answer.new.evaluation c.args.texts.now (step_coded (is_big_of c.args.held.now.order) c.args.texts.now c.args.step) 0 c.args.outcome.now c.do_answer.new.outcome c.in-Complete.ensures)
+pub returns-in-Ok-clause-capacities : goal.returns-in-Ok-clause-capacities
+returns-in-Ok-clause-capacities c =
+    ap (λ (s : Setup). s.limits) (replied_said c.args.held.now.evaluation c.resume_with.new.evaluation c.in-Ok.reply (answer_coded (is_big_of c.args.held.now.order) c.args.texts.now c.args.answer.now) c.in-Ok.ensures.ok).setup ∙ c.requires

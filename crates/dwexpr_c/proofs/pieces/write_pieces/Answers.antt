@@ -6,7 +6,7 @@ use Rattle.std.proofs.lemmas.Option.{slice_get_past, slice_get-map, slice_get_wi
 use Rattle.dwarf_meaning.specs.Locations.{Piece}
 use Rattle.dwexpr_c.specs.Outcomes.{ShowsPiece}
 use Rattle.dwexpr_c.specs.declared.pieces.DwexprPiece.{DwexprPiece}
-use Rattle.dwexpr_c.specs.declared.steps.DwexprText.{DwexprText}
+use Rattle.dwexpr_c.specs.declared.texts.DwexprText.{DwexprText}
 use Rattle.std.proofs.lemmas.List.{length-map}
 use Rattle.dwarf_op.specs.Views.{piece_of}
 use Rattle.dwexpr_c.specs.CallerTexts.{text_of_placed}

@@ -6,7 +6,7 @@ use Rattle.std.specs.Option.{IfSome}
 use Rattle.dwarf_meaning.specs.Locations.{Piece}
 use Rattle.dwexpr_c.specs.Outcomes.{ShowsPiece}
 use Rattle.dwexpr_c.specs.declared.pieces.DwexprPiece.{DwexprPiece}
-use Rattle.dwexpr_c.specs.declared.steps.DwexprText.{DwexprText}
+use Rattle.dwexpr_c.specs.declared.texts.DwexprText.{DwexprText}
 
 -- at this index the piece is shown, if there is one
 abbrev pub ShownAt : List DwexprText → Option Piece → Option DwexprPiece → Type 0

@@ -1,21 +1,11 @@
-//! Texts and steps in numbers, and where in the texts a block is.
+//! A caller's texts, and where in them a block is.
 
-ghost use Rattle.std.specs.Prelude.{ℕ, ◌≡◌, Some, None, IfSome, IfNone, IfOk, IfErr, Ok, Err, ok_or, option_map, true, false};
+ghost use Rattle.std.specs.Prelude.{ℕ, ◌≡◌, ◌<◌, IfSome, IfNone, option_map, true, false};
 ghost use Rattle.dwarf_base.specs.ByteOrder.{is_big_of};
-ghost use Rattle.dwarf_replay.specs.Stepping as stepping;
-ghost use Rattle.dwexpr_c.specs.Outcomes.{step_coded};
-ghost use Rattle.dwexpr_c.specs.CodedValues.{value_coded};
-ghost use Rattle.dwexpr_c.specs.CallerTexts.{IsAt, IsPlaced, text_at, text_of_placed, IsNowhere};
-ghost use Rattle.dwexpr_c.specs.inner.Runs.{IsGiven};
-ghost use Rattle.dwexpr_c.specs.declared.faults.TheConstants as codes;
+ghost use Rattle.dwexpr_c.specs.CallerTexts.{IsAt, IsGiven, IsNowhere, IsPlaced, text_at, text_of_placed};
 
-use crate::faults::{BAD_STEP, BAD_TEXT};
 use crate::places::Placed;
-use crate::step_kinds;
-use crate::values::{type_of_code, value_of};
 use dwarf_base::RunTimeEndian;
-use dwarf_replay::Step;
-use dwarf_value::Value;
 
 /// The bytes of an expression.
 #[repr(C)]
@@ -23,20 +13,6 @@ use dwarf_value::Value;
 pub struct DwexprText<'a> {
     /// A pointer, and how many.
     pub bytes: &'a [u8],
-}
-
-/// A step of an evaluation, in the numbers of a caller, of which any may be wrong.
-#[repr(C)]
-#[derive(Clone, Copy)]
-pub struct DwexprStep {
-    /// Its kind.
-    pub kind: u32,
-    /// The type of a value, or the base type.
-    pub value_type: u32,
-    /// A number, or the lowest bits of a value.
-    pub number: u64,
-    /// The index of a text.
-    pub text: usize,
 }
 
 /// Where bytes are in the texts of a caller.
@@ -97,6 +73,8 @@ fn expected_place(texts: &[DwexprText<'_>], block: Placed<'_>) -> Option<Place>
 /// The first place of a text at which the bytes are.
 fn find_in(text: &[u8], block: &[u8]) -> Option<usize>
     ensures some { IfSome result (λ place. IsAt text.now place block.now) }
+    ensures first { IfSome result
+        (λ place. (before : ℕ) → before < place → IsAt text.now before block.now → ⊥) }
     ensures none { IfNone result ((place : ℕ) → IsAt text.now place block.now → ⊥) }
 {
     for place in 0..text.len() {
@@ -113,7 +91,9 @@ fn find_in(text: &[u8], block: &[u8]) -> Option<usize>
 /// The first place of the text at an index at which the bytes are.
 fn find_at(texts: &[DwexprText<'_>], text: usize, block: &[u8]) -> Option<Place>
     ensures some { IfSome result
-        (λ place. IsPlaced texts.now place.text place.offset block.now) }
+        (λ place. (place.text ≡ text) × IsPlaced texts.now text place.offset block.now) }
+    ensures first { IfSome result
+        (λ place. (before : ℕ) → before < place.offset → IsPlaced texts.now text before block.now → ⊥) }
     ensures none { IfNone result
         ((offset : ℕ) → IsPlaced texts.now text offset block.now → ⊥) }
 {
@@ -125,6 +105,12 @@ fn find_at(texts: &[DwexprText<'_>], text: usize, block: &[u8]) -> Option<Place>
 fn find(texts: &[DwexprText<'_>], block: &[u8]) -> Option<Place>
     ensures some { IfSome result
         (λ place. IsPlaced texts.now place.text place.offset block.now) }
+    ensures first_text { IfSome result
+        (λ place. (text : ℕ) → text < place.text → (offset : ℕ)
+        → IsPlaced texts.now text offset block.now → ⊥) }
+    ensures first_offset { IfSome result
+        (λ place. (offset : ℕ) → offset < place.offset
+        → IsPlaced texts.now place.text offset block.now → ⊥) }
     ensures none { IfNone result (IsNowhere texts.now block.now) }
 {
     for text in 0..texts.len() {
@@ -147,51 +133,4 @@ pub(crate) fn place_of(texts: &[DwexprText<'_>], block: Placed<'_>) -> Option<Pl
         Some(place) => Some(place),
         None => find(texts, block.bytes()),
     }
-}
-
-/// The value that a step gives, or the code if its numbers say none.
-fn value_in(step: DwexprStep) -> Result<Value, u32>
-    ensures { result ≡ ok_or (value_coded step.value_type step.number) codes.BAD_STEP }
-{
-    value_of(step.value_type, step.number).ok_or(BAD_STEP)
-}
-
-/// The step that the numbers say, or the code if they say none.
-pub(crate) fn step_of<'a>(
-    texts: &[DwexprText<'a>],
-    order: RunTimeEndian,
-    step: DwexprStep,
-) -> Result<Step<Placed<'a>>, u32>
-    ensures ok { IfOk result
-        (λ said. step_coded (is_big_of order) texts.now step
-        ≡ Ok (stepping.step_of text_of_placed said)) }
-    ensures err { IfErr result (λ code. step_coded (is_big_of order) texts.now step ≡ Err code) }
-{
-    let number = step.number;
-    Ok(match step.kind {
-        step_kinds::SET_INITIAL_VALUE => Step::InitialValue(number),
-        step_kinds::SET_OBJECT_ADDRESS => Step::ObjectAddress(number),
-        step_kinds::SET_MAX_ITERATIONS => match u32::try_from(number) {
-            Ok(maximum) => Step::MaxIterations(maximum),
-            Err(_) => return Err(BAD_STEP),
-        },
-        step_kinds::EVALUATE => Step::Evaluate,
-        step_kinds::ANSWER_MEMORY => Step::Memory(value_in(step)?),
-        step_kinds::ANSWER_REGISTER => Step::Register(value_in(step)?),
-        step_kinds::ANSWER_WASM => Step::WasmValue(value_in(step)?),
-        step_kinds::ANSWER_ENTRY_VALUE => Step::EntryValue(value_in(step)?),
-        step_kinds::ANSWER_FRAME_BASE => Step::FrameBase(number),
-        step_kinds::ANSWER_TLS => Step::Tls(number),
-        step_kinds::ANSWER_CFA => Step::CallFrameCfa(number),
-        step_kinds::ANSWER_PARAMETER => Step::ParameterRef(number),
-        step_kinds::ANSWER_RELOCATED => Step::RelocatedAddress(number),
-        step_kinds::ANSWER_INDEXED => Step::IndexedAddress(number),
-        step_kinds::ANSWER_LOCATION => Step::AtLocation(text_at(texts, order, step.text).ok_or(
-            BAD_TEXT,
-        )?),
-        step_kinds::ANSWER_BASE_TYPE => Step::BaseType(type_of_code(step.value_type).ok_or(
-            BAD_STEP,
-        )?),
-        _ => return Err(BAD_STEP),
-    })
 }

@@ -1,6 +1,6 @@
 use Rattle.std.proofs.Common.{ℕ, ◌<◌}
 use Rattle.dwexpr_c.specs.CallerTexts.{IsAt}
-use Rattle.dwexpr_c.proofs.steps.find_in.Given as goal
+use Rattle.dwexpr_c.proofs.texts.find_in.Given as goal
 
 -- it is at no place before this one
 abbrev pub invariant-loop-place : goal.invariant-loop-place

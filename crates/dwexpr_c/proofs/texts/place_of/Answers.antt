@@ -1,6 +1,6 @@
 use Rattle.std.proofs.Common.{ℕ, List, IfNone, subst}
 use Rattle.dwexpr_c.specs.CallerTexts.{IsNowhere}
-use Rattle.dwexpr_c.proofs.steps.place_of.Goals as goal
+use Rattle.dwexpr_c.proofs.texts.place_of.Goals as goal
 
 pub returns-in-None-clause-none : goal.returns-in-None-clause-none
 returns-in-None-clause-none c =

@@ -1,6 +1,6 @@
 use Rattle.std.proofs.Common.{ℕ, ◌<◌}
 use Rattle.dwexpr_c.specs.CallerTexts.{IsPlaced}
-use Rattle.dwexpr_c.proofs.steps.find.Given as goal
+use Rattle.dwexpr_c.proofs.texts.find.Given as goal
 
 -- it is in none of the texts before this one
 abbrev pub invariant-loop-text : goal.invariant-loop-text

@@ -1,7 +1,7 @@
 use Rattle.std.proofs.Common.{◌≡◌, ◌≤◌, ◌+◌, ◌-◌, ℕ, List, length, length-drop, drop, take, ap, arith, ◌∙◌, sym, subst}
 use Rattle.std.proofs.lemmas.List.{take_all}
 use Rattle.std.specs.Cmp.Lexicographic.{same_text, other_text}
-use Rattle.dwexpr_c.proofs.steps.is_there.Goals as goal
+use Rattle.dwexpr_c.proofs.texts.is_there.Goals as goal
 
 pub returns-then-place-text-clause-yes : goal.returns-then-place-text-clause-yes
 returns-then-place-text-clause-yes c h =

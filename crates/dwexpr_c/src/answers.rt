@@ -1,0 +1,164 @@
+//! Answers in numbers, and the resumes that take them.
+
+ghost use Rattle.std.specs.Prelude.{◌≡◌, IfErr, IfOk, IsOkAnd, ok_or};
+ghost use Rattle.dwarf_base.specs.ByteOrder.{is_big_of};
+ghost use Rattle.dwarf_eval.specs.Permits.{IsOpenFor};
+ghost use Rattle.dwarf_meaning.specs.Steps.{Resume};
+ghost use Rattle.dwarf_replay.specs.Stepping.{HasReplied};
+ghost use Rattle.dwexpr_c.specs.Answered.{IsRefused};
+ghost use Rattle.dwexpr_c.specs.CallerTexts as caller;
+ghost use Rattle.dwexpr_c.specs.CallerTexts.{text_of_placed};
+ghost use Rattle.dwexpr_c.specs.CodedValues.{type_coded, value_coded};
+ghost use Rattle.dwexpr_c.specs.Outcomes.{answer_coded};
+ghost use Rattle.dwexpr_c.specs.declared.faults.TheConstants as codes;
+
+use crate::answer_kinds;
+use crate::faults::{BAD_ANSWER, BAD_TEXT, MISPLACED};
+use crate::places::Placed;
+use crate::texts::{DwexprText, text_at};
+use crate::values::{type_of_code, value_of};
+use dwarf_base::{Error, RunTimeEndian};
+use dwarf_eval::eval::{Evaluation, WaitingKind};
+use dwarf_eval::op::EvaluationResult;
+use dwarf_eval::store::EvaluationStorage;
+use dwarf_value::{Value, ValueType};
+
+/// The answer to a request, in the numbers of a caller, of which any may be wrong.
+#[repr(C)]
+#[derive(Clone, Copy)]
+pub struct DwexprAnswer {
+    /// Its kind.
+    pub kind: u32,
+    /// The type of a value, or the base type.
+    pub value_type: u32,
+    /// A number, or the lowest bits of a value.
+    pub number: u64,
+    /// The index of a text.
+    pub text: usize,
+}
+
+/// What a call of an evaluation replies.
+pub(crate) type Reply<'a> = Result<EvaluationResult<Placed<'a>>, Error>;
+
+/// The value of an answer, or the code if its numbers say none.
+#[inline(always)]
+fn value_in(answer: &DwexprAnswer) -> Result<Value, u32>
+    ensures { result ≡ ok_or (value_coded answer.now.value_type answer.now.number) codes.BAD_ANSWER }
+{
+    value_of(answer.value_type, answer.number).ok_or(BAD_ANSWER)
+}
+
+/// The type of an answer, or the code if its number says none.
+#[inline(always)]
+fn type_in(answer: &DwexprAnswer) -> Result<ValueType, u32>
+    ensures { result ≡ ok_or (type_coded answer.now.value_type) codes.BAD_ANSWER }
+{
+    type_of_code(answer.value_type).ok_or(BAD_ANSWER)
+}
+
+/// The text of an answer, or the code if there is none at its index.
+#[inline(always)]
+fn text_in<'a>(
+    texts: &[DwexprText<'a>],
+    order: RunTimeEndian,
+    answer: &DwexprAnswer,
+) -> Result<Placed<'a>, u32>
+    ensures ok { IfOk result
+        (λ placed. caller.text_at (is_big_of order) texts.now answer.now.text ≡ Some (text_of_placed placed)) }
+    ensures err { IfErr result
+        (λ code. (code ≡ codes.BAD_TEXT) × (caller.text_at (is_big_of order) texts.now answer.now.text ≡ None)) }
+{
+    text_at(texts, order, answer.text).ok_or(BAD_TEXT)
+}
+
+/// Whether the evaluation takes an answer of a kind, or the code if it doesn't.
+#[inline(always)]
+fn allow<'a, S: EvaluationStorage<Placed<'a>>>(
+    evaluation: &Evaluation<Placed<'a>, S>,
+    kind: WaitingKind,
+) -> Result<(), u32>
+    ensures ok { IfOk result (λ unit. IsOpenFor kind evaluation.now.status) }
+    ensures err { IfErr result
+        (λ code. (code ≡ codes.MISPLACED) × (IsOpenFor kind evaluation.now.status → ⊥)) }
+{
+    if evaluation.is_open_for(kind) {
+        Ok(())
+    } else {
+        Err(MISPLACED)
+    }
+}
+
+/// Goes on with an answer; or the code if its numbers say none or it isn't allowed, which changes nothing.
+#[inline(always)]
+pub(crate) fn resume_with<'a, S: EvaluationStorage<Placed<'a>>>(
+    evaluation: &mut Evaluation<Placed<'a>, S>,
+    texts: &[DwexprText<'a>],
+    order: RunTimeEndian,
+    answer: &DwexprAnswer,
+) -> Result<Reply<'a>, u32>
+    ensures ok { IfOk result
+        (λ reply. IsOkAnd (answer_coded (is_big_of order) texts.now answer.now)
+        (λ said. HasReplied text_of_placed (λ x. x) (Resume said) evaluation.old evaluation.new reply)) }
+    ensures err { IfErr result
+        (λ code. IsRefused (answer_coded (is_big_of order) texts.now answer.now) code evaluation.old.status
+        × (evaluation.new ≡ evaluation.old)) }
+{
+    let number = answer.number;
+    Ok(match answer.kind {
+        answer_kinds::ANSWER_MEMORY => {
+            let value = value_in(answer)?;
+            allow(evaluation, WaitingKind::Memory)?;
+            evaluation.resume_with_memory(value)
+        }
+        answer_kinds::ANSWER_REGISTER => {
+            let value = value_in(answer)?;
+            allow(evaluation, WaitingKind::Register)?;
+            evaluation.resume_with_register(value)
+        }
+        answer_kinds::ANSWER_WASM => {
+            let value = value_in(answer)?;
+            allow(evaluation, WaitingKind::WasmValue)?;
+            evaluation.resume_with_wasm_value(value)
+        }
+        answer_kinds::ANSWER_ENTRY_VALUE => {
+            let value = value_in(answer)?;
+            allow(evaluation, WaitingKind::EntryValue)?;
+            evaluation.resume_with_entry_value(value)
+        }
+        answer_kinds::ANSWER_FRAME_BASE => {
+            allow(evaluation, WaitingKind::FrameBase)?;
+            evaluation.resume_with_frame_base(number)
+        }
+        answer_kinds::ANSWER_TLS => {
+            allow(evaluation, WaitingKind::Tls)?;
+            evaluation.resume_with_tls(number)
+        }
+        answer_kinds::ANSWER_CFA => {
+            allow(evaluation, WaitingKind::CallFrameCfa)?;
+            evaluation.resume_with_call_frame_cfa(number)
+        }
+        answer_kinds::ANSWER_PARAMETER => {
+            allow(evaluation, WaitingKind::ParameterRef)?;
+            evaluation.resume_with_parameter_ref(number)
+        }
+        answer_kinds::ANSWER_RELOCATED => {
+            allow(evaluation, WaitingKind::RelocatedAddress)?;
+            evaluation.resume_with_relocated_address(number)
+        }
+        answer_kinds::ANSWER_INDEXED => {
+            allow(evaluation, WaitingKind::IndexedAddress)?;
+            evaluation.resume_with_indexed_address(number)
+        }
+        answer_kinds::ANSWER_LOCATION => {
+            let text = text_in(texts, order, answer)?;
+            allow(evaluation, WaitingKind::AtLocation)?;
+            evaluation.resume_with_at_location(text)
+        }
+        answer_kinds::ANSWER_BASE_TYPE => {
+            let base_type = type_in(answer)?;
+            allow(evaluation, WaitingKind::BaseType)?;
+            evaluation.resume_with_base_type(base_type)
+        }
+        _ => return Err(BAD_ANSWER),
+    })
+}

@@ -1,5 +1,5 @@
 -- The end of a run.
-use Rattle.std.proofs.Common.{ℕ, suc, ◌≡◌, ◌+◌, ◌≤◌, ◌==◌, true, false, List, [], ◌∷◌, length, Option, Some, None, Ok, Err, arith, ap, ◌∙◌, sym, refl, subst, cond}
+use Rattle.std.proofs.Common.{ℕ, suc, ◌≡◌, ◌+◌, ◌≤◌, ◌==◌, true, false, List, [], ◌∷◌, length, Option, Some, None, arith, ap, ◌∙◌, sym, refl, subst, cond}
 use Rattle.std.proofs.lemmas.Bool.{cond-true, cond-false}
 use Rattle.std.proofs.lemmas.Bool.Decides.{nat_tests}
 use Rattle.std.proofs.lemmas.List.{length-append}
@@ -86,25 +86,6 @@ finish_as last old new e h =
     closes_as (λ s. finish_by old.setup s old.store.last) (finish old.setup) more more old old new (omega arith) (stays_here old) (λ r. refl) (λ s status. refl)
     (subst (λ (l : Last). Closes (waits_of l) (λ s. finish_by old.setup s l) old new) (sym e) h)
 
--- with the pieces, if there are any and neither a value nor a location follows them
-pub pieces_close : (last : Last) (old new : State) → old.store.last ≡ last
-    → ((s : Store) → finish_by old.setup s last ≡ cond (has_pieces s.pieces) (CompleteOutcome s.pieces None) (finish_value old.setup s))
-    → has_pieces old.store.pieces ≡ true → new ≡ with_status (CompleteStatus None) old → Closes (waits_of old.store.last) (finish old.setup) old new
-pieces_close last old new e by some is =
-    subst (Closes (waits_of old.store.last) (finish old.setup) old) (sym is) (record {
-      steps = record {
-        pushes = 0;
-        same = λ r.
-            ap (finish_by old.setup (with_refusal r old.store)) e
-            ∙ (by (with_refusal r old.store)
-            ∙ cond-true (has_pieces old.store.pieces) (CompleteOutcome old.store.pieces None) (finish_value old.setup (with_refusal r old.store)) some);
-      };
-      alone = refl;
-      kept = record { setup = refl; settings = refl };
-      count = refl;
-      items = omega arith;
-    })
-
 -- with the value on top, without pieces, if no location waits
 pub finish_plain : (last : Last) (old new : State) → old.store.last ≡ last → is_free last ≡ true → has_pieces old.store.pieces ≡ false → Closes 0 (finish_value old.setup) old new → Closes (waits_of old.store.last) (finish old.setup) old new
 finish_plain (Located location) old new e free none h = cc
@@ -114,7 +95,7 @@ finish_plain last old new e free none h = finish_as last old new e (closes_else 
 abbrev pub top_done : Setup → Store → Value → List Value → Outcome
 top_done setup s x rest = completion_of (Some x) (push_piece setup (whole_piece (AtAddress (to_u64_of (address_bits setup) x))) (record s { values = rest }))
 
-pub value_closes : (x : Value) (old low new : State) → Pops (Ok x) old low → Closes 1 (λ s. completion_of (Some x) (push_piece low.setup (whole_piece (AtAddress (to_u64_of (address_bits low.setup) x))) s)) low new → Closes 0 (finish_value old.setup) old new
+pub value_closes : (x : Value) (old low new : State) → Pops (Some x) old low → Closes 1 (λ s. completion_of (Some x) (push_piece low.setup (whole_piece (AtAddress (to_u64_of (address_bits low.setup) x))) s)) low new → Closes 0 (finish_value old.setup) old new
 value_closes x old low new h t =
     let rest = h.0 in
     let there = subst (λ (z : State). Closes 1 (λ s. completion_of (Some x) (push_piece z.setup (whole_piece (AtAddress (to_u64_of (address_bits z.setup) x))) s)) z new) h.2 t in
@@ -122,9 +103,9 @@ value_closes x old low new h t =
     closes_as (λ s. completion_of (Some x) (push_piece old.setup (whole_piece (AtAddress (to_u64_of (address_bits old.setup) x))) s)) (finish_value old.setup) 1 0 old (with_values rest old) new (omega (arith, values)) (stays_low rest old.store.last old (with_values rest old) (fewer_one x rest old.store.values h.1) refl)
     (λ r. top_some old.store.values (FaultOutcome NotEnoughStackItems) (top_done old.setup (with_refusal r old.store)) x rest h.1) (λ s status. refl) there
 
-pub value_none : (old low : State) (met : Error) → Pops (Err met) old low → Closes 0 (finish_value old.setup) old (with_status (FaultStatus met) low)
-value_none old low met h =
-    ends_in 0 (finish_value old.setup) error.NotEnoughStackItems old low (with_status (FaultStatus met) low) (stays_popped (Err met) old low h) (ap (λ (e : Error). with_status (FaultStatus e) low) h.2)
+pub value_none : (old low new : State) → Pops None old low → new ≡ with_status (FaultStatus error.NotEnoughStackItems) low → Closes 0 (finish_value old.setup) old new
+value_none old low new h is =
+    ends_in 0 (finish_value old.setup) error.NotEnoughStackItems old low new (stays_popped None old low h) is
     (top_none old.store.values (FaultOutcome NotEnoughStackItems) (top_done old.setup (with_refusal Never old.store)) h.0)
 
 -- ---- the end of a text

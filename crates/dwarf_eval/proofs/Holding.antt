@@ -1,5 +1,5 @@
 -- A location that waits for its piece.
-use Rattle.std.proofs.Common.{ℕ, ◌≡◌, ◌+◌, ◌-◌, ◌<◌, cond, List, [], ◌∷◌, ◌++◌, length, Result, Ok, Err, Option, arith, ap, ◌∙◌, sym, refl, subst}
+use Rattle.std.proofs.Common.{ℕ, ◌≡◌, ◌+◌, ◌-◌, ◌<◌, Bool, true, false, cond, List, [], ◌∷◌, ◌++◌, length, Result, Ok, Err, Option, arith, ap, ◌∙◌, sym, refl, subst}
 use Rattle.std.proofs.lemmas.List.{length-append}
 use Rattle.dwarf_base.specs.declared.errors.Error.{Error}
 use Rattle.dwarf_base.specs.declared.errors.Error.TheVariants as error
@@ -18,7 +18,7 @@ use Rattle.dwarf_meaning.specs.Rest.{State, Running, FaultStatus, with_refusal, 
 use Rattle.dwarf_meaning.specs.Refusals.{Refusal, Never}
 use Rattle.dwarf_meaning.specs.Bounds.{is_given, endings}
 use Rattle.dwarf_meaning.specs.Inputs.{with_status}
-use Rattle.dwarf_eval.specs.inner.StateChanges.{ChangesStoreBy, Refused, Tries, with_fault, ReadsOperation, EndsLocated, total, ComesToStateBy, Turns, read_to, with_last, before_pushes}
+use Rattle.dwarf_eval.specs.inner.StateChanges.{ChangesStoreBy, Refused, TriesChange, ReadsOperation, EndsLocated, total, ComesToStateBy, Turns, read_to, with_last, before_pushes}
 use Rattle.dwarf_eval.proofs.Loads.{endings_more, piece_due, kept_in, piece_stored}
 use Rattle.dwarf_eval.proofs.Spending.{nears_by, held_spends}
 use Rattle.dwarf_eval.proofs.Staying.{stays_status}
@@ -114,19 +114,19 @@ module _ (x : State) (location : Location) (runs : x.status ≡ Running) (inside
           ∙ course_failed x.store.count x.setup x.callers (fault_of h.error))
           (reads_piece place_then Pieced) h.stays
 
-      piece_turns : {A : Type 0} (new : State) (result : Result A Error) → Tries 0 (push_piece x.setup piece) mid new result → Turns x (with_fault result new)
-      piece_turns new (Ok done) h = piece_turned new h
-      piece_turns new (Err error) h = piece_falls (with_status (FaultStatus error) new) h
+      piece_turns : (new : State) (done : Bool) → TriesChange 0 (push_piece x.setup piece) mid new done → Turns x new
+      piece_turns new true h = piece_turned new h
+      piece_turns new false h = piece_falls new h
 
 -- ---- as the machine does it
 
 module _ (x : State) (location : Location) (runs : x.status ≡ Running) (inside : x.place < length x.text.bytes) (waits : x.store.last ≡ Located location) (beyond new : State) where
-  pub hold_unread : (error : Error) → read x.setup x.text x.place ≡ Err (fault_of error) → beyond ≡ read_to beyond.place x → Turns x (with_status (FaultStatus error) beyond)
-  hold_unread error was moved = held_unread x location runs inside waits beyond.place (with_status (FaultStatus error) beyond) error (ap (with_status (FaultStatus error)) moved) was
+  pub hold_unread : (error : Error) → read x.setup x.text x.place ≡ Err (fault_of error) → beyond ≡ read_to beyond.place x → new ≡ with_status (FaultStatus error) beyond → Turns x new
+  hold_unread error was moved is = held_unread x location runs inside waits beyond.place new error (is ∙ ap (with_status (FaultStatus error)) moved) was
 
-  hold_read : {A : Type 0} (result : Result A Error) (op : Operation) (left : List ℕ) → read x.setup x.text x.place ≡ Ok (op, left) → EndsLocated location op (read_to (length x.text.bytes - length left) x) new result → Turns x (with_fault result new)
-  hold_read result (operation.Piece size_in_bits bit_offset) left was h = piece_turns x location runs inside waits (operation.Piece size_in_bits bit_offset) left was size_in_bits bit_offset refl new result h
-  hold_read result op left was h = held_other x location runs inside waits op left was (with_fault result new) refl h
+  hold_read : (op : Operation) (left : List ℕ) → read x.setup x.text x.place ≡ Ok (op, left) → EndsLocated location op (read_to (length x.text.bytes - length left) x) new → Turns x new
+  hold_read (operation.Piece size_in_bits bit_offset) left was h = piece_turns x location runs inside waits (operation.Piece size_in_bits bit_offset) left was size_in_bits bit_offset refl new h.0 h.1
+  hold_read op left was h = held_other x location runs inside waits op left was new refl h
 
-  pub hold_turns : {A : Type 0} (result : Result A Error) (op : Operation) → ReadsOperation op x beyond → EndsLocated location op beyond new result → Turns x (with_fault result new)
-  hold_turns result op r h = hold_read result op r.beyond r.was (subst (λ (z : State). EndsLocated location op z new result) r.moved h)
+  pub hold_turns : (op : Operation) → ReadsOperation op x beyond → EndsLocated location op beyond new → Turns x new
+  hold_turns op r h = hold_read op r.beyond r.was (subst (λ (z : State). EndsLocated location op z new) r.moved h)

@@ -1,8 +1,6 @@
 -- How the machine's lists and sorts are seen: the last item is the top of the stack, or the innermost caller.
 use Rattle.std.proofs.Common.{◌≡◌, Option, Some, None, List, [], ◌∷◌, ◌++◌, reverse, sym, ap, ◌∙◌, length, map, false, refl}
 use Rattle.std.specs.Prelude.{option_to_list, IfNone}
-use Rattle.std.specs.Option.{ok_or}
-use Rattle.dwarf_base.specs.declared.errors.Error.TheVariants.{NotEnoughStackItems}
 use Rattle.std.proofs.lemmas.List.{reverse-append, append-nil, map-append, length-reverse, length-map}
 use Rattle.dwarf_value.specs.declared.types.Value.{Value}
 use Rattle.dwarf_meaning.specs.Rest.{State}
@@ -15,9 +13,9 @@ use Rattle.dwarf_meaning.specs.Stores.{Located}
 use Rattle.dwarf_eval.specs.declared.run.states.LastOperation.{LastOperation}
 use Rattle.dwarf_eval.specs.declared.run.states.LastOperation.TheVariants as last
 
-pub popped : (o : Option Value) (old_items new_items : List Value) (old new : State) → old_items ≡ new_items ++ option_to_list o → IfNone o (old_items ≡ []) → old.store.values ≡ reverse old_items → new ≡ with_values (reverse new_items) old → Pops (ok_or o NotEnoughStackItems) old new
+pub popped : (o : Option Value) (old_items new_items : List Value) (old new : State) → old_items ≡ new_items ++ option_to_list o → IfNone o (old_items ≡ []) → old.store.values ≡ reverse old_items → new ≡ with_values (reverse new_items) old → Pops o old new
 popped None old_items new_items old new h n e f =
-    (e ∙ ap reverse n, f ∙ (ap (λ (ys : List Value). with_values (reverse ys) old) (sym (append-nil new_items) ∙ sym h) ∙ ap (λ (ys : List Value). with_values ys old) (sym e)), refl)
+    (e ∙ ap reverse n, f ∙ (ap (λ (ys : List Value). with_values (reverse ys) old) (sym (append-nil new_items) ∙ sym h) ∙ ap (λ (ys : List Value). with_values ys old) (sym e)))
 popped (Some v) old_items new_items old new h n e f = (reverse new_items, e ∙ (ap reverse h ∙ reverse-append new_items (v ∷ [])), f)
 
 pub callers-push : {R : Type 0} (text : R → Text) (f : R × R) (low all : List (R × R)) → all ≡ low ++ f ∷ [] → callers_of text all ≡ caller_of text f ∷ callers_of text low

@@ -1,6 +1,5 @@
 -- What an operation does to a state is what its act says.
-use Rattle.std.proofs.Common.{ℕ, ℤ, ◌≡◌, ◌+◌, ◌<◌, ◌≤◌, true, false, List, [], ◌∷◌, length, Option, Some, None, Result, Ok, Err, arith, ap, ◌∙◌, sym, refl, subst, nat_lt}
-use Rattle.std.specs.Option.{ok_or}
+use Rattle.std.proofs.Common.{ℕ, ℤ, ◌≡◌, ◌+◌, ◌<◌, ◌≤◌, Bool, true, false, List, [], ◌∷◌, length, Option, Result, Ok, Err, Some, None, arith, ap, ◌∙◌, sym, refl, subst, nat_lt}
 use Rattle.std.proofs.lemmas.Bool.{cond-true, cond-false}
 use Rattle.std.proofs.lemmas.Bool.Decides.{nat_tests}
 use Rattle.dwarf_base.specs.declared.errors.Error.{Error}
@@ -18,7 +17,7 @@ use Rattle.dwarf_meaning.specs.Rest.{State, Status, Start, Running, RequestStatu
 use Rattle.dwarf_meaning.specs.Refusals.{Refusal, Never}
 use Rattle.dwarf_meaning.specs.Inputs.{with_status}
 use Rattle.dwarf_eval.specs.inner.Machine.{replied_status}
-use Rattle.dwarf_eval.specs.inner.StateChanges.{Asks, Stays, Tries, Pops, PushesPlain, Jumps, do_act_at, LeadsToFault, LeadsBy, Performs, with_fault, with_store, with_values, with_last, with_place, PopsTo, before_pushes}
+use Rattle.dwarf_eval.specs.inner.StateChanges.{Asks, Stays, TriesChange, HasTriedChange, Pops, Jumps, do_act_at, LeadsToFault, LeadsBy, Performs, with_store, with_values, with_last, with_place, PopsTo, before_pushes}
 use Rattle.dwarf_eval.proofs.RefusedPushes.{tries_as, bind_ok}
 use Rattle.dwarf_eval.proofs.Staying.{fewer_one, stays_from, stays_here, stays_low, stays_popped, stays_then}
 
@@ -35,8 +34,8 @@ performs_refuses a error old mid new e stays is =
 
 -- an act that goes on after the operation, once f is done
 module _ (a : Act) (f : Store → Result Store Fault) (old : State) (is : (s : Store) → do_act_at a old s ≡ next_at old.place (f s)) where
-  performs_goes : {A : Type 0} (new : State) (result : Result A Error) → old.status ≡ Running → Tries 0 f old new result → Performs a old (with_fault result new)
-  performs_goes new (Ok done) runs d =
+  pub performs_goes : (new : State) (done : Bool) → old.status ≡ Running → TriesChange 0 f old new done → Performs a old new
+  performs_goes new true runs d =
       let place : new.place ≡ old.place = ap (λ (x : State). x.place) d.alone in
       let still : new.status ≡ Running = ap (λ (x : State). x.status) d.alone ∙ runs in
       subst (LeadsBy (do_act_at a old) old new) (sym still) (record {
@@ -48,8 +47,8 @@ module _ (a : Act) (f : Store → Result Store Fault) (old : State) (is : (s : S
         };
         alone = d.alone ∙ ap (λ (p : ℕ). with_store new.store (with_place p old)) (sym place);
       })
-  performs_goes new (Err error) runs h =
-      subst (LeadsBy (do_act_at a old) old (with_status (FaultStatus error) new)) (sym h.failed) (record {
+  performs_goes new false runs h =
+      subst (LeadsBy (do_act_at a old) old new) (sym h.failed) (record {
         gets = record {
           refusal = h.gets.refusal;
           may = h.gets.may;
@@ -62,36 +61,38 @@ module _ (a : Act) (f : Store → Result Store Fault) (old : State) (is : (s : S
 abbrev pub from : (values : List Value) → Last → (Store → Result Store Fault) → Store → Result Store Fault
 from values last f s = f (record s { values = values; last = last })
 
-tries_from : {A : Type 0} (rest : List Value) (last : Last) (f : Setup → Store → Result Store Fault) (old mid new : State) (result : Result A Error) → length rest ≤ length old.store.values → mid ≡ with_last last (with_values rest old) → Tries 0 (f mid.setup) mid new result → Tries 0 (from rest last (f old.setup)) old new result
-tries_from rest last f old mid new result fewer e h =
-    let h' = subst (λ (z : State). Tries 0 (f z.setup) z new result) e h in
-    tries_as 0 0 (f old.setup) (from rest last (f old.setup)) old (with_last last (with_values rest old)) new result (λ r. refl) (λ s. refl) refl
-    (λ z. stays_from 0 0 rest last old.status old z (omega (arith, fewer))) h'
+tries_from : (rest : List Value) (last : Last) (f : Setup → Store → Result Store Fault) (old mid new : State) (done : Bool) → length rest ≤ length old.store.values → mid ≡ with_last last (with_values rest old) → TriesChange 0 (f mid.setup) mid new done → TriesChange 0 (from rest last (f old.setup)) old new done
+tries_from rest last f old mid new done fewer e h =
+    let h' = subst (λ (z : State). TriesChange 0 (f z.setup) z new done) e h in
+    tries_as 0 0 (f old.setup) (from rest last (f old.setup)) old (with_last last (with_values rest old)) new done (λ r. refl) (λ s. refl) refl
+    (stays_from 0 0 rest last old.status old new (omega (arith, fewer))) h'
 
 -- Values are pushed; if one is refused, no more are there than were popped.
-pub performs_pushes : {A : Type 0} (more : ℕ) (rest pushed : List Value) (old mid new : State) (result : Result A Error) → old.status ≡ Running → length rest + more ≤ length old.store.values → mid ≡ with_values rest old → Tries more (λ s. push_values mid.setup pushed (record s { last = Plain })) mid new result → Performs (Pushes rest pushed) old (with_fault result new)
-performs_pushes more rest pushed old mid new result runs fits e h =
-    let h' = subst (λ (z : State). Tries more (λ s. push_values z.setup pushed (record s { last = Plain })) z new result) e h in
-    performs_goes (Pushes rest pushed) (from rest Plain (push_values old.setup pushed)) old (λ s. refl) new result runs
-    (tries_as more 0 (λ s. push_values old.setup pushed (record s { last = Plain })) (from rest Plain (push_values old.setup pushed)) old (with_values rest old) new result (λ r. refl) (λ s. refl) refl
-    (λ z. stays_from more 0 rest old.store.last old.status old z (omega (arith, fits))) h')
+pub performs_pushes : (more : ℕ) (rest pushed : List Value) (old mid new : State) → old.status ≡ Running → length rest + more ≤ length old.store.values → mid ≡ with_values rest old → HasTriedChange more (λ s. push_values mid.setup pushed (record s { last = Plain })) mid new → Performs (Pushes rest pushed) old new
+performs_pushes more rest pushed old mid new runs fits e h =
+    let h' = subst (λ (z : State). TriesChange more (λ s. push_values z.setup pushed (record s { last = Plain })) z new h.0) e h.1 in
+    performs_goes (Pushes rest pushed) (from rest Plain (push_values old.setup pushed)) old (λ s. refl) new h.0 runs
+    (tries_as more 0 (λ s. push_values old.setup pushed (record s { last = Plain })) (from rest Plain (push_values old.setup pushed)) old (with_values rest old) new h.0 (λ r. refl) (λ s. refl) refl
+    (stays_from more 0 rest old.store.last old.status old new (omega (arith, fits))) h')
 
 -- one value is pushed
-pub performs_push : {A : Type 0} (rest : List Value) (value : Value) (old mid new : State) (result : Result A Error) → old.status ≡ Running → length rest ≤ length old.store.values → mid ≡ with_values rest old → PushesPlain value mid new result → Performs (Pushes rest (value ∷ [])) old (with_fault result new)
-performs_push rest value old mid new result runs fewer e h =
-    performs_pushes 0 rest (value ∷ []) old mid new result runs (omega (arith, fewer)) e
-    (tries_as 0 0 (λ s. push_value mid.setup value (record s { last = Plain })) (λ s. push_values mid.setup (value ∷ []) (record s { last = Plain })) mid mid new result
-    (λ r. bind_ok (push_value mid.setup value (record (with_refusal r mid.store) { last = Plain }))) (λ s. refl) refl (λ z stays. stays) h)
+pub performs_push : (rest : List Value) (value : Value) (old mid new : State) → old.status ≡ Running → length rest ≤ length old.store.values → mid ≡ with_values rest old → HasTriedChange 0 (λ s. push_value mid.setup value (record s { last = Plain })) mid new → Performs (Pushes rest (value ∷ [])) old new
+performs_push rest value old mid new runs fewer e h =
+    performs_pushes 0 rest (value ∷ []) old mid new runs (omega (arith, fewer)) e (
+      h.0,
+      tries_as 0 0 (λ s. push_value mid.setup value (record s { last = Plain })) (λ s. push_values mid.setup (value ∷ []) (record s { last = Plain })) mid mid new h.0
+          (λ r. bind_ok (push_value mid.setup value (record (with_refusal r mid.store) { last = Plain }))) (λ s. refl) refl (λ stays. stays) h.1,
+    )
 
 -- a value is pushed on those that are there
-pub performs_more : {A : Type 0} (value : Value) (old new : State) (result : Result A Error) → old.status ≡ Running → PushesPlain value old new result → Performs (push old.store.values value) old (with_fault result new)
-performs_more value old new result runs h = performs_push old.store.values value old old new result runs (omega arith) refl h
+pub performs_more : (value : Value) (old new : State) → old.status ≡ Running → HasTriedChange 0 (λ s. push_value old.setup value (record s { last = Plain })) old new → Performs (push old.store.values value) old new
+performs_more value old new runs h = performs_push old.store.values value old old new runs (omega arith) refl h
 
 -- nothing is pushed
 performs_quietly : (a : Act) (rest : List Value) (last : Last) (old new : State) → ((s : Store) → do_act_at a old s ≡ next_at old.place (from rest last (λ t. Ok t) s)) → old.status ≡ Running → new ≡ with_last last (with_values rest old) → Performs a old new
 performs_quietly a rest last old new is runs e =
     subst (Performs a old) (sym e)
-    (performs_goes a (from rest last (λ t. Ok t)) old is {A = Unit {0}} (with_last last (with_values rest old)) (Ok (tt {0})) runs (record { steps = record { pushes = 0; same = λ r. refl }; alone = refl }))
+    (performs_goes a (from rest last (λ t. Ok t)) old is (with_last last (with_values rest old)) true runs (record { steps = record { pushes = 0; same = λ r. refl }; alone = refl }))
 
 pub performs_none : (rest : List Value) (old new : State) → old.status ≡ Running → new ≡ with_last Plain (with_values rest old) → Performs (Pushes rest []) old new
 performs_none rest old new runs e = performs_quietly (Pushes rest []) rest Plain old new (λ s. refl) runs e
@@ -101,10 +102,10 @@ pub performs_located : (rest : List Value) (location : Location) (old new : Stat
 performs_located rest location old new runs e = performs_quietly (Locates rest location) rest (Located location) old new (λ s. refl) runs e
 
 -- a piece is ended
-pub performs_ends : {A : Type 0} (rest : List Value) (piece : Piece) (old mid new : State) (result : Result A Error) → old.status ≡ Running → length rest ≤ length old.store.values → mid ≡ with_last Pieced (with_values rest old) → Tries 0 (push_piece mid.setup piece) mid new result → Performs (EndsPiece rest piece) old (with_fault result new)
-performs_ends rest piece old mid new result runs fewer e h =
-    performs_goes (EndsPiece rest piece) (from rest Pieced (push_piece old.setup piece)) old (λ s. refl) new result runs
-    (tries_from rest Pieced (λ setup. push_piece setup piece) old mid new result fewer e h)
+pub performs_ends : (rest : List Value) (piece : Piece) (old mid new : State) (done : Bool) → old.status ≡ Running → length rest ≤ length old.store.values → mid ≡ with_last Pieced (with_values rest old) → TriesChange 0 (push_piece mid.setup piece) mid new done → Performs (EndsPiece rest piece) old new
+performs_ends rest piece old mid new done runs fewer e h =
+    performs_goes (EndsPiece rest piece) (from rest Pieced (push_piece old.setup piece)) old (λ s. refl) new done runs
+    (tries_from rest Pieced (λ setup. push_piece setup piece) old mid new done fewer e h)
 
 -- something is asked
 pub performs_asks : (request : Request) (on_answer : OnAnswer) (old new : State) → new ≡ with_status (RequestStatus request on_answer) old → Performs (RequestAct old.store.values request on_answer) old new
@@ -117,8 +118,8 @@ asks_by None on_answer old new e = tt
 asks_by (Some request) on_answer old new e = performs_asks request on_answer old new e
 
 -- a branch is taken
-pub performs_branch : {A : Type 0} (t : ℤ) (old mid new : State) (target : ℕ) (result : Result A Error) → old.status ≡ Running → mid ≡ with_last Plain old → target ≡ branch_target mid.setup mid.place t → Jumps target mid new result → Performs (Branches old.store.values t) old (with_fault result new)
-performs_branch t old mid new target (Ok done) runs e f h =
+pub performs_branch : (t : ℤ) (old mid new : State) (target : ℕ) (done : Bool) → old.status ≡ Running → mid ≡ with_last Plain old → target ≡ branch_target mid.setup mid.place t → Jumps target mid new done → Performs (Branches old.store.values t) old new
+performs_branch t old mid new target true runs e f h =
     let gone : State = with_place target (with_last Plain old) in
     let is : target ≡ branch_target old.setup old.place t = f ∙ ap (λ (z : State). branch_target z.setup z.place t) e in
     let fits : target ≤ length old.text.bytes = subst (λ (z : State). target ≤ length z.text.bytes) e h.0 in
@@ -133,13 +134,13 @@ performs_branch t old mid new target (Ok done) runs e f h =
       };
       alone = refl;
     }))
-performs_branch t old mid new target (Err met) runs e f h =
+performs_branch t old mid new target false runs e f h =
     let rest = old.store.values in
     let is : target ≡ branch_target old.setup old.place t = f ∙ ap (λ (z : State). branch_target z.setup z.place t) e in
     let far : length old.text.bytes < target = subst (λ (z : State). length z.text.bytes < target) e h.0 in
     let outside : nat_lt (length old.text.bytes) target ≡ true = grind (arith, nat_tests) in
     let s : Store = record (with_refusal Never old.store) { values = rest; last = Plain } in
-    subst (λ (e : Error). LeadsBy (do_act_at (Branches rest t) old) old (with_status (FaultStatus e) new) (FaultStatus e)) (sym h.2) (record {
+    subst (LeadsBy (do_act_at (Branches rest t) old) old new) (sym (ap (λ (z : State). z.status) h.1)) (record {
       gets = record {
         refusal = Never;
         may = tt;
@@ -147,9 +148,7 @@ performs_branch t old mid new target (Err met) runs e f h =
             ap (λ (n : ℕ). branch (length old.text.bytes) n s) (sym is)
             ∙ cond-true (nat_lt (length old.text.bytes) target) (FaultNext (BadBranchTarget target)) (Goes target s) outside;
       };
-      stays =
-          stays_then (FaultStatus (error.BadBranchTarget target)) old mid (with_status (FaultStatus (error.BadBranchTarget target)) new) (stays_low rest Plain old mid (omega arith) e)
-          (ap (with_status (FaultStatus (error.BadBranchTarget target))) h.1);
+      stays = stays_then (FaultStatus (error.BadBranchTarget target)) old mid new (stays_low rest Plain old mid (omega arith) e) h.1;
     })
 
 -- ---- several values are popped
@@ -159,7 +158,7 @@ pub record PopsTwo (y x : Value) (old new : State) : Type 0 where
   pub values : old.store.values ≡ y ∷ x ∷ rest
   pub alone : new ≡ with_values rest old
 
-pub pops_two : (y x : Value) (old mid new : State) → Pops (Ok y) old mid → Pops (Ok x) mid new → PopsTwo y x old new
+pub pops_two : (y x : Value) (old mid new : State) → Pops (Some y) old mid → Pops (Some x) mid new → PopsTwo y x old new
 pops_two y x old mid new h i =
     let low : mid.store.values ≡ h.0 = ap (λ (z : State). z.store.values) h.2 in
     record { rest = i.0; values = h.1 ∙ ap (λ (vs : List Value). y ∷ vs) (sym low ∙ i.1); alone = i.2 ∙ ap (with_values i.0) h.2 }
@@ -172,7 +171,7 @@ pub record PopsThree (z y x : Value) (old new : State) : Type 0 where
   pub values : old.store.values ≡ z ∷ y ∷ x ∷ rest
   pub alone : new ≡ with_values rest old
 
-pub pops_three : (z y x : Value) (old mid new : State) → PopsTwo z y old mid → Pops (Ok x) mid new → PopsThree z y x old new
+pub pops_three : (z y x : Value) (old mid new : State) → PopsTwo z y old mid → Pops (Some x) mid new → PopsThree z y x old new
 pops_three z y x old mid new h i =
     let low : mid.store.values ≡ h.rest = ap (λ (s : State). s.store.values) h.alone in
     record { rest = i.0; values = h.values ∙ ap (λ (vs : List Value). z ∷ y ∷ vs) (sym low ∙ i.1); alone = i.2 ∙ ap (with_values i.0) h.alone }
@@ -208,12 +207,11 @@ performs_low f rest old mid new fewer e h =
 -- ---- the top is popped first
 
 -- no value is there
-pub pops_nothing : (go : Value → List Value → Act) (met : Error) (old mid : State) → Pops (Err met) old mid → Performs (on_top old.store.values underflow go) old (with_status (FaultStatus met) mid)
-pops_nothing go met old mid pops =
-    performs_refuses _ error.NotEnoughStackItems old mid (with_status (FaultStatus met) mid) (top_none old.store.values underflow go pops.0) (stays_popped (Err met) old mid pops)
-    (ap (λ (e : Error). with_status (FaultStatus e) mid) pops.2)
+pub falls_short : (go : Value → List Value → Act) (old mid new : State) → Pops None old mid → new ≡ with_status (FaultStatus error.NotEnoughStackItems) mid → Performs (on_top old.store.values underflow go) old new
+falls_short go old mid new pops is =
+    performs_refuses _ error.NotEnoughStackItems old mid new (top_none old.store.values underflow go pops.0) (stays_popped None old mid pops) is
 
-pub performs_popped : (go : Value → List Value → Act) (x : Value) (old mid new : State) → Pops (Ok x) old mid → Performs (go x mid.store.values) mid new → Performs (on_top old.store.values underflow go) old new
+pub performs_popped : (go : Value → List Value → Act) (x : Value) (old mid new : State) → Pops (Some x) old mid → Performs (go x mid.store.values) mid new → Performs (on_top old.store.values underflow go) old new
 performs_popped go x old mid new pops h =
     performs_as _ (go x pops.0) old new (top_some old.store.values underflow go x pops.0 pops.1)
     (performs_low (go x) pops.0 old mid new (fewer_one x pops.0 old.store.values pops.1) pops.2 h)
@@ -235,19 +233,9 @@ performs_two go y x old mid new pops h =
     (performs_low (go y x) pops.rest old mid new (omega (arith, n)) pops.alone h)
 
 -- a call's value is pushed
-pub performs_result : {A : Type 0} (call : Result Value Error) (value : Value) (old new : State) (result : Result A Error) → old.status ≡ Running → call ≡ Ok value → PushesPlain value old new result → Performs (on_result call FaultAct (push old.store.values)) old (with_fault result new)
-performs_result call value old new result runs e h = performs_as _ _ old (with_fault result new) (answer_ok call FaultAct (push old.store.values) value e) (performs_more value old new result runs h)
+pub performs_result : (call : Result Value Error) (value : Value) (old new : State) → old.status ≡ Running → call ≡ Ok value → HasTriedChange 0 (λ s. push_value old.setup value (record s { last = Plain })) old new → Performs (on_result call FaultAct (push old.store.values)) old new
+performs_result call value old new runs e h = performs_as _ _ old new (answer_ok call FaultAct (push old.store.values) value e) (performs_more value old new runs h)
 
 -- a call's error is a fault
-pub performs_error : (call : Result Value Error) (error : Error) (old : State) → call ≡ Err error → Performs (on_result call FaultAct (push old.store.values)) old (with_status (FaultStatus error) old)
-performs_error call error old e = performs_refuses _ error old old (with_status (FaultStatus error) old) (answer_err call FaultAct (push old.store.values) error e) (stays_here old) refl
-
--- ---- an option that is missing
-
-pub missing : {A : Type 0} (o : Option A) (error met : Error) → ok_or o error ≡ Err met → (o ≡ None) × (met ≡ error)
-missing None error met h = (refl, cc)
-missing (Some a) error met h = cc
-
-pub present : {A : Type 0} (o : Option A) (error : Error) (a : A) → ok_or o error ≡ Ok a → o ≡ Some a
-present None error a h = cc
-present (Some b) error a h = cc
+pub performs_error : (call : Result Value Error) (error : Error) (old new : State) → call ≡ Err error → new ≡ with_status (FaultStatus error) old → Performs (on_result call FaultAct (push old.store.values)) old new
+performs_error call error old new e is = performs_refuses _ error old old new (answer_err call FaultAct (push old.store.values) error e) (stays_here old) is

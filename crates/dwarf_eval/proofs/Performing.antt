@@ -1,12 +1,10 @@
 -- One operation that is counted, read and done before what is left of a text is one turn of the nested run.
-use Rattle.std.proofs.Common.{ℕ, ◌≡◌, ◌-◌, ◌<◌, ◌≤◌, ◌&&◌, nat_lt, Bool, true, false, List, length, Ok, Err, arith, ap, ◌∙◌, sym, refl, subst}
+use Rattle.std.proofs.Common.{ℕ, ◌≡◌, ◌<◌, ◌≤◌, ◌&&◌, nat_lt, Bool, true, false, List, length, arith, ap, ◌∙◌, sym, refl, subst}
 use Rattle.std.proofs.lemmas.Bool.Decides.{nat_tests}
-use Rattle.dwarf_base.specs.declared.errors.Error.{Error}
-use Rattle.dwarf_meaning.specs.Inputs.{with_status}
 use Rattle.dwarf_meaning.specs.Locations.{Location}
 use Rattle.dwarf_meaning.specs.Stores.{Last, Located}
-use Rattle.dwarf_meaning.specs.Rest.{State, Status, Running, FaultStatus}
-use Rattle.dwarf_eval.specs.inner.StateChanges.{ComesToState, CountsOne, IsReady, Turns, at_rest, effort, goes_on, is_free, is_running, total, with_place}
+use Rattle.dwarf_meaning.specs.Rest.{State, Status, Running}
+use Rattle.dwarf_eval.specs.inner.StateChanges.{ComesToState, CountsOne, IsReady, Turns, at_rest, effort, goes_on, is_free, is_running, total}
 use Rattle.dwarf_eval.proofs.Reaching.{comes_here, comes_more}
 use Rattle.dwarf_eval.proofs.Turning.{ready_none}
 
@@ -36,11 +34,11 @@ ready_on x h =
 -- ---- the turn
 
 -- the maximum doesn't allow one more
-pub none_turns : (left : List ℕ) (x new : State) (error : Error) → IsReady (at_rest left x) → CountsOne {A = Unit {0}} x new (Err error) → Turns (at_rest left x) (with_status (FaultStatus error) (at_rest left new))
-none_turns left x new error ready h = ready_none (at_rest left x) ready (at_rest left new) error (h.0, ap (at_rest left) h.1, h.2)
+pub none_turns : (left : List ℕ) (x new : State) → IsReady (at_rest left x) → CountsOne x new false → Turns (at_rest left x) (at_rest left new)
+none_turns left x new ready h = ready_none (at_rest left x) ready (at_rest left new) (h.0, ap (at_rest left) h.1)
 
 -- the operation before what is left, counted
-pub counted_there : (left : List ℕ) (x counted_x : State) → CountsOne {A = Unit {0}} x counted_x (Ok tt) → CountsOne {A = Unit {0}} (at_rest left x) (at_rest left counted_x) (Ok tt)
+pub counted_there : (left : List ℕ) (x counted_x : State) → CountsOne x counted_x true → CountsOne (at_rest left x) (at_rest left counted_x) true
 counted_there left x counted_x can = (can.0, ap (at_rest left) can.1)
 
 -- ---- the loop
@@ -69,19 +67,3 @@ runs_more start x new on h turn is =
       less = λ _. omega (arith, fewer, before);
       no_more = omega (arith, fewer, before);
     }
-
--- the place of a fault is left open
-falls_anywhere : (place : ℕ) (x new : State) (error : Error) → ComesToState x (total x) (with_status (FaultStatus error) (with_place place new)) → ComesToState x (total x) (with_status (FaultStatus error) new)
-falls_anywhere place x new error h = record {
-  refusal = h.refusal;
-  may = h.may;
-  same = h.same;
-  kept = record { setup = h.kept.setup; settings = h.kept.settings };
-  spends = record { items = h.spends.items; callers = h.spends.callers; decodings = h.spends.decodings; once = λ d. let o = h.spends.once d in record { each = o.each; no_other = o.no_other; given = o.given } };
-}
-
--- the turn that meets a fault is the last
-pub stops : (start x new : State) (left : List ℕ) (error : Error) → StillRuns start x true → Turns x (with_status (FaultStatus error) (at_rest left new)) → Turns start (with_status (FaultStatus error) new)
-stops start x new left error h turn =
-    let last = runs_more start x (with_status (FaultStatus error) (at_rest left new)) false h turn refl in
-    record { comes = falls_anywhere (length new.text.bytes - length left) start new error last.comes; less = last.less refl }

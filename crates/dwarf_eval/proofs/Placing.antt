@@ -1,15 +1,13 @@
 -- An operation that takes no branch does the same before any place, and none changes the text.
 use Rattle.std.proofs.Common.{ℕ, ◌≡◌, ◌-◌, inl, inr, List, length, Result, Ok, Err, ap, ◌∙◌, sym, refl, subst}
-use Rattle.dwarf_base.specs.declared.errors.Error.{Error}
 use Rattle.dwarf_base.specs.Faults.{Fault}
-use Rattle.dwarf_meaning.specs.Inputs.{with_status}
 use Rattle.dwarf_base.specs.Reads.{IsRestOf, Text}
 use Rattle.dwarf_meaning.specs.Operations.{Operation}
 use Rattle.dwarf_meaning.specs.Acts.{Act, Pushes, Branches, EndsPiece}
 use Rattle.dwarf_meaning.specs.Stores.{Setup, Store, Next, Goes, RequestNext, FaultNext, next_at, do_act, address_bits}
 use Rattle.dwarf_meaning.specs.Rest.{State, Status, Start, Running, RequestStatus, CompleteStatus, FaultStatus, with_refusal}
 use Rattle.dwarf_meaning.proofs.Effects.{IsActOf, branches, act_is}
-use Rattle.dwarf_eval.specs.inner.StateChanges.{IsNoBranch, LeadsBy, Performs, Stays, act_of, at_rest, with_fault, do_act_at, with_place, before_pushes}
+use Rattle.dwarf_eval.specs.inner.StateChanges.{IsNoBranch, LeadsBy, Performs, Stays, act_of, at_rest, do_act_at, with_place, before_pushes}
 
 -- ---- the text
 
@@ -98,17 +96,12 @@ still op _ d h = tt
 -- ---- after the bytes of an operation
 
 -- what takes no branch is done before any place
-done_there : (op : Operation) (left : List ℕ) (old new : State) → IsNoBranch op → Performs (act_of old op) old new → Performs (act_of old op) (at_rest left old) (at_rest left new)
-done_there op left old new none h =
+pub performs_there : (op : Operation) (left : List ℕ) (old new : State) → IsNoBranch op → Performs (act_of old op) old new → Performs (act_of old op) (at_rest left old) (at_rest left new)
+performs_there op left old new none h =
     performs_at (act_of old op) left old new (still op (act_of old op) (act_is (address_bits old.setup) old.store.settings.object_address op old.store.values) none) h
-
-pub performs_there : {A : Type 0} (op : Operation) (left : List ℕ) (old new : State) (result : Result A Error) → IsNoBranch op → Performs (act_of old op) old (with_fault result new) → Performs (act_of old op) (at_rest left old) (with_fault result (at_rest left new))
-performs_there op left old new (Ok done) none h = done_there op left old new none h
-performs_there op left old new (Err error) none h = done_there op left old (with_status (FaultStatus error) new) none h
 
 -- ---- what is left
 
 -- what is left stays left
-pub left_there : {A : Type 0} (left : Text) (a : Act) (old new : State) (result : Result A Error) → IsRestOf left old.text → Performs a old (with_fault result new) → IsRestOf left new.text
-left_there left a old new (Ok done) h performs = subst (IsRestOf left) (sym (performs_text a old new performs)) h
-left_there left a old new (Err error) h performs = subst (IsRestOf left) (sym (performs_text a old (with_status (FaultStatus error) new) performs)) h
+pub left_there : (left : Text) (a : Act) (old new : State) → IsRestOf left old.text → Performs a old new → IsRestOf left new.text
+left_there left a old new h performs = subst (IsRestOf left) (sym (performs_text a old new performs)) h

@@ -1,5 +1,5 @@
 -- One step after the other, and the beginning of a run.
-use Rattle.std.proofs.Common.{ℕ, ◌≡◌, ◌+◌, arith, length, List, Some, None, Result, Ok, Err, true, false, ap, ◌∙◌, sym, refl, subst}
+use Rattle.std.proofs.Common.{ℕ, ◌≡◌, ◌+◌, arith, length, List, Some, None, Bool, true, false, ap, ◌∙◌, sym, refl, subst}
 use Rattle.dwarf_base.specs.declared.errors.Error.{Error}
 use Rattle.dwarf_base.specs.Faults.{Fault, fault_of}
 use Rattle.dwarf_value.specs.declared.types.Value.TheVariants.{Generic}
@@ -11,7 +11,7 @@ use Rattle.dwarf_meaning.specs.Refusals.{Refusal, MayPick}
 use Rattle.dwarf_meaning.specs.Bounds.{faults_in}
 use Rattle.dwarf_meaning.specs.Inputs.{Keeps, with_status}
 use Rattle.dwarf_eval.specs.inner.Answers.{IsAtRestBy}
-use Rattle.dwarf_eval.specs.inner.StateChanges.{Stays, Total, total, Tries, with_fault, Reaches, Falls, ComesToStateBy, ComesToState, HasReply, is_running, before_pushes}
+use Rattle.dwarf_eval.specs.inner.StateChanges.{Stays, Total, total, TriesChange, Reaches, Falls, ComesToStateBy, ComesToState, HasReply, is_running, before_pushes}
 use Rattle.dwarf_eval.proofs.RefusedPushes.{before_more, may_before}
 use Rattle.dwarf_eval.proofs.Loads.{kept_in, value_stored}
 use Rattle.dwarf_eval.proofs.Spending.{nears_by, nears_more, spent_here, spent_more, begun_spends, fallen_spends}
@@ -95,8 +95,8 @@ begins_none x new is e =
       nears = nears_by x (with_status Running x) (Start None) Running starts refl (omega arith);
     })
 
-begins_pushed : {A : Type 0} (v : ℕ) (x new : State) (result : Result A Error) → IsAtRestBy x (Start (Some v)) → Tries 0 (push_value x.setup (Generic v)) (with_status Running x) new result → ComesToState x (total x) (with_fault result new)
-begins_pushed v x new (Ok done) is d =
+begins_pushed : (v : ℕ) (x new : State) (done : Bool) → IsAtRestBy x (Start (Some v)) → TriesChange 0 (push_value x.setup (Generic v)) (with_status Running x) new done → ComesToState x (total x) new
+begins_pushed v x new true is d =
     let starts : x.status ≡ Start (Some v) = ap (λ (z : State). z.status) is in
     let still : new.status ≡ Running = ap (λ (z : State). z.status) d.alone in
     let stored = value_stored x.setup (Generic v) x.store new.store d.steps in
@@ -113,11 +113,11 @@ begins_pushed v x new (Ok done) is d =
       spends = begun_spends x new (Some v) starts still (ap (λ (z : State). length z.callers) d.alone) count (ap (λ (z : State). z.decodings) d.alone) (ap (λ (s : Store). s.last) stored) (omega (arith, kept)) (ap (λ (s : Store). s.pieces) stored);
       nears = nears_by x new (Start (Some v)) Running starts still (omega (arith, count));
     })
-begins_pushed v x new (Err error) is d =
-    falls_here x (total x) (with_status (FaultStatus error) new) d.error d.gets.refusal (ap (λ (z : State). faults_in z.status) is) d.failed d.gets.may
+begins_pushed v x new false is d =
+    falls_here x (total x) new d.error d.gets.refusal (ap (λ (z : State). faults_in z.status) is) d.failed d.gets.may
     (λ inputs. total_start d.gets.refusal x inputs (Some v) is ∙ (ap (started_total x inputs) d.gets.same ∙ started_fails x inputs (fault_of d.error)))
-    (stays_from 0 0 x.store.values x.store.last Running x (with_status (FaultStatus error) new) (omega arith) d.stays)
+    (stays_from 0 0 x.store.values x.store.last Running x new (omega arith) d.stays)
 
-pub begins_some : {A : Type 0} (v : ℕ) (x mid new : State) (result : Result A Error) → IsAtRestBy x (Start (Some v)) → mid ≡ with_status Running x → Tries 0 (push_value mid.setup (Generic v)) mid new result → ComesToState x (total x) (with_fault result new)
-begins_some v x mid new result is e h =
-    begins_pushed v x new result is (subst (λ (z : State). Tries 0 (push_value z.setup (Generic v)) z new result) e h)
+pub begins_some : (v : ℕ) (x mid new : State) (done : Bool) → IsAtRestBy x (Start (Some v)) → mid ≡ with_status Running x → TriesChange 0 (push_value mid.setup (Generic v)) mid new done → ComesToState x (total x) new
+begins_some v x mid new done is e h =
+    begins_pushed v x new done is (subst (λ (z : State). TriesChange 0 (push_value z.setup (Generic v)) z new done) e h)

@@ -1,5 +1,5 @@
 -- The outcome of an answer.
-use Rattle.std.proofs.Common.{ℕ, suc, ◌≡◌, ◌≤◌, arith, true, List, [], ◌∷◌, length, Result, Ok, Err, ap, ◌∙◌, sym, refl, subst}
+use Rattle.std.proofs.Common.{ℕ, suc, ◌≡◌, ◌≤◌, arith, Bool, true, false, List, [], ◌∷◌, length, Some, None, Result, Ok, Err, ap, ◌∙◌, sym, refl, subst}
 use Rattle.dwarf_base.specs.declared.errors.Error.{Error}
 use Rattle.dwarf_base.specs.Faults.{Fault, fault_of}
 use Rattle.dwarf_base.specs.Reads.{Text}
@@ -22,7 +22,7 @@ use Rattle.dwarf_meaning.specs.Refusals.{Refusal, Never, After, refusal_after_in
 use Rattle.dwarf_meaning.proofs.Effects.{IsUseOf, use_is}
 use Rattle.dwarf_meaning.specs.Bounds.{waiting, faults_in}
 use Rattle.dwarf_meaning.specs.Inputs.{input_of, with_status}
-use Rattle.dwarf_eval.specs.inner.StateChanges.{Total, total_after, total_used, ChangesStoreBy, Refused, Stays, Pops, Tries, Enters, TriesToEnter, ComesToState, ComesToStateBy, TakesAnswer, AnswersOpenRequest, with_fault, with_last, with_values, before_pushes}
+use Rattle.dwarf_eval.specs.inner.StateChanges.{Total, total_after, total_used, ChangesStoreBy, Refused, Stays, Pops, TriesChange, HasTriedChange, Enters, TriesToEnter, ComesToState, ComesToStateBy, TakesAnswer, AnswersOpenRequest, with_last, with_values, before_pushes}
 use Rattle.dwarf_eval.specs.Permits.{IsOpenFor}
 use Rattle.dwarf_eval.specs.inner.Answers.{IsWaiting}
 use Rattle.dwarf_eval.proofs.AnswerUses.{IsOpen, IsOpenTo, open_in}
@@ -125,14 +125,14 @@ module _ (x : State) (waits : IsWaiting x.status) (on_answer : OnAnswer) (answer
         ∙ (ap (λ (z : Result Store Fault). total_of_course x.store.count x.setup x.callers (after_push (run x.setup) position (length x.callers) inputs z)) h.gets.same
         ∙ course_failed x.store.count x.setup x.callers (fault_of h.error)))
 
-    takes_by : {A : Type 0} (new : State) (result : Result A Error) → Tries 0 (push_value x.setup value) answered new result → TakesAnswer on_answer answer x (with_fault result new)
-    takes_by new (Ok done) d = value_taken new d
-    takes_by new (Err error) h = value_refused (with_status (FaultStatus error) new) h
+    takes_by : (new : State) (done : Bool) → TriesChange 0 (push_value x.setup value) answered new done → TakesAnswer on_answer answer x new
+    takes_by new true d = value_taken new d
+    takes_by new false h = value_refused new h
 
     -- if the machine popped what the answer takes
-    pub value_takes : {A : Type 0} (mid new : State) (result : Result A Error) → mid ≡ with_values values x → Tries 0 (push_value mid.setup value) (with_status Running (with_last Pushed mid)) new result → TakesAnswer on_answer answer x (with_fault result new)
-    value_takes mid new result e h =
-        takes_by new result (subst (λ (z : State). Tries 0 (push_value z.setup value) (with_status Running (with_last Pushed z)) new result) e h)
+    pub value_takes : (mid new : State) → mid ≡ with_values values x → HasTriedChange 0 (push_value mid.setup value) (with_status Running (with_last Pushed mid)) new → TakesAnswer on_answer answer x new
+    value_takes mid new e h =
+        takes_by new h.0 (subst (λ (z : State). TriesChange 0 (push_value z.setup value) (with_status Running (with_last Pushed z)) new h.0) e h.1)
 
   -- ---- a called text
 
@@ -184,12 +184,12 @@ module _ (x : State) (waits : IsWaiting x.status) (on_answer : OnAnswer) (answer
         takes_fault new h.error h.gets.refusal h.failed (stays_from 0 0 x.store.values x.store.last Running x new (omega arith) h.stays) h.gets.may
         (λ inputs. call_rest h.gets.refusal inputs (Err (fault_of h.error)) h.gets.same ∙ course_failed x.store.count x.setup x.callers (fault_of h.error))
 
-    text_takes_by : {A : Type 0} (new : State) (result : Result A Error) → TriesToEnter callee (with_status Running x) new result → TakesAnswer on_answer answer x (with_fault result new)
-    text_takes_by new (Ok done) d = text_taken new d
-    text_takes_by new (Err error) h = text_refused (with_status (FaultStatus error) new) h
+    text_takes_by : (new : State) (done : Bool) → TriesToEnter callee (with_status Running x) new done → TakesAnswer on_answer answer x new
+    text_takes_by new true d = text_taken new d
+    text_takes_by new false h = text_refused new h
 
-    pub text_takes : {A : Type 0} (mid new : State) (result : Result A Error) → mid ≡ with_status Running x → TriesToEnter callee mid new result → TakesAnswer on_answer answer x (with_fault result new)
-    text_takes mid new result e h = text_takes_by new result (subst (λ (z : State). TriesToEnter callee z new result) e h)
+    pub text_takes : (mid new : State) (done : Bool) → mid ≡ with_status Running x → TriesToEnter callee mid new done → TakesAnswer on_answer answer x new
+    text_takes mid new done e h = text_takes_by new done (subst (λ (z : State). TriesToEnter callee z new done) e h)
 
 -- an answer of the kind of the open request
 pub answer_open : (x : State) (waits : IsWaiting x.status) (answer : Answer) (new : State) → IsOpenFor (kind_of_answer answer) x.status → AnswersOpenRequest answer x new → ComesToState x (total_after x (input_of x answer)) new
@@ -201,21 +201,19 @@ answer_open x waits answer new is_open h =
 
 -- ---- the top becomes a value of a type
 
-module _ (x : State) (waits : IsWaiting x.status) (on_answer : OnAnswer) (t : ValueType) (call : ℕ → ValueType → Value → Result Value Error) (is : use_of (address_bits x.setup) on_answer (BaseTypeAnswer t) x.store.values ≡ turn_top (call (address_bits x.setup) t) x.store.values) (mid : State) where
+module _ (x : State) (waits : IsWaiting x.status) (on_answer : OnAnswer) (t : ValueType) (call : ℕ → ValueType → Value → Result Value Error) (is : use_of (address_bits x.setup) on_answer (BaseTypeAnswer t) x.store.values ≡ turn_top (call (address_bits x.setup) t) x.store.values) (mid new : State) where
   abbrev made : Value → List Value → Use
   made y rest = on_result (call (address_bits x.setup) t y) FaultUse (PushesAnswer rest)
 
-  pub turns_none : (error : Error) → Pops (Err error) x mid → TakesAnswer on_answer (BaseTypeAnswer t) x (with_status (FaultStatus error) mid)
-  turns_none error pops =
-      denies x waits on_answer (BaseTypeAnswer t) NotEnoughStackItems mid (with_status (FaultStatus error) mid) (is ∙ top_none x.store.values (FaultUse NotEnoughStackItems) made pops.0) (stays_popped (Err error) x mid pops)
-      (ap (λ (e : Error). with_status (FaultStatus e) mid) pops.2)
+  pub turns_none : Pops None x mid → new ≡ with_status (FaultStatus NotEnoughStackItems) mid → TakesAnswer on_answer (BaseTypeAnswer t) x new
+  turns_none pops e = denies x waits on_answer (BaseTypeAnswer t) NotEnoughStackItems mid new (is ∙ top_none x.store.values (FaultUse NotEnoughStackItems) made pops.0) (stays_popped None x mid pops) e
 
-  module _ (top : Value) (width : ℕ) (pops : Pops (Ok top) x mid) (same : width ≡ address_bits mid.setup) where
+  module _ (top : Value) (width : ℕ) (pops : Pops (Some top) x mid) (same : width ≡ address_bits mid.setup) where
     call_is : (r : Result Value Error) → r ≡ call width t top → call (address_bits x.setup) t top ≡ r
     call_is r e = ap (λ (w : ℕ). call w t top) (sym (width_old width pops.0 x mid pops.2 same)) ∙ sym e
 
-    pub turns_ok : {A : Type 0} (new : State) (result : Result A Error) (v : Value) → Ok v ≡ call width t top → Tries 0 (push_value mid.setup v) (with_status Running (with_last Pushed mid)) new result → TakesAnswer on_answer (BaseTypeAnswer t) x (with_fault result new)
-    turns_ok new result v e h = value_takes x waits on_answer (BaseTypeAnswer t) pops.0 v (is ∙ (top_some x.store.values (FaultUse NotEnoughStackItems) made top pops.0 pops.1 ∙ answer_ok (call (address_bits x.setup) t top) FaultUse (PushesAnswer pops.0) v (call_is (Ok v) e))) mid new result pops.2 h
+    pub turns_ok : (v : Value) → Ok v ≡ call width t top → HasTriedChange 0 (push_value mid.setup v) (with_status Running (with_last Pushed mid)) new → TakesAnswer on_answer (BaseTypeAnswer t) x new
+    turns_ok v e h = value_takes x waits on_answer (BaseTypeAnswer t) pops.0 v (is ∙ (top_some x.store.values (FaultUse NotEnoughStackItems) made top pops.0 pops.1 ∙ answer_ok (call (address_bits x.setup) t top) FaultUse (PushesAnswer pops.0) v (call_is (Ok v) e))) mid new pops.2 h
 
-    pub turns_err : (error : Error) → Err error ≡ call width t top → TakesAnswer on_answer (BaseTypeAnswer t) x (with_status (FaultStatus error) mid)
-    turns_err error e = denies x waits on_answer (BaseTypeAnswer t) error mid (with_status (FaultStatus error) mid) (is ∙ (top_some x.store.values (FaultUse NotEnoughStackItems) made top pops.0 pops.1 ∙ answer_err (call (address_bits x.setup) t top) FaultUse (PushesAnswer pops.0) error (call_is (Err error) e))) (stays_popped (Ok top) x mid pops) refl
+    pub turns_err : (error : Error) → Err error ≡ call width t top → new ≡ with_status (FaultStatus error) mid → TakesAnswer on_answer (BaseTypeAnswer t) x new
+    turns_err error e f = denies x waits on_answer (BaseTypeAnswer t) error mid new (is ∙ (top_some x.store.values (FaultUse NotEnoughStackItems) made top pops.0 pops.1 ∙ answer_err (call (address_bits x.setup) t top) FaultUse (PushesAnswer pops.0) error (call_is (Err error) e))) (stays_popped (Some top) x mid pops) f

@@ -1,12 +1,11 @@
 -- What stays if a part of the machine meets a fault.
-use Rattle.std.proofs.Common.{ℕ, ◌≡◌, ◌+◌, ◌≤◌, List, ◌∷◌, length, Result, Ok, Err, arith, ap, ◌∙◌, sym, refl, subst}
-use Rattle.dwarf_base.specs.declared.errors.Error.{Error}
+use Rattle.std.proofs.Common.{ℕ, ◌≡◌, ◌+◌, ◌≤◌, List, ◌∷◌, length, Option, Some, None, arith, ap, ◌∙◌, sym, refl, subst}
 use Rattle.dwarf_value.specs.declared.types.Value.{Value}
 use Rattle.dwarf_meaning.specs.RunLaws.{waits_of}
 use Rattle.dwarf_meaning.specs.Stores.{Setup, Store, Last, push_value}
-use Rattle.dwarf_meaning.specs.Rest.{State, Status, FaultStatus}
+use Rattle.dwarf_meaning.specs.Rest.{State, Status}
 use Rattle.dwarf_meaning.specs.Inputs.{Keeps, with_status}
-use Rattle.dwarf_eval.specs.inner.StateChanges.{ChangesStoreBy, Pops, Stays, with_fault, with_last, with_values}
+use Rattle.dwarf_eval.specs.inner.StateChanges.{ChangesStoreBy, Pops, Stays, with_last, with_values}
 use Rattle.dwarf_eval.proofs.Loads.{kept_in, value_stored}
 
 pub keeps_here : (x : State) → Keeps x x
@@ -62,9 +61,9 @@ fewer_one x rest values e = let n = ap length e in omega (arith, n)
 pub stays_low : (rest : List Value) (last : Last) (old new : State) → length rest ≤ length old.store.values → new ≡ with_last last (with_values rest old) → Stays 0 old new
 stays_low rest last old new fewer e = stays_from 0 0 rest last old.status old new (omega (arith, fewer)) (subst (Stays 0 (with_last last (with_values rest old))) (sym e) (stays_here (with_last last (with_values rest old))))
 
-pub stays_popped : (top : Result Value Error) (old new : State) → Pops top old new → Stays 0 old new
-stays_popped (Err error) old new h = stays_same old new h.1
-stays_popped (Ok x) old new h = stays_low h.0 old.store.last old new (fewer_one x h.0 old.store.values h.1) h.2
+pub stays_popped : (o : Option Value) (old new : State) → Pops o old new → Stays 0 old new
+stays_popped None old new h = stays_same old new h.1
+stays_popped (Some x) old new h = stays_low h.0 old.store.last old new (fewer_one x h.0 old.store.values h.1) h.2
 
 -- a value was pushed
 pub stays_pushed : (setup : Setup) (value : Value) (old new : State) → ChangesStoreBy (push_value setup value) old new → Stays 1 old new
@@ -81,7 +80,3 @@ stays_pushed setup value old new d =
       pieces = ap (λ (s : Store). s.pieces) stored;
       items = omega (arith, kept, last);
     }
-
--- what holds of a state that keeps the fault holds where `?` returns it
-pub at_exit : {A : Type 0} (P : State → Type 0) (new : State) (result : Result A Error) (returned error : Error) → result ≡ Err returned → returned ≡ error → P (with_status (FaultStatus error) new) → P (with_fault result new)
-at_exit P new result returned error is same h = subst (λ (r : Result _ Error). P (with_fault r new)) (sym (is ∙ ap (λ (e : Error). Err e) same)) h

@@ -105,16 +105,15 @@ module _ (x : State) (ready : IsReady x) where
       total_inside x r inputs ready.runs ready.inside
       ∙ ap (total_of_course x.store.count x.setup x.callers) (free_turn x.setup x.text x.place (length x.callers) (with_refusal r x.store) inputs x.store.last ready.free)
 
-  pub ready_none : (new : State) (met : Error) → CountsOne {A = Unit {0}} x new (Err met) → Turns x (with_status (FaultStatus met) new)
-  ready_none new met h =
-      subst (λ (e : Error). Turns x (with_status (FaultStatus e) new)) (sym h.2)
-      (falls_from x x (with_status (FaultStatus error.TooManyIterations) new) error.TooManyIterations Never ready.runs refl tt
+  pub ready_none : (new : State) → CountsOne x new false → Turns x new
+  ready_none new h =
+      falls_from x x new error.TooManyIterations Never ready.runs (ap (λ (z : State). z.status) h.1) tt
       (λ inputs.
       ready_total Never inputs
       ∙ (ap (total_of_course x.store.count x.setup x.callers) (cond-false (can_count x.store) _ (only_end (FaultEnd TooManyIterations)) h.0)
       ∙ course_failed x.store.count x.setup x.callers TooManyIterations))
       (reads_none x)
-      (stays_status (FaultStatus error.TooManyIterations) x (with_status (FaultStatus error.TooManyIterations) new) (ap (with_status (FaultStatus error.TooManyIterations)) h.1)))
+      (stays_status (FaultStatus error.TooManyIterations) x new h.1)
 
   module _ (can : can_count x.store ≡ true) where
     ready_read : (r : Refusal) (inputs : List Input) (z : Result (Operation × List ℕ) Fault) → read x.setup x.text x.place ≡ z → total x r inputs ≡ total_of_course (x.store.count + 1) x.setup x.callers (do_operation (run x.setup) x.setup x.text (length x.callers) (count_one (with_refusal r x.store)) inputs (counted_act x.setup x.store) z)
@@ -232,13 +231,13 @@ module _ (x : State) (ready : IsReady x) where
       ready_performs new h = ready_by new new.status refl h
 
 -- the operation at the place, counted, read and done
-pub counted_turns : (x mid beyond new : State) (op : Operation) → IsReady x → CountsOne {A = Unit {0}} x mid (Ok tt) → ReadsOperation op mid beyond → Performs (act_of beyond op) beyond new → Turns x new
+pub counted_turns : (x mid beyond new : State) (op : Operation) → IsReady x → CountsOne x mid true → ReadsOperation op mid beyond → Performs (act_of beyond op) beyond new → Turns x new
 counted_turns x mid beyond new op ready can reads h =
     let read_there : ReadsOperation op (with_store (count_one x.store) x) beyond = subst (λ (z : State). ReadsOperation op z beyond) can.1 reads in
     ready_performs x ready can.0 op read_there.beyond read_there.was new (subst (λ (z : State). Performs (act_of z op) z new) read_there.moved h)
 
 -- the operation at the place, counted, which can't be read
-pub unread_turns : (x mid beyond new : State) (error : Error) → IsReady x → CountsOne {A = Unit {0}} x mid (Ok tt) → read mid.setup mid.text mid.place ≡ Err (fault_of error) → beyond ≡ read_to beyond.place mid → new ≡ with_status (FaultStatus error) beyond → Turns x new
+pub unread_turns : (x mid beyond new : State) (error : Error) → IsReady x → CountsOne x mid true → read mid.setup mid.text mid.place ≡ Err (fault_of error) → beyond ≡ read_to beyond.place mid → new ≡ with_status (FaultStatus error) beyond → Turns x new
 unread_turns x mid beyond new error ready can was moved is =
     ready_unread x ready can.0 new error beyond.place (subst (λ (z : State). read z.setup z.text z.place ≡ Err (fault_of error)) can.1 was)
     (is ∙ ap (with_status (FaultStatus error)) (moved ∙ ap (read_to beyond.place) can.1))

@@ -2,7 +2,7 @@
 -- it.
 use Rattle.std.specs.Prelude.{ℕ, zero, suc, ◌+◌, ◌-◌, ◌*◌, ◌<◌, ◌≤◌, ◌≡◌, ◌&&◌, nat_lt, Bool, true, false, List, [], ◌∷◌, Option, Some, None, Result, Ok, Err, length}
 use Rattle.dwarf_base.specs.declared.errors.Error.{Error}
-use Rattle.dwarf_base.specs.declared.errors.Error.TheVariants.{BadBranchTarget, InvalidExpressionTerminator, NotEnoughStackItems, TooManyIterations}
+use Rattle.dwarf_base.specs.declared.errors.Error.TheVariants.{BadBranchTarget, InvalidExpressionTerminator, TooManyIterations}
 use Rattle.dwarf_base.specs.Faults.{Fault, fault_of}
 use Rattle.dwarf_base.specs.Reads.{Text}
 use Rattle.dwarf_value.specs.declared.types.Value.{Value}
@@ -13,7 +13,7 @@ use Rattle.dwarf_meaning.specs.Locations.{Location, Piece, sized_piece}
 use Rattle.dwarf_meaning.specs.Requests.{Request, OnAnswer, Answer, Input}
 use Rattle.dwarf_meaning.specs.Acts.{Act, RequestAct, act, Use, use_of}
 use Rattle.dwarf_meaning.specs.RunLaws.{waits_of}
-use Rattle.dwarf_meaning.specs.Stores.{address_bits, Store, Last, Plain, Pieced, Located, push_value, push_piece, push_caller, Next, Goes, RequestNext, FaultNext, do_act}
+use Rattle.dwarf_meaning.specs.Stores.{address_bits, Store, Last, Plain, Pieced, Located, push_value, push_values, push_piece, push_caller, Next, Goes, RequestNext, FaultNext, do_act}
 use Rattle.dwarf_meaning.specs.Run.{Position, after_answer, can_count, count_one, read, most_operations, run}
 use Rattle.dwarf_meaning.specs.Meaning.{Outcome, FaultOutcome, CompleteOutcome, completion_of}
 use Rattle.dwarf_meaning.specs.Rest.{State, Status, Start, Running, RequestStatus, CompleteStatus, FaultStatus, total_of_course, with_refusal}
@@ -45,11 +45,6 @@ pub record MayGive {A : Type 0} (limits : Limits) (f : Store → A) (old : Store
   pub refusal : Refusal
   pub may : MayPick limits refusal
   pub same : f (with_refusal refusal old) ≡ a
-
--- the state, with the fault that was met kept in it
-abbrev pub with_fault : {A : Type 0} → Result A Error → State → State
-with_fault (Ok done) x = x
-with_fault (Err error) x = with_status (FaultStatus error) x
 
 abbrev pub with_store : Store → State → State
 with_store s x = record x { store = s }
@@ -87,20 +82,27 @@ pub record Refused (more : ℕ) (f : Store → Result Store Fault) (old new : St
   pub gets : MayGive old.setup.limits f old.store (Err (fault_of error))
   pub stays : Stays more old new
 
--- f was done, or gave this fault
-abbrev pub Tries : {A : Type 0} → (more : ℕ) → (Store → Result Store Fault) → State → State → Result A Error → Type 0
-Tries more f old new (Ok done) = ChangesStoreBy f old new
-Tries more f old new (Err error) = Refused more f old (with_status (FaultStatus error) new)
+-- f was done, or the state keeps its fault
+abbrev pub TriesChange : (more : ℕ) → (Store → Result Store Fault) → State → State → Bool → Type 0
+TriesChange more f old new true = ChangesStoreBy f old new
+TriesChange more f old new false = Refused more f old new
 
--- the value of a plain operation was pushed, or refused
-abbrev pub PushesPlain : {A : Type 0} → Value → State → State → Result A Error → Type 0
-PushesPlain value old new result =
-    Tries 0 (λ s. push_value old.setup value (record s { last = Plain })) old new result
+abbrev pub HasTriedChange : (more : ℕ) → (Store → Result Store Fault) → State → State → Type 0
+HasTriedChange more f old new = (done : Bool) × TriesChange more f old new done
+
+-- the value of a plain operation was pushed, or the state keeps the fault
+abbrev pub PushesPlain : Value → State → State → Type 0
+PushesPlain value old new = HasTriedChange 0 (λ s. push_value old.setup value (record s { last = Plain })) old new
+
+-- the values of a plain operation were pushed, in order, or the state keeps the fault
+abbrev pub PushesAllPlain : List Value → State → State → Type 0
+PushesAllPlain values old new =
+    HasTriedChange (length values - 1) (λ s. push_values old.setup values (record s { last = Plain })) old new
 
 -- the top was popped, or there is none
-abbrev pub Pops : Result Value Error → State → State → Type 0
-Pops (Ok v) old new = (rest : List Value) × (old.store.values ≡ v ∷ rest) × (new ≡ with_values rest old)
-Pops (Err error) old new = (old.store.values ≡ []) × (new ≡ old) × (error ≡ NotEnoughStackItems)
+abbrev pub Pops : Option Value → State → State → Type 0
+Pops None old new = (old.store.values ≡ []) × (new ≡ old)
+Pops (Some v) old new = (rest : List Value) × (old.store.values ≡ v ∷ rest) × (new ≡ with_values rest old)
 
 -- the top was popped; this is its number, as an address
 pub record PopsTo (number : ℕ) (old new : State) : Type 0 where
@@ -110,20 +112,20 @@ pub record PopsTo (number : ℕ) (old new : State) : Type 0 where
   pub alone : new ≡ with_values rest old
   pub is : number ≡ to_u64_of (address_bits old.setup) value
 
-abbrev pub PopsNumber : State → State → Result ℕ Error → Type 0
-PopsNumber old new (Ok number) = PopsTo number old new
-PopsNumber old new (Err error) = (old.store.values ≡ []) × (new ≡ old) × (error ≡ NotEnoughStackItems)
+abbrev pub PopsNumber : State → State → Option ℕ → Type 0
+PopsNumber old new (Some number) = PopsTo number old new
+PopsNumber old new None = (old.store.values ≡ []) × (new ≡ old)
 
 -- one more operation is counted, or the maximum doesn't allow it
-abbrev pub CountsOne : {A : Type 0} → State → State → Result A Error → Type 0
-CountsOne old new (Ok done) = (can_count old.store ≡ true) × (new ≡ with_store (count_one old.store) old)
-CountsOne old new (Err error) = (can_count old.store ≡ false) × (new ≡ old) × (error ≡ TooManyIterations)
+abbrev pub CountsOne : State → State → Bool → Type 0
+CountsOne old new true = (can_count old.store ≡ true) × (new ≡ with_store (count_one old.store) old)
+CountsOne old new false = (can_count old.store ≡ false) × (new ≡ with_status (FaultStatus TooManyIterations) old)
 
 -- the run went to this place of the text, or there is no such place
-abbrev pub Jumps : {A : Type 0} → ℕ → State → State → Result A Error → Type 0
-Jumps place old new (Ok done) = (place ≤ length old.text.bytes) × (new ≡ with_place place old)
-Jumps place old new (Err error) =
-    (length old.text.bytes < place) × (new ≡ old) × (error ≡ BadBranchTarget place)
+abbrev pub Jumps : ℕ → State → State → Bool → Type 0
+Jumps place old new true = (place ≤ length old.text.bytes) × (new ≡ with_place place old)
+Jumps place old new false =
+    (length old.text.bytes < place) × (new ≡ with_status (FaultStatus (BadBranchTarget place)) old)
 
 -- the state at the place before this rest of its text
 abbrev pub at_rest : (left : List ℕ) → State → State
@@ -185,12 +187,11 @@ abbrev pub Asks : Option Request → OnAnswer → State → State → Type 0
 Asks (Some request) on_answer old new = Performs (RequestAct old.store.values request on_answer) old new
 Asks None on_answer old new = Unit {0}
 
--- the operation after a location: a piece ends it, or a fault is met
-abbrev pub EndsLocated : {A : Type 0} → Location → Operation → State → State → Result A Error → Type 0
-EndsLocated location (operation.Piece size_in_bits bit_offset) old new result =
-    Tries 0 (push_piece old.setup (sized_piece size_in_bits bit_offset location)) (with_last Pieced old) new result
-EndsLocated location _ old new result =
-    with_fault result new ≡ with_status (FaultStatus (InvalidExpressionTerminator (old.place - 1))) old
+-- the operation after a location: a piece ends it, or the state keeps the fault
+abbrev pub EndsLocated : Location → Operation → State → State → Type 0
+EndsLocated location (operation.Piece size_in_bits bit_offset) old new =
+    HasTriedChange 0 (push_piece old.setup (sized_piece size_in_bits bit_offset location)) (with_last Pieced old) new
+EndsLocated location _ old new = new ≡ with_status (FaultStatus (InvalidExpressionTerminator (old.place - 1))) old
 
 -- ---- turns
 
@@ -315,10 +316,9 @@ pub record Enters (callee : Text) (old new : State) : Type 0 where
     store = new.store;
   }
 
-abbrev pub TriesToEnter : {A : Type 0} → Text → State → State → Result A Error → Type 0
-TriesToEnter callee old new (Ok done) = Enters callee old new
-TriesToEnter callee old new (Err error) =
-    Refused 0 (push_caller old.setup (length old.callers)) old (with_status (FaultStatus error) new)
+abbrev pub TriesToEnter : Text → State → State → Bool → Type 0
+TriesToEnter callee old new true = Enters callee old new
+TriesToEnter callee old new false = Refused 0 (push_caller old.setup (length old.callers)) old new
 
 -- the total of a state in a request, if its answer is used in this way
 abbrev pub total_used : State → Use → Refusal → List Input → Total

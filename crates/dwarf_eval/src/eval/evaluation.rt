@@ -182,10 +182,7 @@ impl<R: Reader + Copy, S: EvaluationStorage<R>> Evaluation<R, S> {
         let EvaluationState::Start(initial_value) = *self.machine.state() else {
             return reply(&self.machine);
         };
-        self.machine.begin(initial_value);
-        if self.machine.is_running() {
-            self.machine.run_on();
-        }
+        self.machine.start(initial_value);
         reply(&self.machine)
     }
 

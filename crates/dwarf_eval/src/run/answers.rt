@@ -6,103 +6,155 @@ ghost use Rattle.dwarf_meaning.specs.Stores.{Pushed, push_value};
 ghost use Rattle.dwarf_eval.specs.Permits.{IsOpenFor};
 ghost use Rattle.dwarf_eval.specs.inner.Answers.{IsWaiting, answer_of};
 ghost use Rattle.dwarf_meaning.specs.Inputs.{input_of, with_status};
-ghost use Rattle.dwarf_eval.specs.inner.StateChanges.{ComesToState, HasReply, TakesAnswer, AnswersOpenRequest, Tries, total_after, with_fault, with_last};
+ghost use Rattle.dwarf_eval.specs.inner.StateChanges.{ComesToState, HasReply, TakesAnswer, AnswersOpenRequest, HasTriedChange, total_after, with_last};
 
 use crate::run::machine::Machine;
-use crate::run::states::{Given, LastOperation, OnAnswer};
+use crate::run::states::{Given, OnAnswer};
 use crate::store::EvaluationStorage;
-use dwarf_base::{Reader, Result, copy_of};
+use dwarf_base::{Error, Reader, copy_of};
 use dwarf_value::{Value, ValueType};
 
 impl<R: Reader + Copy, S: EvaluationStorage<R>> Machine<R, S> {
     /// Pushes an answer.
     #[inline(always)]
-    fn push_answer(&mut self, value: Value) -> Result<()>
-        ensures { Tries 0 (push_value self.old.setup value)
-            (with_status Running (with_last Pushed self.old)) self.new result }
+    fn push_answer(&mut self, value: Value)
+        ensures { HasTriedChange 0 (push_value self.old.setup value)
+            (with_status Running (with_last Pushed self.old)) self.new }
     {
-        self.mark(LastOperation::Pushed);
+        self.mark_pushed();
         self.set_running();
-        self.push(value)
+        self.push(value);
     }
 
     /// Pushes a value, or its sum with the offset.
     #[inline(always)]
-    fn take_value(&mut self, value: Value) -> Result<()>
+    fn take_value(&mut self, value: Value)
         requires { IsWaiting self.old.status }
-        ensures { (kind : WaitingKind) → AnswersOpenRequest (requests.ValueAnswer kind value) self.old
-            (with_fault result self.new) }
+        ensures { (kind : WaitingKind) → AnswersOpenRequest (requests.ValueAnswer kind value) self.old self.new }
     {
         match *self.on_answer() {
-            OnAnswer::Add(offset) => {
-                let sum = self.sum(value, offset.cast_unsigned())?;
-                self.push_answer(sum)
-            }
+            OnAnswer::Add(offset) => self.take_value_sum(value, offset),
             _ => self.push_answer(value),
+        }
+    }
+
+    /// Pushes the sum of a value and the offset in its type.
+    #[inline(always)]
+    fn take_value_sum(&mut self, value: Value, offset: i64)
+        requires { IsWaiting self.old.status }
+        ensures { (kind : WaitingKind) →
+            TakesAnswer (requests.Add offset) (requests.ValueAnswer kind value) self.old self.new }
+    {
+        match self.sum(value, offset.cast_unsigned()) {
+            Ok(sum) => self.push_answer(sum),
+            Err(error) => self.fail(error),
         }
     }
 
     /// Pushes a number, or its sum with the offset.
     #[inline(always)]
-    fn take_number(&mut self, number: u64) -> Result<()>
+    fn take_number(&mut self, number: u64)
         requires { IsWaiting self.old.status }
-        ensures { (kind : WaitingKind) → AnswersOpenRequest (requests.NumberAnswer kind number) self.old
-            (with_fault result self.new) }
+        ensures { (kind : WaitingKind) → AnswersOpenRequest (requests.NumberAnswer kind number) self.old self.new }
     {
-        let number = match *self.on_answer() {
-            OnAnswer::Add(offset) => number.wrapping_add(offset.cast_unsigned()),
-            _ => number,
-        };
-        self.push_answer(Value::Generic(number))
+        match *self.on_answer() {
+            OnAnswer::Add(offset) => self.take_number_sum(number, offset),
+            _ => self.push_answer(Value::Generic(number)),
+        }
     }
 
-    /// Pushes a value of the type: the literal's, or that of the top.
+    /// Pushes the sum of a number and the offset.
     #[inline(always)]
-    fn take_base_type(&mut self, base_type: ValueType) -> Result<()>
+    fn take_number_sum(&mut self, number: u64, offset: i64)
         requires { IsWaiting self.old.status }
-        ensures { AnswersOpenRequest (requests.BaseTypeAnswer base_type) self.old
-            (with_fault result self.new) }
+        ensures { (kind : WaitingKind) →
+            TakesAnswer (requests.Add offset) (requests.NumberAnswer kind number) self.old self.new }
+    {
+        let sum = number.wrapping_add(offset.cast_unsigned());
+        self.push_answer(Value::Generic(sum));
+    }
+
+    /// Makes a value of the type: of the literal, or of the top.
+    #[inline(always)]
+    fn take_base_type(&mut self, base_type: ValueType)
+        requires { IsWaiting self.old.status }
+        ensures { AnswersOpenRequest (requests.BaseTypeAnswer base_type) self.old self.new }
     {
         match self.on_answer() {
             OnAnswer::Parse(literal) => {
-                let value = Value::parse(base_type, copy_of(literal))?;
-                self.push_answer(value)
+                let literal = copy_of(literal);
+                self.take_literal(base_type, literal)
             }
-            OnAnswer::Convert => {
-                let top = self.pop()?;
-                let value = top.convert(base_type, self.addr_mask())?;
-                self.push_answer(value)
-            }
-            _ => {
-                let top = self.pop()?;
-                let value = top.reinterpret(base_type, self.addr_mask())?;
-                self.push_answer(value)
-            }
+            OnAnswer::Convert => self.take_conversion(base_type),
+            _ => self.take_reinterpretation(base_type),
+        }
+    }
+
+    /// Pushes the literal's bytes as a value of the type.
+    #[inline(never)]
+    fn take_literal(&mut self, base_type: ValueType, literal: R)
+        requires { IsWaiting self.old.status }
+        ensures { TakesAnswer (requests.Parse (R.text literal)) (requests.BaseTypeAnswer base_type)
+            self.old self.new }
+    {
+        match Value::parse(base_type, literal) {
+            Ok(value) => self.push_answer(value),
+            Err(error) => self.fail(error),
+        }
+    }
+
+    /// Converts the top to the type.
+    #[inline(never)]
+    fn take_conversion(&mut self, base_type: ValueType)
+        requires { IsWaiting self.old.status }
+        ensures { TakesAnswer requests.Convert (requests.BaseTypeAnswer base_type) self.old self.new }
+    {
+        let Some(value) = self.pop() else {
+            self.fail(Error::NotEnoughStackItems);
+            return;
+        };
+        match value.convert(base_type, self.addr_mask()) {
+            Ok(converted) => self.push_answer(converted),
+            Err(error) => self.fail(error),
+        }
+    }
+
+    /// Takes the bits on top as a value of the type.
+    #[inline(never)]
+    fn take_reinterpretation(&mut self, base_type: ValueType)
+        requires { IsWaiting self.old.status }
+        ensures { TakesAnswer requests.Reinterpret (requests.BaseTypeAnswer base_type) self.old self.new }
+    {
+        let Some(value) = self.pop() else {
+            self.fail(Error::NotEnoughStackItems);
+            return;
+        };
+        match value.reinterpret(base_type, self.addr_mask()) {
+            Ok(reinterpreted) => self.push_answer(reinterpreted),
+            Err(error) => self.fail(error),
         }
     }
 
     /// Runs the called text in the call's place; goes on at once if it is empty.
     #[inline(never)]
-    fn take_location(&mut self, callee: R) -> Result<()>
+    fn take_location(&mut self, callee: R)
         requires { IsWaiting self.old.status }
         ensures { (on_answer : requests.OnAnswer) →
-            TakesAnswer on_answer (requests.LocationAnswer (R.text callee)) self.old
-            (with_fault result self.new) }
+            TakesAnswer on_answer (requests.LocationAnswer (R.text callee)) self.old self.new }
     {
         self.set_running();
         if callee.is_empty() {
-            self.mark(LastOperation::Called);
-            return Ok(());
+            self.mark_called();
+            return;
         }
-        self.push_caller(callee)
+        self.push_caller(callee);
     }
 
     /// Takes an answer, to do with it what the open request wants.
     #[inline(always)]
-    fn take(&mut self, given: Given<R>) -> Result<()>
+    fn take(&mut self, given: Given<R>)
         requires { IsWaiting self.old.status }
-        ensures { (kind : WaitingKind) → AnswersOpenRequest (answer_of R.text kind given) self.old
-            (with_fault result self.new) }
+        ensures { (kind : WaitingKind) → AnswersOpenRequest (answer_of R.text kind given) self.old self.new }
     {
         match given {
             Given::Value(value) => self.take_value(value),
@@ -122,9 +174,7 @@ impl<R: Reader + Copy, S: EvaluationStorage<R>> Machine<R, S> {
             (total_after self.old (input_of self.old (answer_of R.text kind given))) self.new }
         ensures replies { HasReply self.new.status }
     {
-        if let Err(error) = self.take(given) {
-            self.fail(error);
-        }
+        self.take(given);
         if self.is_running() {
             self.run_on();
         }

@@ -8,12 +8,12 @@ ghost use Rattle.dwarf_meaning.specs.Meaning.{has_pieces};
 ghost use Rattle.dwarf_meaning.specs.Requests as requests;
 ghost use Rattle.dwarf_meaning.specs.Rest.{Start, Running, RequestStatus, CompleteStatus, FaultStatus};
 ghost use Rattle.dwarf_meaning.specs.Run.{read};
-ghost use Rattle.dwarf_meaning.specs.Stores.{Located, Pieced, address_bits, push_value, push_piece, setup_of};
+ghost use Rattle.dwarf_meaning.specs.Stores.{Called, Located, Pieced, Plain, Pushed, address_bits, push_value, push_piece, setup_of};
 ghost use Rattle.dwarf_op.specs.Views.{operation_of, location_of, piece_of};
 ghost use Rattle.dwarf_meaning.specs.Inputs.{fresh_state, with_maximum, with_object, with_status};
 ghost use Rattle.dwarf_eval.specs.Evaluation.{request_in};
 ghost use Rattle.dwarf_eval.specs.inner.Machine.{last_of, on_answer_of, replied_status, status_of};
-ghost use Rattle.dwarf_eval.specs.inner.StateChanges.{Asks, CountsOne, GoesBack, Jumps, Pops, ReadsOperation, Tries, TriesToEnter, at_rest, is_free, is_running, read_to, with_fault, with_last, with_place};
+ghost use Rattle.dwarf_eval.specs.inner.StateChanges.{Asks, CountsOne, GoesBack, Jumps, Pops, ReadsOperation, TriesChange, TriesToEnter, at_rest, is_free, is_running, read_to, with_last, with_place};
 
 use crate::op::EvaluationResult;
 use crate::run::states::{EvaluationState, LastOperation, OnAnswer};
@@ -25,7 +25,7 @@ use dwarf_value::Value;
 use std::marker::Model;
 use std::mem;
 
-/// The state of an evaluation, and its smallest steps. Nothing else sees the bytes and the lists.
+/// The state of an evaluation, and its smallest steps: these alone see bytes and lists.
 #[derive(Drop)]
 pub(crate) struct Machine<R: Reader + Copy, S: EvaluationStorage<R>> {
     state: EvaluationState<R>,
@@ -34,19 +34,19 @@ pub(crate) struct Machine<R: Reader + Copy, S: EvaluationStorage<R>> {
     object_address: Option<u64>,
     max_iterations: u32,
     iteration: u32,
-    // The rest of the running text, or `None` while the run holds it.
+    // What is left of the running text, or `None` while a run has it.
     rest: Option<R>,
-    // All of the running text.
+    // The whole of it.
     whole: R,
     last: LastOperation,
     // The location that waits for its piece, if the last operation gave one.
     location: Location<R>,
-    // What to do with the answer, if a request is open.
+    // What is done with the answer, if a request is open.
     on_answer: OnAnswer<R>,
     stack: S::Stack,
     expression_stack: S::ExpressionStack,
     pieces: S::Result,
-    // Only contracts read it.
+    // Contracts alone see it.
     decodings: Ticks,
 }
 
@@ -83,23 +83,24 @@ impl<R: Reader + Copy, S: EvaluationStorage<R>> Machine<R, S> {
         self.state = EvaluationState::Failed(error);
     }
 
-    /// Pushes a value. `StackFull` if the stack refuses it.
+    /// Pushes a value, or keeps the fault of a stack that doesn't take it.
     #[inline(always)]
-    pub(crate) fn push(&mut self, value: Value) -> Result<()>
-        ensures { Tries 0 (push_value self.old.setup value) self.old self.new result }
+    pub(crate) fn push(&mut self, value: Value) -> bool
+        ensures { TriesChange 0 (push_value self.old.setup value) self.old self.new result }
     {
         let Ok(()) = self.stack.push(value) else {
-            return Err(Error::StackFull);
+            self.fail(Error::StackFull);
+            return false;
         };
-        Ok(())
+        true
     }
 
-    /// Pops the top. `NotEnoughStackItems` if the stack is empty.
+    /// Pops the top.
     #[inline(always)]
-    pub(crate) fn pop(&mut self) -> Result<Value>
+    pub(crate) fn pop(&mut self) -> Option<Value>
         ensures { Pops result self.old self.new }
     {
-        self.stack.pop().ok_or(Error::NotEnoughStackItems)
+        self.stack.pop()
     }
 
     /// The value that is this far below the top.
@@ -114,50 +115,75 @@ impl<R: Reader + Copy, S: EvaluationStorage<R>> Machine<R, S> {
         self.stack.get(len - 1 - usize::from(index))
     }
 
-    /// Adds a piece. `StackFull` if the list refuses it.
+    /// Adds a piece, or keeps the fault of a list that doesn't take it.
     #[inline(always)]
-    pub(crate) fn push_piece(&mut self, piece: Piece<R>) -> Result<()>
-        ensures { Tries 0 (push_piece self.old.setup (piece_of R.text R.Offset.number piece))
+    pub(crate) fn push_piece(&mut self, piece: Piece<R>) -> bool
+        ensures { TriesChange 0 (push_piece self.old.setup (piece_of R.text R.Offset.number piece))
             self.old self.new result }
     {
         let Ok(()) = self.pieces.push(piece) else {
-            return Err(Error::StackFull);
+            self.fail(Error::StackFull);
+            return false;
         };
-        Ok(())
+        true
     }
 
-    /// Counts one more operation. `TooManyIterations` if the maximum doesn't allow it.
+    /// Counts one more operation, or keeps the fault of a maximum that doesn't allow it.
     #[inline(always)]
-    pub(crate) fn count(&mut self) -> Result<()>
+    pub(crate) fn count(&mut self) -> bool
         ensures { CountsOne self.old self.new result }
     {
         if self.iteration >= self.max_iterations {
-            return Err(Error::TooManyIterations);
+            self.fail(Error::TooManyIterations);
+            return false;
         }
         self.iteration += 1;
-        Ok(())
+        true
     }
 
-    /// Notes what the last operation did.
+    /// Notes that the last operation was a plain one.
     #[inline(always)]
-    pub(crate) fn mark(&mut self, last: LastOperation)
-        ensures { (location : _) × (self.new ≡ with_last (last_of last location) self.old) }
+    pub(crate) fn mark_plain(&mut self)
+        ensures { self.new ≡ with_last Plain self.old }
     {
-        self.last = last;
+        self.last = LastOperation::Plain;
     }
 
-    /// Makes this the location that waits for its piece. It never fails: an operation returns its `Ok`.
+    /// Notes that the last operation ended a piece.
     #[inline(always)]
-    pub(crate) fn locate(&mut self, location: Location<R>) -> Result<()>
-        ensures { with_fault result self.new
+    pub(crate) fn mark_pieced(&mut self)
+        ensures { self.new ≡ with_last Pieced self.old }
+    {
+        self.last = LastOperation::Pieced;
+    }
+
+    /// Notes that an answer is pushed.
+    #[inline(always)]
+    pub(crate) fn mark_pushed(&mut self)
+        ensures { self.new ≡ with_last Pushed self.old }
+    {
+        self.last = LastOperation::Pushed;
+    }
+
+    /// Notes that a call was answered by an empty text.
+    #[inline(always)]
+    pub(crate) fn mark_called(&mut self)
+        ensures { self.new ≡ with_last Called self.old }
+    {
+        self.last = LastOperation::Called;
+    }
+
+    /// Lets a location wait for its piece.
+    #[inline(always)]
+    pub(crate) fn locate(&mut self, location: Location<R>)
+        ensures { self.new
             ≡ with_last (Located (location_of R.text R.Offset.number location)) self.old }
     {
         self.last = LastOperation::Located;
         self.location = location;
-        Ok(())
     }
 
-    /// What the last operation did.
+    /// Of what sort the last operation was.
     #[inline(always)]
     pub(crate) fn last(&self) -> LastOperation
         ensures { (location : _)
@@ -175,7 +201,7 @@ impl<R: Reader + Copy, S: EvaluationStorage<R>> Machine<R, S> {
         &self.location
     }
 
-    /// Takes the waiting location, since its piece was read.
+    /// Takes the location that waits for its piece, which the last operation ended.
     #[inline(always)]
     pub(crate) fn take_located(&mut self) -> Location<R>
         requires { is_free self.old.store.last ≡ false }
@@ -183,11 +209,12 @@ impl<R: Reader + Copy, S: EvaluationStorage<R>> Machine<R, S> {
             ≡ Located (location_of R.text R.Offset.number result) }
         ensures pieced { self.new ≡ with_last Pieced self.old }
     {
-        self.last = LastOperation::Pieced;
-        mem::replace(&mut self.location, Location::Empty)
+        let location = mem::replace(&mut self.location, Location::Empty);
+        self.mark_pieced();
+        location
     }
 
-    /// Sets the value that is on the stack when the evaluation starts.
+    /// Is to start with this value on the stack.
     #[inline(always)]
     pub(crate) fn set_initial_value(&mut self, value: u64)
         ensures { self.new ≡ with_status (Start (Some value)) self.old }
@@ -195,7 +222,7 @@ impl<R: Reader + Copy, S: EvaluationStorage<R>> Machine<R, S> {
         self.state = EvaluationState::Start(Some(value));
     }
 
-    /// Sets the evaluation running.
+    /// Runs from now on.
     #[inline(always)]
     pub(crate) fn set_running(&mut self)
         ensures { self.new ≡ with_status Running self.old }
@@ -203,28 +230,27 @@ impl<R: Reader + Copy, S: EvaluationStorage<R>> Machine<R, S> {
         self.state = EvaluationState::Running;
     }
 
-    /// Completes the run, with this value.
+    /// Ends the run, with this value.
     #[inline(always)]
-    pub(crate) fn complete(&mut self, value: Option<Value>)
+    pub(crate) fn end(&mut self, value: Option<Value>)
         ensures { self.new ≡ with_status (CompleteStatus value) self.old }
     {
         self.state = EvaluationState::Complete(value);
     }
 
-    /// Opens a request; `on_answer` says what to do with the answer. It never fails: an operation returns its `Ok`.
+    /// Asks this, to do that with the answer.
     #[inline(always)]
-    pub(crate) fn ask(&mut self, request: EvaluationResult<R>, on_answer: OnAnswer<R>) -> Result<()>
-        ensures alone { with_fault result self.new
+    pub(crate) fn ask(&mut self, request: EvaluationResult<R>, on_answer: OnAnswer<R>)
+        ensures alone { self.new
             ≡ with_status
             (replied_status (request_in R.text R.Offset.number request)
             (on_answer_of R.text on_answer))
             self.old }
         ensures asks { Asks (request_in R.text R.Offset.number request) (on_answer_of R.text on_answer)
-            self.old (with_fault result self.new) }
+            self.old self.new }
     {
         self.state = EvaluationState::Waiting(request);
         self.on_answer = on_answer;
-        Ok(())
     }
 
     /// Where the evaluation stands.
@@ -236,7 +262,7 @@ impl<R: Reader + Copy, S: EvaluationStorage<R>> Machine<R, S> {
         &self.state
     }
 
-    /// What to do with the answer to the open request.
+    /// What is done with the answer to the open request.
     #[inline(always)]
     pub(crate) fn on_answer(&self) -> &OnAnswer<R>
         ensures { (request : requests.Request) → (wanted : requests.OnAnswer)
@@ -318,7 +344,7 @@ impl<R: Reader + Copy, S: EvaluationStorage<R>> Machine<R, S> {
         }
     }
 
-    /// The place in the running text before this rest of it.
+    /// The place that is before what is left of the running text.
     #[inline(always)]
     pub(crate) fn place_of(&self, rest: &R) -> R::Offset
         requires { IsRestOf (R.text rest.now) self.now.text }
@@ -328,7 +354,7 @@ impl<R: Reader + Copy, S: EvaluationStorage<R>> Machine<R, S> {
         rest.offset_from(&self.whole)
     }
 
-    /// Takes the rest of the running text. The machine stands at the start of the text until [`go_to`](Self::go_to).
+    /// Takes what is left of the running text, which stands at its start meanwhile.
     #[inline(always)]
     pub(crate) fn take_rest(&mut self) -> R
         ensures rest { IsRestOf (R.text result) self.old.text }
@@ -341,7 +367,7 @@ impl<R: Reader + Copy, S: EvaluationStorage<R>> Machine<R, S> {
         }
     }
 
-    /// Goes to this rest of the running text.
+    /// Goes to what is left of the running text.
     #[inline(always)]
     pub(crate) fn go_to(&mut self, rest: R)
         requires { IsRestOf (R.text rest) self.old.text }
@@ -350,8 +376,8 @@ impl<R: Reader + Copy, S: EvaluationStorage<R>> Machine<R, S> {
         self.rest = Some(rest);
     }
 
-    /// Reads the operation at the front of `rest`. No other function of an evaluation decodes, and `decodings` counts
-    /// the calls.
+    /// Reads the operation before what is left of the running text, and counts that. Nothing else of an evaluation
+    /// decodes, and nothing else raises the count.
     #[inline(always)]
     pub(crate) fn decode(&mut self, rest: &mut R) -> Result<Operation<R>>
         requires { IsRestOf (R.text rest.old) self.old.text }
@@ -369,24 +395,25 @@ impl<R: Reader + Copy, S: EvaluationStorage<R>> Machine<R, S> {
         Operation::parse(rest, self.encoding)
     }
 
-    /// Goes to a place of the running text. `BadBranchTarget` if it lies beyond the end.
+    /// Goes to a place of the running text, or keeps the fault of a place that it doesn't have.
     #[inline(always)]
-    pub(crate) fn jump(&self, place: R::Offset, rest: &mut R) -> Result<()>
-        requires { IsRestOf (R.text rest.old) self.now.text }
-        ensures jumps { Jumps (R.Offset.number place) (at_rest (R.text rest.old).bytes self.now)
-            (at_rest (R.text rest.new).bytes self.now) result }
-        ensures rest { IsRestOf (R.text rest.new) self.now.text }
+    pub(crate) fn jump(&mut self, place: R::Offset, rest: &mut R) -> bool
+        requires { IsRestOf (R.text rest.old) self.old.text }
+        ensures jumps { Jumps (R.Offset.number place) (at_rest (R.text rest.old).bytes self.old)
+            (at_rest (R.text rest.new).bytes self.new) result }
+        ensures rest { IsRestOf (R.text rest.new) self.new.text }
     {
         let mut target = copy_of(&self.whole);
         let Ok(()) = target.skip(place) else {
-            return Err(Error::BadBranchTarget(place.into_u64()));
+            self.fail(Error::BadBranchTarget(place.into_u64()));
+            return false;
         };
         *rest = target;
-        Ok(())
+        true
     }
 
-    /// Runs a called text, and keeps its caller. `StackFull` if the list of callers refuses it.
-    pub(crate) fn push_caller(&mut self, callee: R) -> Result<()>
+    /// Runs a called text and keeps its caller, or keeps the fault of a list that doesn't take it.
+    pub(crate) fn push_caller(&mut self, callee: R) -> bool
         ensures { TriesToEnter (R.text callee) self.old self.new result }
     {
         let rest = self.take_rest();
@@ -394,12 +421,13 @@ impl<R: Reader + Copy, S: EvaluationStorage<R>> Machine<R, S> {
         match self.expression_stack.push((rest, whole)) {
             Ok(()) => {
                 self.rest = Some(callee);
-                Ok(())
+                true
             }
             Err((rest, whole)) => {
                 self.rest = Some(rest);
                 self.whole = whole;
-                Err(Error::StackFull)
+                self.fail(Error::StackFull);
+                false
             }
         }
     }
@@ -446,7 +474,7 @@ impl<R: Reader + Copy, S: EvaluationStorage<R>> Machine<R, S> {
         self.pieces
     }
 
-    /// Starts over with another text and the same lists, which keep their memory.
+    /// Stands as a fresh evaluation of another text, over the same lists, which keep their memory.
     #[tactic(auto, unfolding(dwarf_meaning::specs::Run::most_operations))]
     #[inline(always)]
     pub(crate) fn restart(&mut self, bytecode: R, encoding: Encoding)

@@ -1,19 +1,17 @@
-//! What operations do to the stack, to pieces and to the place, and what they ask.
-
-ghost use Rattle.std.specs.Prelude.{◌≡◌};
+ghost use Rattle.std.specs.Prelude.{◌≡◌, [], ◌∷◌};
 ghost use Rattle.dwarf_base.specs.Reads.{IsRestOf};
 ghost use Rattle.dwarf_meaning.specs.Acts.{Branches, binary, unary};
 ghost use Rattle.dwarf_meaning.specs.Operations as meaning;
 ghost use Rattle.dwarf_meaning.specs.Rest.{Running};
-ghost use Rattle.dwarf_meaning.specs.Stores.{address_bits};
+ghost use Rattle.dwarf_meaning.specs.Stores.{address_bits, push_values};
 ghost use Rattle.dwarf_value.specs.Values.{from_u64_of, to_u64_of, type_of, unary_of, binary_of, Plus};
 ghost use Rattle.dwarf_eval.specs.inner.Machine.{binary_operator_of, operator_of};
-ghost use Rattle.dwarf_eval.specs.inner.StateChanges.{Performs, PopsNumber, PushesPlain, act_of, at_rest, with_fault};
+ghost use Rattle.dwarf_eval.specs.inner.StateChanges.{Performs, PopsNumber, PushesAllPlain, PushesPlain, TriesChange, act_of, at_rest};
 
 use crate::op::EvaluationResult;
 use crate::run::machine::Machine;
 use crate::run::operators::{BinaryOperator, UnaryOperator};
-use crate::run::states::{LastOperation, OnAnswer};
+use crate::run::states::OnAnswer;
 use crate::store::EvaluationStorage;
 use dwarf_base::{Error, Reader, ReaderOffset, Result, UnitOffset};
 use dwarf_op::{Location, Piece};
@@ -22,40 +20,85 @@ use dwarf_value::Value;
 impl<R: Reader + Copy, S: EvaluationStorage<R>> Machine<R, S> {
     /// Pushes the value of a plain operation.
     #[inline(always)]
-    pub(crate) fn push_plain(&mut self, value: Value) -> Result<()>
-        ensures { PushesPlain value self.old self.new result }
+    pub(crate) fn push_plain(&mut self, value: Value)
+        ensures { PushesPlain value self.old self.new }
     {
-        self.mark(LastOperation::Plain);
-        self.push(value)
+        self.mark_plain();
+        self.push(value);
     }
 
-    /// Replaces the top by the operator's value.
+    /// Pushes two values, the second on top.
+    #[inline(always)]
+    fn push_two(&mut self, first: Value, second: Value) -> bool
+        ensures { TriesChange 1 (push_values self.old.setup (first ∷ second ∷ [])) self.old self.new
+            result }
+    {
+        if !self.push(first) {
+            return false;
+        }
+        self.push(second)
+    }
+
+    /// Pushes two values of a plain operation, the second on top.
+    #[inline(always)]
+    fn push_both(&mut self, first: Value, second: Value)
+        ensures { PushesAllPlain (first ∷ second ∷ []) self.old self.new }
+    {
+        self.mark_plain();
+        self.push_two(first, second);
+    }
+
+    /// Pushes three values of a plain operation, the third on top.
+    #[inline(always)]
+    fn push_three(&mut self, first: Value, second: Value, third: Value)
+        ensures { PushesAllPlain (first ∷ second ∷ third ∷ []) self.old self.new }
+    {
+        self.mark_plain();
+        if self.push(first) {
+            self.push_two(second, third);
+        }
+    }
+
+    /// Puts the call's value in the place of the top.
     #[inline(never)]
-    pub(crate) fn compute_unary(&mut self, operator: UnaryOperator) -> Result<()>
+    pub(crate) fn compute_unary(&mut self, operator: UnaryOperator)
         requires { self.old.status ≡ Running }
         ensures { Performs
             (unary (unary_of (operator_of operator) (address_bits self.old.setup))
             self.old.store.values)
-            self.old (with_fault result self.new) }
+            self.old self.new }
     {
-        let value = self.pop()?;
-        let computed = operator.apply(value, self.addr_mask())?;
-        self.push_plain(computed)
+        let Some(value) = self.pop() else {
+            self.fail(Error::NotEnoughStackItems);
+            return;
+        };
+        match operator.apply(value, self.addr_mask()) {
+            Ok(computed) => self.push_plain(computed),
+            Err(error) => self.fail(error),
+        }
     }
 
-    /// Replaces the two on top by the operator's value.
+    /// Puts the call's value in the place of the two on top.
     #[inline(never)]
-    pub(crate) fn compute_binary(&mut self, operator: BinaryOperator) -> Result<()>
+    pub(crate) fn compute_binary(&mut self, operator: BinaryOperator)
         requires { self.old.status ≡ Running }
         ensures { Performs
             (binary (binary_of (binary_operator_of operator) (address_bits self.old.setup))
             self.old.store.values)
-            self.old (with_fault result self.new) }
+            self.old self.new }
     {
-        let right = self.pop()?;
-        let left = self.pop()?;
-        let computed = operator.apply(left, right, self.addr_mask())?;
-        self.push_plain(computed)
+        let Some(right) = self.pop() else {
+            self.fail(Error::NotEnoughStackItems);
+            return;
+        };
+        let Some(left) = self.pop() else {
+            self.fail(Error::NotEnoughStackItems);
+            return;
+        };
+        match operator.apply(left, right, self.addr_mask()) {
+            Ok(computed) => self.push_plain(computed),
+            Err(error) => self.fail(error),
+        }
     }
 
     /// A value plus a constant of its type.
@@ -69,7 +112,7 @@ impl<R: Reader + Copy, S: EvaluationStorage<R>> Machine<R, S> {
         value.add(addend, self.addr_mask())
     }
 
-    /// A value as a number, cut to an address's bits.
+    /// The number of an address's bits that a value is.
     #[inline(always)]
     pub(crate) fn number_of(&self, value: Value) -> u64
         ensures { result ≡ to_u64_of (address_bits self.now.setup) value }
@@ -77,176 +120,214 @@ impl<R: Reader + Copy, S: EvaluationStorage<R>> Machine<R, S> {
         value.to_u64(self.addr_mask()).unwrap_or(0)
     }
 
-    /// Pops the top as a number, cut to an address's bits. `NotEnoughStackItems` if the stack is empty.
+    /// Pops the top as a number of an address's bits.
     #[inline(always)]
-    fn pop_number(&mut self) -> Result<u64>
+    fn pop_number(&mut self) -> Option<u64>
         ensures { PopsNumber self.old self.new result }
     {
         let value = self.pop()?;
-        Ok(self.number_of(value))
+        Some(self.number_of(value))
     }
 
     /// Drops the top.
     #[inline(always)]
-    pub(crate) fn drop_top(&mut self) -> Result<()>
+    pub(crate) fn drop_top(&mut self)
         requires { self.old.status ≡ Running }
-        ensures { Performs (act_of self.old meaning.Drop) self.old (with_fault result self.new) }
+        ensures { Performs (act_of self.old meaning.Drop) self.old self.new }
     {
-        self.pop()?;
-        self.mark(LastOperation::Plain);
-        Ok(())
+        let Some(_) = self.pop() else {
+            self.fail(Error::NotEnoughStackItems);
+            return;
+        };
+        self.mark_plain();
     }
 
     /// Pushes a copy of the value that is this far below the top.
     #[inline(always)]
-    pub(crate) fn pick(&mut self, index: u8) -> Result<()>
+    pub(crate) fn pick(&mut self, index: u8)
         requires { self.old.status ≡ Running }
-        ensures { Performs (act_of self.old (meaning.Pick index)) self.old
-            (with_fault result self.new) }
+        ensures { Performs (act_of self.old (meaning.Pick index)) self.old self.new }
     {
-        let value = self.value_at(index).ok_or(Error::NotEnoughStackItems)?;
+        let Some(value) = self.value_at(index) else {
+            self.fail(Error::NotEnoughStackItems);
+            return;
+        };
         self.push_plain(value)
     }
 
     /// Swaps the two on top.
     #[inline(never)]
-    pub(crate) fn swap(&mut self) -> Result<()>
+    pub(crate) fn swap(&mut self)
         requires { self.old.status ≡ Running }
-        ensures { Performs (act_of self.old meaning.Swap) self.old (with_fault result self.new) }
+        ensures { Performs (act_of self.old meaning.Swap) self.old self.new }
     {
-        let top = self.pop()?;
-        let next = self.pop()?;
-        self.push_plain(top)?;
-        self.push(next)
+        let Some(top) = self.pop() else {
+            self.fail(Error::NotEnoughStackItems);
+            return;
+        };
+        let Some(next) = self.pop() else {
+            self.fail(Error::NotEnoughStackItems);
+            return;
+        };
+        self.push_both(top, next)
     }
 
     /// Moves the top under the two below it.
     #[inline(never)]
-    pub(crate) fn rotate(&mut self) -> Result<()>
+    pub(crate) fn rotate(&mut self)
         requires { self.old.status ≡ Running }
-        ensures { Performs (act_of self.old meaning.Rot) self.old (with_fault result self.new) }
+        ensures { Performs (act_of self.old meaning.Rot) self.old self.new }
     {
-        let top = self.pop()?;
-        let second = self.pop()?;
-        let third = self.pop()?;
-        self.push_plain(top)?;
-        self.push(third)?;
-        self.push(second)
+        let Some(top) = self.pop() else {
+            self.fail(Error::NotEnoughStackItems);
+            return;
+        };
+        let Some(second) = self.pop() else {
+            self.fail(Error::NotEnoughStackItems);
+            return;
+        };
+        let Some(third) = self.pop() else {
+            self.fail(Error::NotEnoughStackItems);
+            return;
+        };
+        self.push_three(top, third, second)
     }
 
     /// Adds a constant to the top.
     #[inline(never)]
-    pub(crate) fn add_constant(&mut self, constant: u64) -> Result<()>
+    pub(crate) fn add_constant(&mut self, constant: u64)
         requires { self.old.status ≡ Running }
-        ensures { Performs (act_of self.old (meaning.PlusConstant constant)) self.old
-            (with_fault result self.new) }
+        ensures { Performs (act_of self.old (meaning.PlusConstant constant)) self.old self.new }
     {
-        let value = self.pop()?;
-        let sum = self.sum(value, constant)?;
-        self.push_plain(sum)
+        let Some(value) = self.pop() else {
+            self.fail(Error::NotEnoughStackItems);
+            return;
+        };
+        match self.sum(value, constant) {
+            Ok(sum) => self.push_plain(sum),
+            Err(error) => self.fail(error),
+        }
     }
 
     /// Pushes the address of the object that is described.
     #[inline(always)]
-    pub(crate) fn push_object_address(&mut self) -> Result<()>
+    pub(crate) fn push_object_address(&mut self)
         requires { self.old.status ≡ Running }
-        ensures { Performs (act_of self.old meaning.PushObjectAddress) self.old
-            (with_fault result self.new) }
+        ensures { Performs (act_of self.old meaning.PushObjectAddress) self.old self.new }
     {
-        let address = self
-            .object_address()
-            .ok_or(Error::InvalidPushObjectAddress)?;
+        let Some(address) = self.object_address() else {
+            self.fail(Error::InvalidPushObjectAddress);
+            return;
+        };
         self.push_plain(Value::Generic(address))
     }
 
-    /// Goes on this many bytes after the end of the operation.
+    /// Goes on this many bytes after the operation.
     #[inline(always)]
-    pub(crate) fn take_branch(&mut self, target: i16, rest: &mut R) -> Result<()>
+    pub(crate) fn take_branch(&mut self, target: i16, rest: &mut R)
         requires runs { self.old.status ≡ Running }
         requires rest { IsRestOf (R.text rest.old) self.old.text }
         ensures performs { Performs (Branches self.old.store.values target)
-            (at_rest (R.text rest.old).bytes self.old)
-            (with_fault result (at_rest (R.text rest.new).bytes self.new)) }
+            (at_rest (R.text rest.old).bytes self.old) (at_rest (R.text rest.new).bytes self.new) }
         ensures rest { IsRestOf (R.text rest.new) self.new.text }
     {
-        self.mark(LastOperation::Plain);
+        self.mark_plain();
         let place = self.place_of(rest);
-        self.jump(place.wrapping_add(R::Offset::from_i16(target)), rest)
+        self.jump(place.wrapping_add(R::Offset::from_i16(target)), rest);
     }
 
     /// Branches if the top isn't zero.
     #[inline(always)]
-    pub(crate) fn branch_if(&mut self, target: i16, rest: &mut R) -> Result<()>
+    pub(crate) fn branch_if(&mut self, target: i16, rest: &mut R)
         requires runs { self.old.status ≡ Running }
         requires rest { IsRestOf (R.text rest.old) self.old.text }
         ensures performs { Performs (act_of self.old (meaning.Bra target))
-            (at_rest (R.text rest.old).bytes self.old)
-            (with_fault result (at_rest (R.text rest.new).bytes self.new)) }
+            (at_rest (R.text rest.old).bytes self.old) (at_rest (R.text rest.new).bytes self.new) }
         ensures rest { IsRestOf (R.text rest.new) self.new.text }
     {
-        if self.pop_number()? == 0 {
-            self.mark(LastOperation::Plain);
-            return Ok(());
+        let Some(number) = self.pop_number() else {
+            self.fail(Error::NotEnoughStackItems);
+            return;
+        };
+        if number == 0 {
+            self.mark_plain();
+            return;
         }
         self.take_branch(target, rest)
     }
 
-    /// Makes the top the location that waits for its piece: a value without a place.
+    /// Lets the top wait for its piece, as a value that has no place.
     #[inline(never)]
-    pub(crate) fn locate_value(&mut self) -> Result<()>
+    pub(crate) fn locate_value(&mut self)
         requires { self.old.status ≡ Running }
-        ensures { Performs (act_of self.old meaning.StackValue) self.old
-            (with_fault result self.new) }
+        ensures { Performs (act_of self.old meaning.StackValue) self.old self.new }
     {
-        let value = self.pop()?;
+        let Some(value) = self.pop() else {
+            self.fail(Error::NotEnoughStackItems);
+            return;
+        };
         self.locate(Location::Value { value })
     }
 
     /// Ends a piece at the address on top, or nowhere if the stack is empty.
     #[inline(never)]
-    pub(crate) fn end_piece(&mut self, size_in_bits: u64, bit_offset: Option<u64>) -> Result<()>
+    pub(crate) fn end_piece(&mut self, size_in_bits: u64, bit_offset: Option<u64>)
         requires { self.old.status ≡ Running }
-        ensures { Performs (act_of self.old (meaning.Piece size_in_bits bit_offset)) self.old
-            (with_fault result self.new) }
+        ensures { Performs (act_of self.old (meaning.Piece size_in_bits bit_offset))
+            self.old self.new }
     {
-        self.mark(LastOperation::Pieced);
-        let location = match self.pop_number() {
-            Ok(address) => Location::Address { address },
-            Err(_) => Location::Empty,
+        self.mark_pieced();
+        let Some(address) = self.pop_number() else {
+            self.push_piece(Piece {
+                size_in_bits: Some(size_in_bits),
+                bit_offset,
+                location: Location::Empty,
+            });
+            return;
         };
         self.push_piece(Piece {
             size_in_bits: Some(size_in_bits),
             bit_offset,
-            location,
-        })
+            location: Location::Address { address },
+        });
     }
 
     /// Asks for what memory holds at the address on top, in the space below it if one is named.
     #[inline(never)]
-    pub(crate) fn dereference(
-        &mut self,
-        base_type: UnitOffset<R::Offset>,
-        size: u8,
-        space: bool,
-    ) -> Result<()>
+    pub(crate) fn dereference(&mut self, base_type: UnitOffset<R::Offset>, size: u8, space: bool)
         ensures { Performs
             (act_of self.old (meaning.Deref (R.Offset.number base_type.0) size space))
-            self.old (with_fault result self.new) }
+            self.old self.new }
     {
         if size > self.address_size() {
-            return Err(Error::InvalidDerefSize(size));
+            self.fail(Error::InvalidDerefSize(size));
+            return;
         }
-        let address = self.pop_number()?;
-        let space = if space {
-            Some(self.pop_number()?)
-        } else {
-            None
+        let Some(address) = self.pop_number() else {
+            self.fail(Error::NotEnoughStackItems);
+            return;
+        };
+        if !space {
+            self.ask(
+                EvaluationResult::RequiresMemory {
+                    address,
+                    size,
+                    space: None,
+                    base_type,
+                },
+                OnAnswer::Push,
+            );
+            return;
+        }
+        let Some(space) = self.pop_number() else {
+            self.fail(Error::NotEnoughStackItems);
+            return;
         };
         self.ask(
             EvaluationResult::RequiresMemory {
                 address,
                 size,
-                space,
+                space: Some(space),
                 base_type,
             },
             OnAnswer::Push,
@@ -255,10 +336,13 @@ impl<R: Reader + Copy, S: EvaluationStorage<R>> Machine<R, S> {
 
     /// Asks for the address of the thread-local slot on top.
     #[inline(never)]
-    pub(crate) fn ask_tls(&mut self) -> Result<()>
-        ensures { Performs (act_of self.old meaning.TLS) self.old (with_fault result self.new) }
+    pub(crate) fn ask_tls(&mut self)
+        ensures { Performs (act_of self.old meaning.TLS) self.old self.new }
     {
-        let index = self.pop_number()?;
+        let Some(index) = self.pop_number() else {
+            self.fail(Error::NotEnoughStackItems);
+            return;
+        };
         self.ask(EvaluationResult::RequiresTls(index), OnAnswer::Push)
     }
 }

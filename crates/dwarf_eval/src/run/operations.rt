@@ -1,9 +1,9 @@
-//! What each operation does.
+//! The method of each operation.
 
 ghost use Rattle.std.specs.Prelude.{◌≡◌};
 ghost use Rattle.dwarf_base.specs.Reads.{IsRestOf};
 ghost use Rattle.dwarf_meaning.specs.Rest.{Running};
-ghost use Rattle.dwarf_eval.specs.inner.StateChanges.{IsNoBranch, Performs, act_of, at_rest, with_fault};
+ghost use Rattle.dwarf_eval.specs.inner.StateChanges.{IsNoBranch, Performs, act_of, at_rest};
 ghost use Rattle.dwarf_op.specs.Views.{operation_of};
 
 use crate::op::EvaluationResult::{
@@ -14,23 +14,22 @@ use crate::op::EvaluationResult::{
 use crate::op::Expression;
 use crate::run::machine::Machine;
 use crate::run::operators::{BinaryOperator, UnaryOperator};
-use crate::run::states::{LastOperation, OnAnswer};
+use crate::run::states::OnAnswer;
 use crate::store::EvaluationStorage;
-use dwarf_base::{Error, Reader, Result};
+use dwarf_base::{Error, Reader};
 use dwarf_op::{Location, Operation};
 use dwarf_value::Value;
 
 impl<R: Reader + Copy, S: EvaluationStorage<R>> Machine<R, S> {
-    /// Performs an operation; `rest` is the text after it.
+    /// Does an operation, before what is left of the text.
     #[inline(always)]
     #[tactic(auto, using(crate::proofs::Placing::left_there))]
-    pub(crate) fn operate(&mut self, operation: Operation<R>, rest: &mut R) -> Result<()>
+    pub(crate) fn operate(&mut self, operation: Operation<R>, rest: &mut R)
         requires runs { self.old.status ≡ Running }
         requires rest { IsRestOf (R.text rest.old) self.old.text }
         ensures performs { Performs
             (act_of self.old (operation_of R.text R.Offset.number operation))
-            (at_rest (R.text rest.old).bytes self.old)
-            (with_fault result (at_rest (R.text rest.new).bytes self.new)) }
+            (at_rest (R.text rest.old).bytes self.old) (at_rest (R.text rest.new).bytes self.new) }
         ensures rest { IsRestOf (R.text rest.new) self.new.text }
     {
         match operation {
@@ -40,15 +39,14 @@ impl<R: Reader + Copy, S: EvaluationStorage<R>> Machine<R, S> {
         }
     }
 
-    /// Performs an operation that is no branch.
+    /// Does an operation that is no branch.
     #[inline(always)]
     #[tactic(auto, unfolding(dwarf_meaning::specs::Acts::act))]
-    fn operate_in_place(&mut self, operation: Operation<R>) -> Result<()>
+    fn operate_in_place(&mut self, operation: Operation<R>)
         requires runs { self.old.status ≡ Running }
         requires still { IsNoBranch (operation_of R.text R.Offset.number operation) }
         ensures { Performs
-            (act_of self.old (operation_of R.text R.Offset.number operation)) self.old
-            (with_fault result self.new) }
+            (act_of self.old (operation_of R.text R.Offset.number operation)) self.old self.new }
     {
         match operation {
             Operation::Deref {
@@ -101,10 +99,7 @@ impl<R: Reader + Copy, S: EvaluationStorage<R>> Machine<R, S> {
             Operation::FrameOffset { offset } => {
                 self.ask(RequiresFrameBase, OnAnswer::Add(offset))
             }
-            Operation::Nop => {
-                self.mark(LastOperation::Plain);
-                Ok(())
-            }
+            Operation::Nop => self.mark_plain(),
             Operation::PushObjectAddress => self.push_object_address(),
             Operation::Call { offset } => self.ask(RequiresAtLocation(offset), OnAnswer::Push),
             Operation::TLS => self.ask_tls(),
@@ -150,14 +145,13 @@ impl<R: Reader + Copy, S: EvaluationStorage<R>> Machine<R, S> {
             Operation::Reinterpret { base_type } => {
                 self.ask(RequiresBaseType(base_type), OnAnswer::Reinterpret)
             }
-            Operation::Uninitialized | Operation::VariableValue { .. } => {
-                Err(Error::UnsupportedEvaluation)
-            }
+            Operation::Uninitialized => self.fail(Error::UnsupportedEvaluation),
             Operation::WasmLocal { index } => self.ask(RequiresWasmLocal { index }, OnAnswer::Push),
             Operation::WasmGlobal { index } => {
                 self.ask(RequiresWasmGlobal { index }, OnAnswer::Push)
             }
             Operation::WasmStack { index } => self.ask(RequiresWasmStack { index }, OnAnswer::Push),
+            Operation::VariableValue { offset: _ } => { self.fail(Error::UnsupportedEvaluation) }
         }
     }
 }

@@ -1,4 +1,4 @@
-//! Where an evaluation stands, and what to do with an answer.
+//! Where an evaluation stands, and what is done with an answer.
 
 ghost use Rattle.std.specs.Prelude.{◌≡◌, ⊤};
 
@@ -7,7 +7,7 @@ use dwarf_base::{Error, Reader};
 use dwarf_value::{Value, ValueType};
 use std::alloc::AllocError;
 
-/// What the last operation did.
+/// Of what sort the last operation was.
 #[derive(Clone, Copy)]
 pub(crate) enum LastOperation {
     Nothing,
@@ -22,23 +22,23 @@ pub(crate) enum LastOperation {
     Located,
 }
 
-/// What to do with the answer to an open request.
+/// What is done with the answer to an open request.
 #[derive(Copy)]
 pub(crate) enum OnAnswer<R> {
-    /// Push it as it is, or run it.
+    /// It is pushed as it is, or run.
     Push,
-    /// Push its sum with this offset, in bytes.
+    /// It is pushed plus this offset, in bytes.
     Add(i64),
-    /// Push these bytes as a value of that type.
+    /// These bytes are pushed as a value of that type.
     Parse(R),
-    /// Convert the top to that type.
+    /// The top is converted to that type.
     Convert,
-    /// Reinterpret the top's bits as a value of that type.
+    /// The bits on top are taken as a value of that type.
     Reinterpret,
 }
 
 impl<R: Copy> Clone for OnAnswer<R> {
-    // A copy: a clone of each field takes long to prove.
+    // A copy, and not a clone of each field, which takes long to prove.
     ghost is_clone = { λ x y. y ≡ x };
 
     ghost is_infallible = { λ _. ⊤ };
@@ -59,12 +59,12 @@ pub(crate) enum EvaluationState<R: Reader, O = <R as Reader>::Offset> {
     Complete(Option<Value>),
     /// It met a fault.
     Failed(Error),
-    /// It waits for the answer to this request. It is the last variant, so that Rust tells it by one comparison.
+    /// It waits for the answer to this request. As the last variant it is told by one comparison in Rust.
     Waiting(EvaluationResult<R, O>),
 }
 
 impl<R: Reader + Copy, O: Copy> Clone for EvaluationState<R, O> {
-    // A copy: a clone of each field takes long to prove.
+    // A copy, and not a clone of each field, which takes long to prove.
     ghost is_clone = { λ x y. y ≡ x };
 
     ghost is_infallible = { λ _. ⊤ };
@@ -88,7 +88,7 @@ pub(crate) enum Given<R> {
 }
 
 impl<R: Copy> Clone for Given<R> {
-    // A copy: a clone of each field takes long to prove.
+    // A copy, and not a clone of each field, which takes long to prove.
     ghost is_clone = { λ x y. y ≡ x };
 
     ghost is_infallible = { λ _. ⊤ };

@@ -1,10 +1,10 @@
-//! A counter that only contracts read, and that takes no space in a program.
+//! A number that contracts see and that takes no room in a program.
 
 ghost use Rattle.std.specs.Prelude.{◌≡◌, ◌+◌, ℕ};
 
 use std::marker::{Model, PhantomData};
 
-/// How often something was done. It has no bytes: only contracts read the number.
+/// How often something was done. It has no bytes: contracts alone see the number.
 ///
 /// Only `tick` raises it, and only a new one has none.
 #[derive(Drop)]

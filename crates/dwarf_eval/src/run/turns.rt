@@ -8,12 +8,12 @@ ghost use Rattle.dwarf_meaning.specs.Rest.{Running, Start};
 ghost use Rattle.dwarf_meaning.specs.RunLaws.{waits_of};
 ghost use Rattle.dwarf_meaning.specs.Stores.{Located};
 ghost use Rattle.dwarf_op.specs.Views.{operation_of, location_of, piece_of};
-ghost use Rattle.dwarf_eval.specs.inner.StateChanges.{Closes, ComesToState, CompletesWith, EndsLocated, HasReply, IsReady, Turns, at_rest, goes_on, is_free, total, with_fault};
+ghost use Rattle.dwarf_eval.specs.inner.StateChanges.{Closes, ComesToState, CompletesWith, EndsLocated, HasReply, IsReady, Turns, at_rest, goes_on, is_free, total};
 
 use crate::run::machine::Machine;
 use crate::run::states::LastOperation;
 use crate::store::EvaluationStorage;
-use dwarf_base::{Error, Reader, ReaderOffset, Result, copy_of};
+use dwarf_base::{Error, Reader, ReaderOffset, copy_of};
 use dwarf_op::{Location, Operation, Piece};
 use dwarf_value::Value;
 
@@ -31,7 +31,24 @@ fn whole<R: Reader + Copy>(location: Location<R>) -> Piece<R>
 }
 
 impl<R: Reader + Copy, S: EvaluationStorage<R>> Machine<R, S> {
-    /// Whether the operation at the front of `rest` comes next.
+    /// Counts the operation before what is left, and does it.
+    fn perform(&mut self, rest: &mut R)
+        requires ready { IsReady (at_rest (R.text rest.old).bytes self.old) }
+        requires rest { IsRestOf (R.text rest.old) self.old.text }
+        ensures turns { Turns (at_rest (R.text rest.old).bytes self.old)
+            (at_rest (R.text rest.new).bytes self.new) }
+        ensures rest { IsRestOf (R.text rest.new) self.new.text }
+    {
+        if !self.count() {
+            return;
+        }
+        match self.decode(rest) {
+            Ok(operation) => self.operate(operation, rest),
+            Err(error) => self.fail(error),
+        }
+    }
+
+    /// Whether the operation before what is left comes next.
     #[inline(always)]
     fn goes_on(&self, rest: &R) -> bool
         requires { IsRestOf (R.text rest.now) self.now.text }
@@ -40,32 +57,28 @@ impl<R: Reader + Copy, S: EvaluationStorage<R>> Machine<R, S> {
         self.is_running() && self.is_free() && !rest.is_empty()
     }
 
-    /// Performs operations until something else comes next. The rest of the text is a local variable meanwhile.
+    /// Does operations until something else comes next. What is left of the text is a local meanwhile.
     #[inline(always)]
-    fn run_operations(&mut self) -> Result<()>
+    fn run_operations(&mut self)
         requires { IsReady self.old }
-        ensures { Turns self.old (with_fault result self.new) }
+        ensures { Turns self.old self.new }
     {
         let mut rest = self.take_rest();
         let mut goes_on = true;
         while goes_on {
-            self.count()?;
-            let operation = self.decode(&mut rest)?;
-            self.operate(operation, &mut rest)?;
+            self.perform(&mut rest);
             goes_on = self.goes_on(&rest);
         }
         self.go_to(rest);
-        Ok(())
     }
 
-    /// Ends the waiting location by the operation that follows. `InvalidExpressionTerminator` if that is no piece.
+    /// Ends the location that waits for its piece, if the operation that was read is a piece.
     #[inline(always)]
-    fn end_location(&mut self, operation: Operation<R>) -> Result<()>
+    fn end_location(&mut self, operation: Operation<R>)
         requires after { 0 < self.old.place }
         requires waits { is_free self.old.store.last ≡ false }
         ensures { (location : _) → self.old.store.last ≡ Located location →
-            EndsLocated location (operation_of R.text R.Offset.number operation) self.old self.new
-            result }
+            EndsLocated location (operation_of R.text R.Offset.number operation) self.old self.new }
     {
         let Operation::Piece {
             size_in_bits,
@@ -73,76 +86,89 @@ impl<R: Reader + Copy, S: EvaluationStorage<R>> Machine<R, S> {
         } = operation
         else {
             let place = self.place().into_u64();
-            return Err(Error::InvalidExpressionTerminator(place - 1));
+            self.fail(Error::InvalidExpressionTerminator(place - 1));
+            return;
         };
         let location = self.take_located();
         self.push_piece(Piece {
             size_in_bits: Some(size_in_bits),
             bit_offset,
             location,
-        })
+        });
     }
 
-    /// Reads the piece of the waiting location.
+    /// Reads the piece of a location that waits for it.
     #[inline(never)]
-    fn read_piece_of_location(&mut self) -> Result<()>
+    fn read_piece_of_location(&mut self)
         requires runs { self.old.status ≡ Running }
         requires inside { self.old.place < length self.old.text.bytes }
         requires waits { is_free self.old.store.last ≡ false }
-        ensures { Turns self.old (with_fault result self.new) }
+        ensures { Turns self.old self.new }
     {
         let mut rest = self.take_rest();
-        let operation = self.decode(&mut rest)?;
+        let operation = self.decode(&mut rest);
         self.go_to(rest);
-        self.end_location(operation)
+        match operation {
+            Ok(operation) => self.end_location(operation),
+            Err(error) => self.fail(error),
+        }
     }
 
-    /// Adds a last piece, and completes the run.
-    fn complete_with(&mut self, piece: Piece<R>, value: Option<Value>) -> Result<()>
+    /// Ends the run with one more piece.
+    fn complete(&mut self, piece: Piece<R>, value: Option<Value>)
         requires { self.old.status ≡ Running }
-        ensures { CompletesWith (piece_of R.text R.Offset.number piece) value self.old
-            (with_fault result self.new) }
+        ensures { CompletesWith (piece_of R.text R.Offset.number piece) value self.old self.new }
     {
-        self.push_piece(piece)?;
-        self.complete(value);
-        Ok(())
+        if self.push_piece(piece) {
+            self.end(value);
+        }
     }
 
-    /// Ends the run. With pieces, neither a value nor a location may be left over. Without any, the waiting location or
-    /// the address on top is the one piece.
-    fn finish(&mut self) -> Result<()>
+    /// Ends the run: with the pieces, if there are any and no value or location is left over, or else with one piece, of
+    /// the location that waits or at the address on top.
+    #[inline(never)]
+    fn finish(&mut self)
         requires { self.old.status ≡ Running }
-        ensures { Closes (waits_of self.old.store.last) (finish self.old.setup) self.old
-            (with_fault result self.new) }
+        ensures { Closes (waits_of self.old.store.last) (finish self.old.setup) self.old self.new }
     {
         if self.has_pieces() {
-            return match self.last() {
+            match self.last() {
                 LastOperation::Nothing | LastOperation::Pieced | LastOperation::Called => {
-                    self.complete(None);
-                    Ok(())
+                    self.end(None)
                 }
-                _ => Err(Error::InvalidPiece),
-            };
+                _ => self.fail(Error::InvalidPiece),
+            }
+            return;
         }
         if !self.is_free() {
-            return self.complete_with(whole(copy_of(self.location())), None);
+            self.complete(whole(copy_of(self.location())), None);
+            return;
         }
-        let value = self.pop()?;
+        let Some(value) = self.pop() else {
+            self.fail(Error::NotEnoughStackItems);
+            return;
+        };
         let address = self.number_of(value);
-        self.complete_with(whole(Location::Address { address }), Some(value))
+        self.complete(whole(Location::Address { address }), Some(value));
     }
 
-    /// Leaves a text at its end: goes back to the caller, or ends the run if there is none.
-    #[inline(never)]
-    fn leave(&mut self) -> Result<()>
-        requires runs { self.old.status ≡ Running }
-        requires ends { self.old.place ≡ length self.old.text.bytes }
-        ensures { Turns self.old (with_fault result self.new) }
+    /// Does what comes next. At its end a called text goes back to its caller.
+    #[inline(always)]
+    fn turn(&mut self)
+        requires { self.old.status ≡ Running }
+        ensures { Turns self.old self.new }
     {
-        if self.pop_caller() {
-            return Ok(());
+        if self.is_at_end() {
+            if !self.pop_caller() {
+                self.finish();
+            }
+            return;
         }
-        self.finish()
+        if self.is_free() {
+            self.run_operations();
+            return;
+        }
+        self.read_piece_of_location();
     }
 
     /// Runs on to a request, to the end, or to a fault, which it keeps.
@@ -153,30 +179,30 @@ impl<R: Reader + Copy, S: EvaluationStorage<R>> Machine<R, S> {
         ensures replies { HasReply self.new.status }
     {
         while self.is_running() {
-            let turned = if self.is_at_end() {
-                self.leave()
-            } else if self.is_free() {
-                self.run_operations()
-            } else {
-                self.read_piece_of_location()
-            };
-            if let Err(error) = turned {
-                self.fail(error);
-            }
+            self.turn();
         }
     }
 
-    /// Begins the run, with the initial value on the stack if there is one, or keeps the fault of a stack that refuses
-    /// it.
-    pub(crate) fn begin(&mut self, initial_value: Option<u64>)
+    /// Begins the run.
+    fn begin(&mut self, initial_value: Option<u64>)
         requires { IsAtRestBy self.old (Start initial_value) }
         ensures { ComesToState self.old (total self.old) self.new }
     {
         self.set_running();
         if let Some(value) = initial_value {
-            if let Err(error) = self.push(Value::Generic(value)) {
-                self.fail(error);
-            }
+            self.push(Value::Generic(value));
+        }
+    }
+
+    /// Begins the run, and runs on to a request, to the end, or to a fault, which it keeps.
+    pub(crate) fn start(&mut self, initial_value: Option<u64>)
+        requires { IsAtRestBy self.old (Start initial_value) }
+        ensures comes { ComesToState self.old (total self.old) self.new }
+        ensures replies { HasReply self.new.status }
+    {
+        self.begin(initial_value);
+        if self.is_running() {
+            self.run_on();
         }
     }
 }

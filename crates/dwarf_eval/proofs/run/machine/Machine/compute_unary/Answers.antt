@@ -1,24 +1,18 @@
-use Rattle.std.proofs.lemmas.Result.{err_from_is_err_and}
 use Rattle.dwarf_value.specs.Values.{width_of, unary_of}
 use Rattle.dwarf_eval.specs.inner.Machine.{operator_of}
-use Rattle.dwarf_eval.specs.inner.StateChanges.{Performs}
-use Rattle.dwarf_eval.proofs.Staying.{at_exit}
-use Rattle.dwarf_eval.proofs.Performances.{pops_nothing}
+use Rattle.dwarf_eval.proofs.Performances.{falls_short}
 use Rattle.dwarf_eval.proofs.Computes.{unary_pushes, unary_refuses}
 use Rattle.dwarf_eval.proofs.run.machine.Machine.compute_unary.Goals as goal
 
-pub returns-in_err-value : goal.returns-in_err-value
-returns-in_err-value g c =
-    let p = err_from_is_err_and c.from_residual.result c.from_residual.ensures.1 in
-    at_exit (Performs _ c.args.self.now) c.pop.new.self _ _ _ p.1 p.2 (pops_nothing _ _ c.args.self.now c.pop.new.self c.in_err-value.ensures)
+pub returns-in_default : goal.returns-in_default
+returns-in_default g c = falls_short _ c.args.self.now c.pop.new.self c.fail.new.self c.in_default.ensures c.fail.ensures
 
-pub returns-in_err-computed : goal.returns-in_err-computed
-returns-in_err-computed g c =
-    let p = err_from_is_err_and c.from_residual-in_err-computed.result c.from_residual-in_err-computed.ensures.1 in
-    at_exit (Performs _ c.args.self.now) c.pop.new.self _ _ _ p.1 p.2 (unary_refuses (unary_of (operator_of c.args.operator)) c.args.self.now c.pop.new.self c.in_ok-value.value (width_of c.addr_mask.result) c.in_ok-value.ensures c.addr_mask.ensures.width
-    _ c.in_err-computed.ensures)
+pub returns-in-Ok : goal.returns-in-Ok
+returns-in-Ok g c =
+    unary_pushes (unary_of (operator_of c.args.operator)) c.args.self.now c.pop.new.self c.in-Some.value (width_of c.addr_mask.result) c.in-Some.ensures c.addr_mask.ensures.width
+    c.push_plain.new.self c.in-Ok.computed c.requires c.in-Ok.ensures c.push_plain.ensures
 
-pub returns : goal.returns
-returns g c =
-    unary_pushes (unary_of (operator_of c.args.operator)) c.args.self.now c.pop.new.self c.in_ok-value.value (width_of c.addr_mask.result) c.in_ok-value.ensures c.addr_mask.ensures.width
-    c.push_plain.new.self c.push_plain.result c.in_ok-computed.computed c.requires c.in_ok-computed.ensures c.push_plain.ensures
+pub returns-in-Err : goal.returns-in-Err
+returns-in-Err g c =
+    unary_refuses (unary_of (operator_of c.args.operator)) c.args.self.now c.pop.new.self c.in-Some.value (width_of c.addr_mask.result) c.in-Some.ensures c.addr_mask.ensures.width
+    c.in-Err.error c.fail-in-Err.new.self c.in-Err.ensures c.fail-in-Err.ensures

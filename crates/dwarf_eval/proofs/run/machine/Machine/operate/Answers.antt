@@ -13,6 +13,6 @@ pub returns-in_default : goal.returns-in_default
 returns-in_default g c =
     let none : IsNoBranch (operation_of g.R.Reader.text g.R.Offset.ReaderOffset.number c.args.operation) = search rules in
     record {
-      performs = performs_there (operation_of g.R.Reader.text g.R.Offset.ReaderOffset.number c.args.operation) (g.R.Reader.text c.args.rest.now).bytes c.args.self.now c.operate_in_place.new.self c.operate_in_place.result none c.operate_in_place.ensures;
-      rest = left_there (g.R.Reader.text c.args.rest.now) (act_of c.args.self.now (operation_of g.R.Reader.text g.R.Offset.ReaderOffset.number c.args.operation)) c.args.self.now c.operate_in_place.new.self c.operate_in_place.result c.requires.rest c.operate_in_place.ensures;
+      performs = performs_there (operation_of g.R.Reader.text g.R.Offset.ReaderOffset.number c.args.operation) (g.R.Reader.text c.args.rest.now).bytes c.args.self.now c.operate_in_place.new.self none c.operate_in_place.ensures;
+      rest = left_there (g.R.Reader.text c.args.rest.now) (act_of c.args.self.now (operation_of g.R.Reader.text g.R.Offset.ReaderOffset.number c.args.operation)) c.args.self.now c.operate_in_place.new.self c.requires.rest c.operate_in_place.ensures;
     }

@@ -3,4 +3,4 @@ use Rattle.dwarf_eval.proofs.MachineViews.{popped}
 use Rattle.dwarf_eval.proofs.run.machine.Machine.pop.Goals as goal
 
 pub returns : goal.returns
-returns g c = rw (← c.self.view_is, c.ok_or.ensures.value) (popped c.pop.result _ _ _ _ c.pop.ensures.items c.pop.ensures.empty refl (rw c.pop.ensures.limit refl))
+returns g c = rw (← c.self.view_is) (popped c.pop.result _ _ _ _ c.pop.ensures.items c.pop.ensures.empty refl (rw c.pop.ensures.limit refl))

@@ -7,9 +7,10 @@ use Rattle.dwarf_eval.proofs.run.machine.Machine.push.Goals as goal
 
 pub returns-in_default : goal.returns-in_default
 returns-in_default g c =
-    value_faults c.args.value c.args.self.now _
+    let is = rw (c.in_default.ensures.err, c.push.ensures.limit) at c.fail.ensures in
+    value_faults c.args.value c.args.self.now c.fail.new.self
     (subst (λ (s : State). MayRefuse s.setup.limits.values (length s.store.values)) c.self.view_is (rw length-reverse c.in_default.ensures.full))
-    (rw (← c.self.view_is, c.in_default.ensures.err, c.push.ensures.limit) refl)
+    (rw (← c.self.view_is) is)
 
 pub returns : goal.returns
 returns g c =

@@ -1,10 +1,11 @@
 use Rattle.std.proofs.Common.{◌≡◌, ◌∙◌, ◌-◌, List, ℕ, ap, refl, subst, length, sym, arith}
 use Rattle.std.specs.List.{AllByRecursion}
 use Rattle.dwarf_meaning.specs.Rest.{State}
+use Rattle.dwarf_meaning.specs.Stores.{push_caller}
 use Rattle.dwarf_base.proofs.Suffixes.{suffix_whole}
 use Rattle.dwarf_base.specs.Reads.{IsRestOf}
 use Rattle.dwarf_eval.specs.Lists.{MayRefuse}
-use Rattle.dwarf_eval.specs.inner.StateChanges.{at_rest, with_place}
+use Rattle.dwarf_eval.specs.inner.StateChanges.{Refused, at_rest, with_place}
 use Rattle.dwarf_eval.proofs.MachineViews.{callers-push, length-callers, all_and_last}
 use Rattle.dwarf_eval.proofs.Pushes.{caller_pushed, caller_faults}
 use Rattle.dwarf_eval.proofs.run.machine.Machine.push_caller.Goals as goal
@@ -19,11 +20,12 @@ returns-in-Err g c =
     let left = (g.R.Reader.text c.take_rest-rest.result).bytes in
     let rest_is = ap (λ (f : R × R). f.0) c.in-Err.ensures.returned in
     let whole_is = ap (λ (f : R × R). f.1) c.in-Err.ensures.returned ∙ c.replace-whole.ensures.value in
-    let there = put_back left c.args.self.now c.take_rest-rest.new.self c.take_rest-rest.ensures.alone c.take_rest-rest.ensures.here in
-    rw (← there)
-    (caller_faults (at_rest left c.take_rest-rest.new.self) _
+    let is = rw (rest_is, whole_is, c.in-Err.ensures.err, c.push.ensures.limit) at c.fail.ensures in
+    subst (λ (s : State). Refused 0 (push_caller s.setup (length s.callers)) s c.fail.new.self)
+    (put_back left c.args.self.now c.take_rest-rest.new.self c.take_rest-rest.ensures.alone c.take_rest-rest.ensures.here)
+    (caller_faults (at_rest left c.take_rest-rest.new.self) c.fail.new.self
     (subst (λ (s : State). MayRefuse s.setup.limits.callers (length s.callers)) c.self.view_is (rw length-callers c.in-Err.ensures.full))
-    (rw (← c.self.view_is, rest_is, whole_is, c.in-Err.ensures.err, c.push.ensures.limit) refl))
+    (rw (← c.self.view_is) is))
 
 pub invariant_of-self : goal.invariant_of-self
 invariant_of-self g c =

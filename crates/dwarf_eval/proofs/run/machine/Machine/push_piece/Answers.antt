@@ -7,9 +7,10 @@ use Rattle.dwarf_eval.proofs.run.machine.Machine.push_piece.Goals as goal
 
 pub returns-in_default : goal.returns-in_default
 returns-in_default g c =
-    piece_faults _ c.args.self.now _
+    let is = rw (c.in_default.ensures.err, c.push.ensures.limit) at c.fail.ensures in
+    piece_faults _ c.args.self.now c.fail.new.self
     (subst (λ (s : State). MayRefuse s.setup.limits.pieces (length s.store.pieces)) c.self.view_is (rw length-map c.in_default.ensures.full))
-    (rw (← c.self.view_is, c.in_default.ensures.err, c.push.ensures.limit) refl)
+    (rw (← c.self.view_is) is)
 
 pub returns : goal.returns
 returns g c =

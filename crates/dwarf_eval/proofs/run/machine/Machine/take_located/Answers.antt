@@ -11,4 +11,4 @@ returns-clause-located g c =
     let text = g.R.Reader.text in
     let number = g.R.Offset.ReaderOffset.number in
     let waits = ap (λ (z : State). is_free z.store.last) c.self.view_is ∙ c.requires in
-    sym (ap (λ (z : State). z.store.last) c.self.view_is) ∙ (waits_with c.self.inside.last (location_of text number c.self.inside.location) waits ∙ ap (λ l. Located (location_of text number l)) (sym c.replace.ensures.value))
+    sym (ap (λ (z : State). z.store.last) c.self.view_is) ∙ (waits_with c.self.inside.last (location_of text number c.self.inside.location) waits ∙ ap (λ l. Located (location_of text number l)) (sym c.replace-location.ensures.value))

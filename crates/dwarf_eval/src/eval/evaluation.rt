@@ -182,7 +182,10 @@ impl<R: Reader + Copy, S: EvaluationStorage<R>> Evaluation<R, S> {
         let EvaluationState::Start(initial_value) = *self.machine.state() else {
             return reply(&self.machine);
         };
-        self.machine.start(initial_value);
+        self.machine.begin(initial_value);
+        if self.machine.is_running() {
+            self.machine.run_on();
+        }
         reply(&self.machine)
     }
 

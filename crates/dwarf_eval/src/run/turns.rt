@@ -31,24 +31,7 @@ fn whole<R: Reader + Copy>(location: Location<R>) -> Piece<R>
 }
 
 impl<R: Reader + Copy, S: EvaluationStorage<R>> Machine<R, S> {
-    /// Counts the operation before what is left, and does it.
-    fn perform(&mut self, rest: &mut R)
-        requires ready { IsReady (at_rest (R.text rest.old).bytes self.old) }
-        requires rest { IsRestOf (R.text rest.old) self.old.text }
-        ensures turns { Turns (at_rest (R.text rest.old).bytes self.old)
-            (at_rest (R.text rest.new).bytes self.new) }
-        ensures rest { IsRestOf (R.text rest.new) self.new.text }
-    {
-        if !self.count() {
-            return;
-        }
-        match self.decode(rest) {
-            Ok(operation) => self.operate(operation, rest),
-            Err(error) => self.fail(error),
-        }
-    }
-
-    /// Whether the operation before what is left comes next.
+    /// Whether the operation at the front of `rest` comes next.
     #[inline(always)]
     fn goes_on(&self, rest: &R) -> bool
         requires { IsRestOf (R.text rest.now) self.now.text }
@@ -57,7 +40,7 @@ impl<R: Reader + Copy, S: EvaluationStorage<R>> Machine<R, S> {
         self.is_running() && self.is_free() && !rest.is_empty()
     }
 
-    /// Does operations until something else comes next. What is left of the text is a local meanwhile.
+    /// Performs operations until something else comes next. The rest of the text is a local variable meanwhile.
     #[inline(always)]
     fn run_operations(&mut self)
         requires { IsReady self.old }
@@ -66,13 +49,18 @@ impl<R: Reader + Copy, S: EvaluationStorage<R>> Machine<R, S> {
         let mut rest = self.take_rest();
         let mut goes_on = true;
         while goes_on {
-            self.perform(&mut rest);
+            if self.count() {
+                match self.decode(&mut rest) {
+                    Ok(operation) => self.operate(operation, &mut rest),
+                    Err(error) => self.fail(error),
+                }
+            }
             goes_on = self.goes_on(&rest);
         }
         self.go_to(rest);
     }
 
-    /// Ends the location that waits for its piece, if the operation that was read is a piece.
+    /// Ends the waiting location by the operation that follows, which has to be a piece.
     #[inline(always)]
     fn end_location(&mut self, operation: Operation<R>)
         requires after { 0 < self.old.place }
@@ -97,7 +85,7 @@ impl<R: Reader + Copy, S: EvaluationStorage<R>> Machine<R, S> {
         });
     }
 
-    /// Reads the piece of a location that waits for it.
+    /// Reads the piece of the waiting location.
     #[inline(never)]
     fn read_piece_of_location(&mut self)
         requires runs { self.old.status ≡ Running }
@@ -114,7 +102,7 @@ impl<R: Reader + Copy, S: EvaluationStorage<R>> Machine<R, S> {
         }
     }
 
-    /// Ends the run with one more piece.
+    /// Adds a last piece, and completes the run.
     fn complete(&mut self, piece: Piece<R>, value: Option<Value>)
         requires { self.old.status ≡ Running }
         ensures { CompletesWith (piece_of R.text R.Offset.number piece) value self.old self.new }
@@ -124,8 +112,8 @@ impl<R: Reader + Copy, S: EvaluationStorage<R>> Machine<R, S> {
         }
     }
 
-    /// Ends the run: with the pieces, if there are any and no value or location is left over, or else with one piece, of
-    /// the location that waits or at the address on top.
+    /// Ends the run. With pieces, neither a value nor a location may be left over. Without any, the waiting location or
+    /// the address on top is the one piece.
     #[inline(never)]
     fn finish(&mut self)
         requires { self.old.status ≡ Running }
@@ -152,23 +140,15 @@ impl<R: Reader + Copy, S: EvaluationStorage<R>> Machine<R, S> {
         self.complete(whole(Location::Address { address }), Some(value));
     }
 
-    /// Does what comes next. At its end a called text goes back to its caller.
-    #[inline(always)]
-    fn turn(&mut self)
-        requires { self.old.status ≡ Running }
+    /// Leaves a text at its end: goes back to the caller, or ends the run if there is none.
+    fn leave(&mut self)
+        requires runs { self.old.status ≡ Running }
+        requires ends { self.old.place ≡ length self.old.text.bytes }
         ensures { Turns self.old self.new }
     {
-        if self.is_at_end() {
-            if !self.pop_caller() {
-                self.finish();
-            }
-            return;
+        if !self.pop_caller() {
+            self.finish();
         }
-        if self.is_free() {
-            self.run_operations();
-            return;
-        }
-        self.read_piece_of_location();
     }
 
     /// Runs on to a request, to the end, or to a fault, which it keeps.
@@ -179,30 +159,24 @@ impl<R: Reader + Copy, S: EvaluationStorage<R>> Machine<R, S> {
         ensures replies { HasReply self.new.status }
     {
         while self.is_running() {
-            self.turn();
+            if self.is_at_end() {
+                self.leave();
+            } else if self.is_free() {
+                self.run_operations();
+            } else {
+                self.read_piece_of_location();
+            }
         }
     }
 
-    /// Begins the run.
-    fn begin(&mut self, initial_value: Option<u64>)
+    /// Begins the run, with the initial value on the stack if there is one.
+    pub(crate) fn begin(&mut self, initial_value: Option<u64>)
         requires { IsAtRestBy self.old (Start initial_value) }
         ensures { ComesToState self.old (total self.old) self.new }
     {
         self.set_running();
         if let Some(value) = initial_value {
             self.push(Value::Generic(value));
-        }
-    }
-
-    /// Begins the run, and runs on to a request, to the end, or to a fault, which it keeps.
-    pub(crate) fn start(&mut self, initial_value: Option<u64>)
-        requires { IsAtRestBy self.old (Start initial_value) }
-        ensures comes { ComesToState self.old (total self.old) self.new }
-        ensures replies { HasReply self.new.status }
-    {
-        self.begin(initial_value);
-        if self.is_running() {
-            self.run_on();
         }
     }
 }

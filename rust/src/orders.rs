@@ -1,6 +1,56 @@
-//! Small calls that gimli's byte orders and formats have besides those of the sources.
+//! The orders, hashes and small calls that gimli's plain types have besides those of the sources.
 
-use crate::{BigEndian, Endianity, Format, LittleEndian, RunTimeEndian};
+use crate::{
+    BigEndian, DebugInfoOffset, DwAte, DwOp, Encoding, Endianity, Format, LittleEndian, Register, RunTimeEndian,
+    UnitOffset,
+};
+use core::cmp::Ordering;
+use core::hash::{Hash, Hasher};
+
+/// A type is ordered and hashed by its number.
+macro_rules! by_number {
+    ($($type:ident $(<$number:ident>)?,)+) => {
+        $(
+            #[allow(clippy::non_canonical_partial_ord_impl)]
+            impl $(<$number: PartialOrd>)? PartialOrd for $type $(<$number>)? {
+                #[inline]
+                fn partial_cmp(&self, other: &Self) -> Option<Ordering> {
+                    self.0.partial_cmp(&other.0)
+                }
+            }
+
+            impl $(<$number: Ord>)? Ord for $type $(<$number>)? {
+                #[inline]
+                fn cmp(&self, other: &Self) -> Ordering {
+                    self.0.cmp(&other.0)
+                }
+            }
+
+            impl $(<$number: Hash>)? Hash for $type $(<$number>)? {
+                #[inline]
+                fn hash<H: Hasher>(&self, state: &mut H) {
+                    self.0.hash(state);
+                }
+            }
+        )+
+    };
+}
+
+by_number!(DwAte, DwOp, Register, UnitOffset<T>, DebugInfoOffset<T>,);
+
+impl Hash for Format {
+    #[inline]
+    fn hash<H: Hasher>(&self, state: &mut H) {
+        self.word_size().hash(state);
+    }
+}
+
+impl Hash for Encoding {
+    #[inline]
+    fn hash<H: Hasher>(&self, state: &mut H) {
+        (self.address_size, self.format, self.version).hash(state);
+    }
+}
 
 impl Format {
     /// The size of an offset, in bytes.

@@ -4,11 +4,9 @@
 - Each command after a `$` prints the lines that follow it. `bin/test` is the gate itself, and isn't run.
 - Each program in C, a fence with a `main`, is built from what CMake installs by the command in front of it, in which
   DIR is where that is. It prints what the remarks after `printf` say. So does each program in Rust, with the crate.
-- What docs/GUIDE.md says of gdb is so: gdb prints variables of a file that is made by hand, of two units, one with
-  addresses of 8 bytes and one of 4.
 
-It wants the program built, cc, CMake, pkg-config, rustc, rustfmt, and the gdb that docs/GUIDE.md names. What is missing
-is left out, and said so. The last line is `N passed, M failed`.
+It wants the program built, cc, CMake, pkg-config and Cargo. What is missing is left out, and said so. The last line is
+`N passed, M failed`.
 """
 
 import re
@@ -67,52 +65,9 @@ def in_rust():
         (folder / "src").mkdir()
         (folder / "Cargo.toml").write_text(MANIFEST.format(TOP))
         for page, _, program, wanted in programs("rust", "fn main("):
-            (folder / "program.rs").write_text(program)
-            if check(f"{page}: rustc", [*words, "--extern", "dwexpr=libdwexpr.rlib", "program.rs"], cwd=folder):
-                prints(f"{page}: a program in Rust", ["./program"], wanted, cwd=folder)
-
-
-def units():
-    """The object file for gdb."""
-    info = b""
-    for size, variables in VARIABLES.items():
-        unit, entries = Unit(size, 4, 4, "le"), b"\1unit\0"
-        kind = unit.pack("I", len(unit.length(0) + unit.header() + entries))
-        entries += b"\2number\0\5\10"
-        for name, (digits, _) in variables.items():
-            block = bytes.fromhex(digits)
-            entries += b"\3" + name.encode() + b"\0" + kind + bytes([len(block)]) + block
-        info += unit.info(entries + b"\0")
-    return Unit(8, 4, 4, "le").elf({".debug_abbrev": ABBREVIATIONS, ".debug_info": info})
-
-
-def is_printed(file, name, pattern):
-    """Whether gdb prints this of a variable, or with no pattern goes on until it is interrupted."""
-    words = ["gdb", "-q", "-nx", "-batch", "-ex", f"print {name}", file]
-    with subprocess.Popen(words, stdout=subprocess.PIPE, stderr=subprocess.STDOUT, text=True) as ran:
-        try:
-            said = ran.communicate(timeout=checks.SECONDS if pattern else PATIENCE)[0]
-            return bool(pattern) and bool(re.fullmatch(pattern, said))
-        except subprocess.TimeoutExpired:
-            ran.send_signal(signal.SIGINT)
-            return "Quit" in ran.communicate(timeout=checks.SECONDS)[0] and not pattern
-
-
-def of_gdb():
-    """gdb prints what the table says."""
-    if lacks("what gdb prints", "gdb"):
-        return
-    version = run(["gdb", "--version"]).stdout.split("\n")[0]
-    named = re.search(r"gdb (\d+\.\d+)", PAGES["docs/GUIDE.md"])[1]
-    if not version.endswith(f" {named}"):
-        left_out(f"what gdb prints, since {version} is there", f"gdb {named}")
-        return
-    with commands.temporary() as folder:
-        made = folder / "units.o"
-        made.write_bytes(units())
-        for variables in VARIABLES.values():
-            for name, (digits, pattern) in variables.items():
-                expect(is_printed(made, name, pattern), f"what gdb prints for {digits}")
+            (folder / "src/main.rs").write_text(program)
+            words = ["cargo", "run", "--quiet", *commands.patches()]
+            prints(f"{page}: a program in Rust", words, wanted, cwd=folder)
 
 
 def main():

@@ -16,7 +16,9 @@ LONG_DOUBLE = 80
 MOST_BYTES = 4096
 sys.set_int_max_str_digits(0)
 NO_BYTES = "gdb's Python has no bytes of it"
-OF_PROCESS = {"unwind_buf", "tid", "pid", "threadid"}
+# Variables of libc that differ in each process. `sc_ret` has a system call's answer: a thread that waits in the call
+# stands after it, or at it again after a signal.
+OF_PROCESS = {"unwind_buf", "tid", "pid", "threadid", "sc_ret"}
 
 
 def number_of(value, kind):
@@ -80,7 +82,6 @@ def variables(frame, thread, level, inlined):
     place = thread, level, inlined
     while block is not None and not block.is_global and not block.is_static:
         for symbol in block:
-            # those of libc have numbers that differ in each process
             is_number = symbol.is_constant and symbol.type.code != gdb.TYPE_CODE_ENUM
             if (symbol.is_variable or symbol.is_argument or is_number) and symbol.name not in OF_PROCESS:
                 size = symbol.type.strip_typedefs().sizeof

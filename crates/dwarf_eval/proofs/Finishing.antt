@@ -21,11 +21,11 @@ use Rattle.dwarf_meaning.proofs.Choices.{top_none, top_some}
 use Rattle.dwarf_meaning.proofs.Turns.{run_turn}
 use Rattle.dwarf_meaning.specs.Bounds.{endings}
 use Rattle.dwarf_meaning.specs.Inputs.{with_status}
-use Rattle.dwarf_eval.specs.inner.StateChanges.{ChangesStoreBy, Stays, Pops, total, ComesToStateBy, GoesBack, ClosesBy, Closes, is_free, Turns, with_store, with_values, before_pushes}
+use Rattle.dwarf_eval.specs.inner.StateChanges.{ChangesStoreBy, Stays, Pops, TriesToPop, total, ComesToStateBy, GoesBack, ClosesBy, Closes, is_free, Turns, with_store, with_values, before_pushes}
 use Rattle.dwarf_eval.proofs.Reaching.{may_along}
 use Rattle.dwarf_eval.proofs.Loads.{EndsAlike, finish_alike, piece_stored}
 use Rattle.dwarf_eval.proofs.Spending.{nears_by, back_spends, over_spends}
-use Rattle.dwarf_eval.proofs.Staying.{fewer_one, keeps_more, stays_here, stays_low, stays_more, stays_popped, stays_then}
+use Rattle.dwarf_eval.proofs.Staying.{fewer_one, keeps_more, stays_here, stays_low, stays_more, stays_then}
 use Rattle.dwarf_eval.proofs.Totals.{closed, total_running, total_complete, course_ended}
 use Rattle.dwarf_eval.proofs.Turning.{effort_running, less_stopped, falls_from, reads_none}
 
@@ -103,9 +103,9 @@ value_closes x old low new h t =
     closes_as (λ s. completion_of (Some x) (push_piece old.setup (whole_piece (AtAddress (to_u64_of (address_bits old.setup) x))) s)) (finish_value old.setup) 1 0 old (with_values rest old) new (omega (arith, values)) (stays_low rest old.store.last old (with_values rest old) (fewer_one x rest old.store.values h.1) refl)
     (λ r. top_some old.store.values (FaultOutcome NotEnoughStackItems) (top_done old.setup (with_refusal r old.store)) x rest h.1) (λ s status. refl) there
 
-pub value_none : (old low new : State) → Pops None old low → new ≡ with_status (FaultStatus error.NotEnoughStackItems) low → Closes 0 (finish_value old.setup) old new
-value_none old low new h is =
-    ends_in 0 (finish_value old.setup) error.NotEnoughStackItems old low new (stays_popped None old low h) is
+pub value_none : (old new : State) → TriesToPop None old new → Closes 0 (finish_value old.setup) old new
+value_none old new h =
+    ends_in 0 (finish_value old.setup) error.NotEnoughStackItems old old new (stays_here old) h.1
     (top_none old.store.values (FaultOutcome NotEnoughStackItems) (top_done old.setup (with_refusal Never old.store)) h.0)
 
 -- ---- the end of a text

@@ -17,9 +17,9 @@ use Rattle.dwarf_meaning.specs.Rest.{State, Status, Start, Running, RequestStatu
 use Rattle.dwarf_meaning.specs.Refusals.{Refusal, Never}
 use Rattle.dwarf_meaning.specs.Inputs.{with_status}
 use Rattle.dwarf_eval.specs.inner.Machine.{replied_status}
-use Rattle.dwarf_eval.specs.inner.StateChanges.{Asks, Stays, TriesChange, HasTriedChange, Pops, Jumps, do_act_at, LeadsToFault, LeadsBy, Performs, with_store, with_values, with_last, with_place, PopsTo, before_pushes}
+use Rattle.dwarf_eval.specs.inner.StateChanges.{Asks, Stays, TriesChange, HasTriedChange, Pops, TriesToPop, Jumps, do_act_at, LeadsToFault, LeadsBy, Performs, with_store, with_values, with_last, with_place, PopsTo, before_pushes}
 use Rattle.dwarf_eval.proofs.RefusedPushes.{tries_as, bind_ok}
-use Rattle.dwarf_eval.proofs.Staying.{fewer_one, stays_from, stays_here, stays_low, stays_popped, stays_then}
+use Rattle.dwarf_eval.proofs.Staying.{fewer_one, stays_from, stays_here, stays_low, stays_then}
 
 pub performs_as : (a b : Act) (old new : State) → a ≡ b → Performs b old new → Performs a old new
 performs_as a b old new e h = subst (λ (z : Act). Performs z old new) (sym e) h
@@ -207,9 +207,9 @@ performs_low f rest old mid new fewer e h =
 -- ---- the top is popped first
 
 -- no value is there
-pub falls_short : (go : Value → List Value → Act) (old mid new : State) → Pops None old mid → new ≡ with_status (FaultStatus error.NotEnoughStackItems) mid → Performs (on_top old.store.values underflow go) old new
-falls_short go old mid new pops is =
-    performs_refuses _ error.NotEnoughStackItems old mid new (top_none old.store.values underflow go pops.0) (stays_popped None old mid pops) is
+pub underflows : (go : Value → List Value → Act) (old new : State) → TriesToPop None old new → Performs (on_top old.store.values underflow go) old new
+underflows go old new h =
+    performs_refuses _ error.NotEnoughStackItems old old new (top_none old.store.values underflow go h.0) (stays_here old) h.1
 
 pub performs_popped : (go : Value → List Value → Act) (x : Value) (old mid new : State) → Pops (Some x) old mid → Performs (go x mid.store.values) mid new → Performs (on_top old.store.values underflow go) old new
 performs_popped go x old mid new pops h =

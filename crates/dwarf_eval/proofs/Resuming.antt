@@ -22,7 +22,7 @@ use Rattle.dwarf_meaning.specs.Refusals.{Refusal, Never, After, refusal_after_in
 use Rattle.dwarf_meaning.proofs.Effects.{IsUseOf, use_is}
 use Rattle.dwarf_meaning.specs.Bounds.{waiting, faults_in}
 use Rattle.dwarf_meaning.specs.Inputs.{input_of, with_status}
-use Rattle.dwarf_eval.specs.inner.StateChanges.{Total, total_after, total_used, ChangesStoreBy, Refused, Stays, Pops, TriesChange, HasTriedChange, Enters, TriesToEnter, ComesToState, ComesToStateBy, TakesAnswer, AnswersOpenRequest, with_last, with_values, before_pushes}
+use Rattle.dwarf_eval.specs.inner.StateChanges.{Total, total_after, total_used, ChangesStoreBy, Refused, Stays, Pops, TriesToPop, TriesChange, HasTriedChange, Enters, TriesToEnter, ComesToState, ComesToStateBy, TakesAnswer, AnswersOpenRequest, PushesAsAnswer, with_last, with_values, before_pushes}
 use Rattle.dwarf_eval.specs.Permits.{IsOpenFor}
 use Rattle.dwarf_eval.specs.inner.Answers.{IsWaiting}
 use Rattle.dwarf_eval.proofs.AnswerUses.{IsOpen, IsOpenTo, open_in}
@@ -31,7 +31,7 @@ use Rattle.dwarf_eval.proofs.Computes.{width_old}
 use Rattle.dwarf_eval.proofs.Loads.{AllGiven, kept_in, caller_stored, value_stored}
 use Rattle.dwarf_eval.proofs.Spending.{nears_by, answered_spends}
 use Rattle.dwarf_eval.proofs.Reaching.{falls_here}
-use Rattle.dwarf_eval.proofs.Staying.{stays_from, stays_popped, stays_then}
+use Rattle.dwarf_eval.proofs.Staying.{stays_from, stays_here, stays_popped, stays_then}
 use Rattle.dwarf_eval.proofs.Totals.{closed, going, total_running, total_waits, course_failed}
 
 same_kinds : {one other : WaitingKind} → one ≡ other → is_same_kind one other ≡ true
@@ -205,15 +205,19 @@ module _ (x : State) (waits : IsWaiting x.status) (on_answer : OnAnswer) (t : Va
   abbrev made : Value → List Value → Use
   made y rest = on_result (call (address_bits x.setup) t y) FaultUse (PushesAnswer rest)
 
-  pub turns_none : Pops None x mid → new ≡ with_status (FaultStatus NotEnoughStackItems) mid → TakesAnswer on_answer (BaseTypeAnswer t) x new
-  turns_none pops e = denies x waits on_answer (BaseTypeAnswer t) NotEnoughStackItems mid new (is ∙ top_none x.store.values (FaultUse NotEnoughStackItems) made pops.0) (stays_popped None x mid pops) e
+  pub turns_none : TriesToPop None x new → TakesAnswer on_answer (BaseTypeAnswer t) x new
+  turns_none h = denies x waits on_answer (BaseTypeAnswer t) NotEnoughStackItems x new (is ∙ top_none x.store.values (FaultUse NotEnoughStackItems) made h.0) (stays_here x) h.1
 
   module _ (top : Value) (width : ℕ) (pops : Pops (Some top) x mid) (same : width ≡ address_bits mid.setup) where
     call_is : (r : Result Value Error) → r ≡ call width t top → call (address_bits x.setup) t top ≡ r
     call_is r e = ap (λ (w : ℕ). call w t top) (sym (width_old width pops.0 x mid pops.2 same)) ∙ sym e
 
-    pub turns_ok : (v : Value) → Ok v ≡ call width t top → HasTriedChange 0 (push_value mid.setup v) (with_status Running (with_last Pushed mid)) new → TakesAnswer on_answer (BaseTypeAnswer t) x new
+    turns_ok : (v : Value) → Ok v ≡ call width t top → HasTriedChange 0 (push_value mid.setup v) (with_status Running (with_last Pushed mid)) new → TakesAnswer on_answer (BaseTypeAnswer t) x new
     turns_ok v e h = value_takes x waits on_answer (BaseTypeAnswer t) pops.0 v (is ∙ (top_some x.store.values (FaultUse NotEnoughStackItems) made top pops.0 pops.1 ∙ answer_ok (call (address_bits x.setup) t top) FaultUse (PushesAnswer pops.0) v (call_is (Ok v) e))) mid new pops.2 h
 
-    pub turns_err : (error : Error) → Err error ≡ call width t top → new ≡ with_status (FaultStatus error) mid → TakesAnswer on_answer (BaseTypeAnswer t) x new
+    turns_err : (error : Error) → Err error ≡ call width t top → new ≡ with_status (FaultStatus error) mid → TakesAnswer on_answer (BaseTypeAnswer t) x new
     turns_err error e f = denies x waits on_answer (BaseTypeAnswer t) error mid new (is ∙ (top_some x.store.values (FaultUse NotEnoughStackItems) made top pops.0 pops.1 ∙ answer_err (call (address_bits x.setup) t top) FaultUse (PushesAnswer pops.0) error (call_is (Err error) e))) (stays_popped (Some top) x mid pops) f
+
+    pub turns : (r : Result Value Error) → r ≡ call width t top → PushesAsAnswer r mid new → TakesAnswer on_answer (BaseTypeAnswer t) x new
+    turns (Ok v) e h = turns_ok v e h
+    turns (Err error) e h = turns_err error e h

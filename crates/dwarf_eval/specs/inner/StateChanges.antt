@@ -2,7 +2,7 @@
 -- it.
 use Rattle.std.specs.Prelude.{ℕ, zero, suc, ◌+◌, ◌-◌, ◌*◌, ◌<◌, ◌≤◌, ◌≡◌, ◌&&◌, nat_lt, Bool, true, false, List, [], ◌∷◌, Option, Some, None, Result, Ok, Err, length}
 use Rattle.dwarf_base.specs.declared.errors.Error.{Error}
-use Rattle.dwarf_base.specs.declared.errors.Error.TheVariants.{BadBranchTarget, InvalidExpressionTerminator, TooManyIterations}
+use Rattle.dwarf_base.specs.declared.errors.Error.TheVariants.{BadBranchTarget, InvalidExpressionTerminator, NotEnoughStackItems, TooManyIterations}
 use Rattle.dwarf_base.specs.Faults.{Fault, fault_of}
 use Rattle.dwarf_base.specs.Reads.{Text}
 use Rattle.dwarf_value.specs.declared.types.Value.{Value}
@@ -13,7 +13,7 @@ use Rattle.dwarf_meaning.specs.Locations.{Location, Piece, sized_piece}
 use Rattle.dwarf_meaning.specs.Requests.{Request, OnAnswer, Answer, Input}
 use Rattle.dwarf_meaning.specs.Acts.{Act, RequestAct, act, Use, use_of}
 use Rattle.dwarf_meaning.specs.RunLaws.{waits_of}
-use Rattle.dwarf_meaning.specs.Stores.{address_bits, Store, Last, Plain, Pieced, Located, push_value, push_values, push_piece, push_caller, Next, Goes, RequestNext, FaultNext, do_act}
+use Rattle.dwarf_meaning.specs.Stores.{address_bits, Store, Last, Plain, Pieced, Pushed, Located, push_value, push_values, push_piece, push_caller, Next, Goes, RequestNext, FaultNext, do_act}
 use Rattle.dwarf_meaning.specs.Run.{Position, after_answer, can_count, count_one, read, most_operations, run}
 use Rattle.dwarf_meaning.specs.Meaning.{Outcome, FaultOutcome, CompleteOutcome, completion_of}
 use Rattle.dwarf_meaning.specs.Rest.{State, Status, Start, Running, RequestStatus, CompleteStatus, FaultStatus, total_of_course, with_refusal}
@@ -99,10 +99,20 @@ abbrev pub PushesAllPlain : List Value → State → State → Type 0
 PushesAllPlain values old new =
     HasTriedChange (length values - 1) (λ s. push_values old.setup values (record s { last = Plain })) old new
 
+-- the value that a plain operation computed was pushed, or the state keeps the fault
+abbrev pub PushesComputed : Result Value Error → State → State → Type 0
+PushesComputed (Ok value) old new = PushesPlain value old new
+PushesComputed (Err error) old new = new ≡ with_status (FaultStatus error) old
+
 -- the top was popped, or there is none
 abbrev pub Pops : Option Value → State → State → Type 0
 Pops None old new = (old.store.values ≡ []) × (new ≡ old)
 Pops (Some v) old new = (rest : List Value) × (old.store.values ≡ v ∷ rest) × (new ≡ with_values rest old)
+
+-- the top was popped, or the state keeps the fault that there is none
+abbrev pub TriesToPop : Option Value → State → State → Type 0
+TriesToPop None old new = (old.store.values ≡ []) × (new ≡ with_status (FaultStatus NotEnoughStackItems) old)
+TriesToPop (Some v) old new = Pops (Some v) old new
 
 -- the top was popped; this is its number, as an address
 pub record PopsTo (number : ℕ) (old new : State) : Type 0 where
@@ -112,9 +122,9 @@ pub record PopsTo (number : ℕ) (old new : State) : Type 0 where
   pub alone : new ≡ with_values rest old
   pub is : number ≡ to_u64_of (address_bits old.setup) value
 
-abbrev pub PopsNumber : State → State → Option ℕ → Type 0
-PopsNumber old new (Some number) = PopsTo number old new
-PopsNumber old new None = (old.store.values ≡ []) × (new ≡ old)
+abbrev pub TriesToPopNumber : Option ℕ → State → State → Type 0
+TriesToPopNumber (Some number) old new = PopsTo number old new
+TriesToPopNumber None old new = TriesToPop None old new
 
 -- one more operation is counted, or the maximum doesn't allow it
 abbrev pub CountsOne : State → State → Bool → Type 0
@@ -319,6 +329,12 @@ pub record Enters (callee : Text) (old new : State) : Type 0 where
 abbrev pub TriesToEnter : Text → State → State → Bool → Type 0
 TriesToEnter callee old new true = Enters callee old new
 TriesToEnter callee old new false = Refused 0 (push_caller old.setup (length old.callers)) old new
+
+-- the value that an answer gives was pushed, or the state keeps the fault
+abbrev pub PushesAsAnswer : Result Value Error → State → State → Type 0
+PushesAsAnswer (Ok value) old new =
+    HasTriedChange 0 (push_value old.setup value) (with_status Running (with_last Pushed old)) new
+PushesAsAnswer (Err error) old new = new ≡ with_status (FaultStatus error) old
 
 -- the total of a state in a request, if its answer is used in this way
 abbrev pub total_used : State → Use → Refusal → List Input → Total

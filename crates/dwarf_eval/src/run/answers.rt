@@ -1,53 +1,42 @@
 ghost use Rattle.dwarf_meaning.specs.declared.kinds.WaitingKind.{WaitingKind};
 ghost use Rattle.dwarf_meaning.specs.Kinds.{kind_of_answer};
 ghost use Rattle.dwarf_meaning.specs.Requests as requests;
-ghost use Rattle.dwarf_meaning.specs.Rest.{Running};
-ghost use Rattle.dwarf_meaning.specs.Stores.{Pushed, push_value};
 ghost use Rattle.dwarf_eval.specs.Permits.{IsOpenFor};
 ghost use Rattle.dwarf_eval.specs.inner.Answers.{IsWaiting, answer_of};
-ghost use Rattle.dwarf_meaning.specs.Inputs.{input_of, with_status};
-ghost use Rattle.dwarf_eval.specs.inner.StateChanges.{ComesToState, HasReply, TakesAnswer, AnswersOpenRequest, HasTriedChange, total_after, with_last};
+ghost use Rattle.dwarf_meaning.specs.Inputs.{input_of};
+ghost use Rattle.dwarf_eval.specs.inner.StateChanges.{ComesToState, HasReply, TakesAnswer, AnswersOpenRequest, PushesAsAnswer, total_after};
 
 use crate::run::machine::Machine;
 use crate::run::states::{Given, OnAnswer};
 use crate::store::EvaluationStorage;
-use dwarf_base::{Error, Reader, copy_of};
+use dwarf_base::{Reader, Result, copy_of};
 use dwarf_value::{Value, ValueType};
 
 impl<R: Reader + Copy, S: EvaluationStorage<R>> Machine<R, S> {
-    /// Pushes an answer.
+    /// Pushes the value that an answer gives, or keeps its fault.
     #[inline(always)]
-    fn push_answer(&mut self, value: Value)
-        ensures { HasTriedChange 0 (push_value self.old.setup value)
-            (with_status Running (with_last Pushed self.old)) self.new }
+    fn push_answer(&mut self, answer: Result<Value>)
+        ensures { PushesAsAnswer answer self.old self.new }
     {
-        self.mark_pushed();
-        self.set_running();
-        self.push(value);
+        match answer {
+            Ok(value) => {
+                self.mark_pushed();
+                self.set_running();
+                self.push(value);
+            }
+            Err(error) => self.fail(error),
+        }
     }
 
-    /// Pushes a value, or its sum with the offset.
+    /// Pushes a value, or its sum with the offset in its type.
     #[inline(always)]
     fn take_value(&mut self, value: Value)
         requires { IsWaiting self.old.status }
         ensures { (kind : WaitingKind) → AnswersOpenRequest (requests.ValueAnswer kind value) self.old self.new }
     {
         match *self.on_answer() {
-            OnAnswer::Add(offset) => self.take_value_sum(value, offset),
-            _ => self.push_answer(value),
-        }
-    }
-
-    /// Pushes the sum of a value and the offset in its type.
-    #[inline(always)]
-    fn take_value_sum(&mut self, value: Value, offset: i64)
-        requires { IsWaiting self.old.status }
-        ensures { (kind : WaitingKind) →
-            TakesAnswer (requests.Add offset) (requests.ValueAnswer kind value) self.old self.new }
-    {
-        match self.sum(value, offset.cast_unsigned()) {
-            Ok(sum) => self.push_answer(sum),
-            Err(error) => self.fail(error),
+            OnAnswer::Add(offset) => self.push_answer(self.sum(value, offset.cast_unsigned())),
+            _ => self.push_answer(Ok(value)),
         }
     }
 
@@ -58,20 +47,12 @@ impl<R: Reader + Copy, S: EvaluationStorage<R>> Machine<R, S> {
         ensures { (kind : WaitingKind) → AnswersOpenRequest (requests.NumberAnswer kind number) self.old self.new }
     {
         match *self.on_answer() {
-            OnAnswer::Add(offset) => self.take_number_sum(number, offset),
-            _ => self.push_answer(Value::Generic(number)),
+            OnAnswer::Add(offset) => {
+                let sum = number.wrapping_add(offset.cast_unsigned());
+                self.push_answer(Ok(Value::Generic(sum)))
+            }
+            _ => self.push_answer(Ok(Value::Generic(number))),
         }
-    }
-
-    /// Pushes the sum of a number and the offset.
-    #[inline(always)]
-    fn take_number_sum(&mut self, number: u64, offset: i64)
-        requires { IsWaiting self.old.status }
-        ensures { (kind : WaitingKind) →
-            TakesAnswer (requests.Add offset) (requests.NumberAnswer kind number) self.old self.new }
-    {
-        let sum = number.wrapping_add(offset.cast_unsigned());
-        self.push_answer(Value::Generic(sum));
     }
 
     /// Makes a value of the type: of the literal, or of the top.
@@ -97,10 +78,7 @@ impl<R: Reader + Copy, S: EvaluationStorage<R>> Machine<R, S> {
         ensures { TakesAnswer (requests.Parse (R.text literal)) (requests.BaseTypeAnswer base_type)
             self.old self.new }
     {
-        match Value::parse(base_type, literal) {
-            Ok(value) => self.push_answer(value),
-            Err(error) => self.fail(error),
-        }
+        self.push_answer(Value::parse(base_type, literal))
     }
 
     /// Converts the top to the type.
@@ -109,14 +87,8 @@ impl<R: Reader + Copy, S: EvaluationStorage<R>> Machine<R, S> {
         requires { IsWaiting self.old.status }
         ensures { TakesAnswer requests.Convert (requests.BaseTypeAnswer base_type) self.old self.new }
     {
-        let Some(value) = self.pop() else {
-            self.fail(Error::NotEnoughStackItems);
-            return;
-        };
-        match value.convert(base_type, self.addr_mask()) {
-            Ok(converted) => self.push_answer(converted),
-            Err(error) => self.fail(error),
-        }
+        let Some(value) = self.pop() else { return };
+        self.push_answer(value.convert(base_type, self.addr_mask()))
     }
 
     /// Takes the bits on top as a value of the type.
@@ -125,14 +97,8 @@ impl<R: Reader + Copy, S: EvaluationStorage<R>> Machine<R, S> {
         requires { IsWaiting self.old.status }
         ensures { TakesAnswer requests.Reinterpret (requests.BaseTypeAnswer base_type) self.old self.new }
     {
-        let Some(value) = self.pop() else {
-            self.fail(Error::NotEnoughStackItems);
-            return;
-        };
-        match value.reinterpret(base_type, self.addr_mask()) {
-            Ok(reinterpreted) => self.push_answer(reinterpreted),
-            Err(error) => self.fail(error),
-        }
+        let Some(value) = self.pop() else { return };
+        self.push_answer(value.reinterpret(base_type, self.addr_mask()))
     }
 
     /// Runs the called text in the call's place; goes on at once if it is empty.

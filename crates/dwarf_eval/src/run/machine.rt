@@ -13,7 +13,7 @@ ghost use Rattle.dwarf_op.specs.Views.{operation_of, location_of, piece_of};
 ghost use Rattle.dwarf_meaning.specs.Inputs.{fresh_state, with_maximum, with_object, with_status};
 ghost use Rattle.dwarf_eval.specs.Evaluation.{request_in};
 ghost use Rattle.dwarf_eval.specs.inner.Machine.{last_of, on_answer_of, replied_status, status_of};
-ghost use Rattle.dwarf_eval.specs.inner.StateChanges.{Asks, CountsOne, GoesBack, Jumps, Pops, ReadsOperation, TriesChange, TriesToEnter, at_rest, is_free, is_running, read_to, with_last, with_place};
+ghost use Rattle.dwarf_eval.specs.inner.StateChanges.{Asks, CountsOne, GoesBack, Jumps, Pops, ReadsOperation, TriesChange, TriesToEnter, TriesToPop, at_rest, is_free, is_running, read_to, with_last, with_place};
 
 use crate::op::EvaluationResult;
 use crate::run::states::{EvaluationState, LastOperation, OnAnswer};
@@ -95,12 +95,24 @@ impl<R: Reader + Copy, S: EvaluationStorage<R>> Machine<R, S> {
         true
     }
 
-    /// Pops the top.
+    /// Pops the top, if there is one.
     #[inline(always)]
-    pub(crate) fn pop(&mut self) -> Option<Value>
+    pub(crate) fn pop_if_any(&mut self) -> Option<Value>
         ensures { Pops result self.old self.new }
     {
         self.stack.pop()
+    }
+
+    /// Pops the top, or keeps the fault of an empty stack.
+    #[inline(always)]
+    pub(crate) fn pop(&mut self) -> Option<Value>
+        ensures { TriesToPop result self.old self.new }
+    {
+        let Some(top) = self.pop_if_any() else {
+            self.fail(Error::NotEnoughStackItems);
+            return None;
+        };
+        Some(top)
     }
 
     /// The value that is this far below the top.
@@ -230,9 +242,9 @@ impl<R: Reader + Copy, S: EvaluationStorage<R>> Machine<R, S> {
         self.state = EvaluationState::Running;
     }
 
-    /// Ends the run, with this value.
+    /// Completes the run, with this value.
     #[inline(always)]
-    pub(crate) fn end(&mut self, value: Option<Value>)
+    pub(crate) fn complete(&mut self, value: Option<Value>)
         ensures { self.new ≡ with_status (CompleteStatus value) self.old }
     {
         self.state = EvaluationState::Complete(value);

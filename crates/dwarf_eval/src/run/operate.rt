@@ -6,7 +6,7 @@ ghost use Rattle.dwarf_meaning.specs.Rest.{Running};
 ghost use Rattle.dwarf_meaning.specs.Stores.{address_bits, push_values};
 ghost use Rattle.dwarf_value.specs.Values.{from_u64_of, to_u64_of, type_of, unary_of, binary_of, Plus};
 ghost use Rattle.dwarf_eval.specs.inner.Machine.{binary_operator_of, operator_of};
-ghost use Rattle.dwarf_eval.specs.inner.StateChanges.{Performs, PopsNumber, PushesAllPlain, PushesPlain, TriesChange, act_of, at_rest};
+ghost use Rattle.dwarf_eval.specs.inner.StateChanges.{Performs, PushesAllPlain, PushesComputed, PushesPlain, TriesChange, TriesToPopNumber, act_of, at_rest};
 
 use crate::op::EvaluationResult;
 use crate::run::machine::Machine;
@@ -25,6 +25,17 @@ impl<R: Reader + Copy, S: EvaluationStorage<R>> Machine<R, S> {
     {
         self.mark_plain();
         self.push(value);
+    }
+
+    /// Pushes the value that a plain operation computed, or keeps its fault.
+    #[inline(always)]
+    fn push_computed(&mut self, computed: Result<Value>)
+        ensures { PushesComputed computed self.old self.new }
+    {
+        match computed {
+            Ok(value) => self.push_plain(value),
+            Err(error) => self.fail(error),
+        }
     }
 
     /// Pushes two values, the second on top.
@@ -68,14 +79,8 @@ impl<R: Reader + Copy, S: EvaluationStorage<R>> Machine<R, S> {
             self.old.store.values)
             self.old self.new }
     {
-        let Some(value) = self.pop() else {
-            self.fail(Error::NotEnoughStackItems);
-            return;
-        };
-        match operator.apply(value, self.addr_mask()) {
-            Ok(computed) => self.push_plain(computed),
-            Err(error) => self.fail(error),
-        }
+        let Some(value) = self.pop() else { return };
+        self.push_computed(operator.apply(value, self.addr_mask()))
     }
 
     /// Puts the call's value in the place of the two on top.
@@ -87,18 +92,9 @@ impl<R: Reader + Copy, S: EvaluationStorage<R>> Machine<R, S> {
             self.old.store.values)
             self.old self.new }
     {
-        let Some(right) = self.pop() else {
-            self.fail(Error::NotEnoughStackItems);
-            return;
-        };
-        let Some(left) = self.pop() else {
-            self.fail(Error::NotEnoughStackItems);
-            return;
-        };
-        match operator.apply(left, right, self.addr_mask()) {
-            Ok(computed) => self.push_plain(computed),
-            Err(error) => self.fail(error),
-        }
+        let Some(right) = self.pop() else { return };
+        let Some(left) = self.pop() else { return };
+        self.push_computed(operator.apply(left, right, self.addr_mask()))
     }
 
     /// A value plus a constant of its type.
@@ -120,10 +116,10 @@ impl<R: Reader + Copy, S: EvaluationStorage<R>> Machine<R, S> {
         value.to_u64(self.addr_mask()).unwrap_or(0)
     }
 
-    /// Pops the top as a number of an address's bits.
+    /// Pops the top as a number of an address's bits, or keeps the fault of an empty stack.
     #[inline(always)]
     fn pop_number(&mut self) -> Option<u64>
-        ensures { PopsNumber self.old self.new result }
+        ensures { TriesToPopNumber result self.old self.new }
     {
         let value = self.pop()?;
         Some(self.number_of(value))
@@ -135,10 +131,7 @@ impl<R: Reader + Copy, S: EvaluationStorage<R>> Machine<R, S> {
         requires { self.old.status ≡ Running }
         ensures { Performs (act_of self.old meaning.Drop) self.old self.new }
     {
-        let Some(_) = self.pop() else {
-            self.fail(Error::NotEnoughStackItems);
-            return;
-        };
+        let Some(_) = self.pop() else { return };
         self.mark_plain();
     }
 
@@ -161,14 +154,8 @@ impl<R: Reader + Copy, S: EvaluationStorage<R>> Machine<R, S> {
         requires { self.old.status ≡ Running }
         ensures { Performs (act_of self.old meaning.Swap) self.old self.new }
     {
-        let Some(top) = self.pop() else {
-            self.fail(Error::NotEnoughStackItems);
-            return;
-        };
-        let Some(next) = self.pop() else {
-            self.fail(Error::NotEnoughStackItems);
-            return;
-        };
+        let Some(top) = self.pop() else { return };
+        let Some(next) = self.pop() else { return };
         self.push_both(top, next)
     }
 
@@ -178,18 +165,9 @@ impl<R: Reader + Copy, S: EvaluationStorage<R>> Machine<R, S> {
         requires { self.old.status ≡ Running }
         ensures { Performs (act_of self.old meaning.Rot) self.old self.new }
     {
-        let Some(top) = self.pop() else {
-            self.fail(Error::NotEnoughStackItems);
-            return;
-        };
-        let Some(second) = self.pop() else {
-            self.fail(Error::NotEnoughStackItems);
-            return;
-        };
-        let Some(third) = self.pop() else {
-            self.fail(Error::NotEnoughStackItems);
-            return;
-        };
+        let Some(top) = self.pop() else { return };
+        let Some(second) = self.pop() else { return };
+        let Some(third) = self.pop() else { return };
         self.push_three(top, third, second)
     }
 
@@ -199,14 +177,8 @@ impl<R: Reader + Copy, S: EvaluationStorage<R>> Machine<R, S> {
         requires { self.old.status ≡ Running }
         ensures { Performs (act_of self.old (meaning.PlusConstant constant)) self.old self.new }
     {
-        let Some(value) = self.pop() else {
-            self.fail(Error::NotEnoughStackItems);
-            return;
-        };
-        match self.sum(value, constant) {
-            Ok(sum) => self.push_plain(sum),
-            Err(error) => self.fail(error),
-        }
+        let Some(value) = self.pop() else { return };
+        self.push_computed(self.sum(value, constant))
     }
 
     /// Pushes the address of the object that is described.
@@ -246,7 +218,6 @@ impl<R: Reader + Copy, S: EvaluationStorage<R>> Machine<R, S> {
         ensures rest { IsRestOf (R.text rest.new) self.new.text }
     {
         let Some(number) = self.pop_number() else {
-            self.fail(Error::NotEnoughStackItems);
             return;
         };
         if number == 0 {
@@ -262,41 +233,36 @@ impl<R: Reader + Copy, S: EvaluationStorage<R>> Machine<R, S> {
         requires { self.old.status ≡ Running }
         ensures { Performs (act_of self.old meaning.StackValue) self.old self.new }
     {
-        let Some(value) = self.pop() else {
-            self.fail(Error::NotEnoughStackItems);
-            return;
-        };
+        let Some(value) = self.pop() else { return };
         self.locate(Location::Value { value })
     }
 
-    /// Ends a piece at the address on top, or nowhere if the stack is empty.
+    /// Adds a piece at the address on top, or at no location if the stack is empty.
     #[inline(never)]
-    pub(crate) fn end_piece(&mut self, size_in_bits: u64, bit_offset: Option<u64>)
+    pub(crate) fn add_piece(&mut self, size_in_bits: u64, bit_offset: Option<u64>)
         requires { self.old.status ≡ Running }
         ensures { Performs (act_of self.old (meaning.Piece size_in_bits bit_offset))
             self.old self.new }
     {
         self.mark_pieced();
-        let Some(address) = self.pop_number() else {
-            self.push_piece(Piece {
-                size_in_bits: Some(size_in_bits),
-                bit_offset,
-                location: Location::Empty,
-            });
-            return;
+        let location = match self.pop_if_any() {
+            Some(value) => Location::Address {
+                address: self.number_of(value),
+            },
+            None => Location::Empty,
         };
         self.push_piece(Piece {
             size_in_bits: Some(size_in_bits),
             bit_offset,
-            location: Location::Address { address },
+            location,
         });
     }
 
     /// Asks for what memory holds at the address on top, in the space below it if one is named.
     #[inline(never)]
-    pub(crate) fn dereference(&mut self, base_type: UnitOffset<R::Offset>, size: u8, space: bool)
+    pub(crate) fn dereference(&mut self, base_type: UnitOffset<R::Offset>, size: u8, has_space: bool)
         ensures { Performs
-            (act_of self.old (meaning.Deref (R.Offset.number base_type.0) size space))
+            (act_of self.old (meaning.Deref (R.Offset.number base_type.0) size has_space))
             self.old self.new }
     {
         if size > self.address_size() {
@@ -304,30 +270,20 @@ impl<R: Reader + Copy, S: EvaluationStorage<R>> Machine<R, S> {
             return;
         }
         let Some(address) = self.pop_number() else {
-            self.fail(Error::NotEnoughStackItems);
             return;
         };
-        if !space {
-            self.ask(
-                EvaluationResult::RequiresMemory {
-                    address,
-                    size,
-                    space: None,
-                    base_type,
-                },
-                OnAnswer::Push,
-            );
-            return;
+        let mut space = None;
+        if has_space {
+            let Some(number) = self.pop_number() else {
+                return;
+            };
+            space = Some(number);
         }
-        let Some(space) = self.pop_number() else {
-            self.fail(Error::NotEnoughStackItems);
-            return;
-        };
         self.ask(
             EvaluationResult::RequiresMemory {
                 address,
                 size,
-                space: Some(space),
+                space,
                 base_type,
             },
             OnAnswer::Push,
@@ -340,7 +296,6 @@ impl<R: Reader + Copy, S: EvaluationStorage<R>> Machine<R, S> {
         ensures { Performs (act_of self.old meaning.TLS) self.old self.new }
     {
         let Some(index) = self.pop_number() else {
-            self.fail(Error::NotEnoughStackItems);
             return;
         };
         self.ask(EvaluationResult::RequiresTls(index), OnAnswer::Push)

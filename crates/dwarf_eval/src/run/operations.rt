@@ -107,7 +107,7 @@ impl<R: Reader + Copy, S: EvaluationStorage<R>> Machine<R, S> {
             Operation::Piece {
                 size_in_bits,
                 bit_offset,
-            } => self.end_piece(size_in_bits, bit_offset),
+            } => self.add_piece(size_in_bits, bit_offset),
             Operation::ImplicitValue { bytes } => self.locate(Location::Bytes { value: bytes }),
             Operation::StackValue => self.locate_value(),
             Operation::ImplicitPointer { value, byte_offset } => {

@@ -62,7 +62,7 @@ impl<R: Reader + Copy, S: EvaluationStorage<R>> Machine<R, S> {
 
     /// Ends the waiting location by the operation that follows, which has to be a piece.
     #[inline(always)]
-    fn end_location(&mut self, operation: Operation<R>)
+    fn add_piece_of_location(&mut self, operation: Operation<R>)
         requires after { 0 < self.old.place }
         requires waits { is_free self.old.store.last ≡ false }
         ensures { (location : _) → self.old.store.last ≡ Located location →
@@ -97,18 +97,18 @@ impl<R: Reader + Copy, S: EvaluationStorage<R>> Machine<R, S> {
         let operation = self.decode(&mut rest);
         self.go_to(rest);
         match operation {
-            Ok(operation) => self.end_location(operation),
+            Ok(operation) => self.add_piece_of_location(operation),
             Err(error) => self.fail(error),
         }
     }
 
     /// Adds a last piece, and completes the run.
-    fn complete(&mut self, piece: Piece<R>, value: Option<Value>)
+    fn complete_with_piece(&mut self, piece: Piece<R>, value: Option<Value>)
         requires { self.old.status ≡ Running }
         ensures { CompletesWith (piece_of R.text R.Offset.number piece) value self.old self.new }
     {
         if self.push_piece(piece) {
-            self.end(value);
+            self.complete(value);
         }
     }
 
@@ -122,26 +122,23 @@ impl<R: Reader + Copy, S: EvaluationStorage<R>> Machine<R, S> {
         if self.has_pieces() {
             match self.last() {
                 LastOperation::Nothing | LastOperation::Pieced | LastOperation::Called => {
-                    self.end(None)
+                    self.complete(None)
                 }
                 _ => self.fail(Error::InvalidPiece),
             }
             return;
         }
         if !self.is_free() {
-            self.complete(whole(copy_of(self.location())), None);
+            self.complete_with_piece(whole(copy_of(self.location())), None);
             return;
         }
-        let Some(value) = self.pop() else {
-            self.fail(Error::NotEnoughStackItems);
-            return;
-        };
+        let Some(value) = self.pop() else { return };
         let address = self.number_of(value);
-        self.complete(whole(Location::Address { address }), Some(value));
+        self.complete_with_piece(whole(Location::Address { address }), Some(value));
     }
 
     /// Leaves a text at its end: goes back to the caller, or ends the run if there is none.
-    fn leave(&mut self)
+    fn return_to_caller(&mut self)
         requires runs { self.old.status ≡ Running }
         requires ends { self.old.place ≡ length self.old.text.bytes }
         ensures { Turns self.old self.new }
@@ -160,7 +157,7 @@ impl<R: Reader + Copy, S: EvaluationStorage<R>> Machine<R, S> {
     {
         while self.is_running() {
             if self.is_at_end() {
-                self.leave();
+                self.return_to_caller();
             } else if self.is_free() {
                 self.run_operations();
             } else {

@@ -3,8 +3,8 @@ use Rattle.dwarf_base.specs.declared.errors.Error.{Error}
 use Rattle.dwarf_value.specs.declared.types.Value.{Value}
 use Rattle.dwarf_value.specs.Values.{from_u64_of, type_of, binary_of, Plus}
 use Rattle.dwarf_meaning.specs.Acts.{act}
-use Rattle.dwarf_eval.proofs.Computes.{unary_pushes, unary_refuses}
-use Rattle.dwarf_eval.proofs.Performances.{falls_short}
+use Rattle.dwarf_eval.proofs.Computes.{unary_computes}
+use Rattle.dwarf_eval.proofs.Performances.{underflows}
 use Rattle.dwarf_eval.proofs.run.machine.Machine.add_constant.Goals as goal
 
 -- the call that is made
@@ -13,16 +13,10 @@ call constant bits x = binary_of Plus bits x (from_u64_of (type_of x) constant)
 
 pub returns-in_default : goal.returns-in_default
 unfolding act
-returns-in_default g c = falls_short _ c.args.self.now c.pop.new.self c.fail.new.self c.in_default.ensures c.fail.ensures
+returns-in_default g c = underflows _ c.args.self.now c.pop.new.self c.in_default.ensures
 
-pub returns-in-Ok : goal.returns-in-Ok
+pub returns : goal.returns
 unfolding act
-returns-in-Ok g c =
-    unary_pushes (call c.args.constant) c.args.self.now c.pop.new.self c.in-Some.value _ c.in-Some.ensures refl
-    c.push_plain.new.self c.in-Ok.sum c.requires c.in-Ok.ensures c.push_plain.ensures
-
-pub returns-in-Err : goal.returns-in-Err
-unfolding act
-returns-in-Err g c =
-    unary_refuses (call c.args.constant) c.args.self.now c.pop.new.self c.in-Some.value _ c.in-Some.ensures refl
-    c.in-Err.error c.fail-in-Err.new.self c.in-Err.ensures c.fail-in-Err.ensures
+returns g c =
+    unary_computes (call c.args.constant) c.args.self.now c.pop.new.self c.in-Some.value _ c.in-Some.ensures refl
+    c.push_computed.new.self c.sum.result c.requires c.sum.ensures c.push_computed.ensures

@@ -1,12 +1,12 @@
 use Rattle.std.proofs.Common.{refl}
 use Rattle.dwarf_meaning.specs.Acts.{RequestAct, act}
 use Rattle.dwarf_meaning.specs.Requests.{RequiresTls, Push}
-use Rattle.dwarf_eval.proofs.Performances.{falls_short, performs_asks, performs_number}
+use Rattle.dwarf_eval.proofs.Performances.{performs_asks, performs_number, underflows}
 use Rattle.dwarf_eval.proofs.run.machine.Machine.ask_tls.Goals as goal
 
 pub returns-in_default : goal.returns-in_default
 unfolding act
-returns-in_default g c = falls_short _ c.args.self.now c.pop_number.new.self c.fail.new.self c.in_default.ensures c.fail.ensures
+returns-in_default g c = underflows _ c.args.self.now c.pop_number.new.self c.in_default.ensures
 
 pub returns : goal.returns
 unfolding act

@@ -5,9 +5,9 @@ use Rattle.std.proofs.lemmas.Int.{to_z-of_z}
 use Rattle.dwarf_value.specs.declared.types.Value.{Value}
 use Rattle.dwarf_meaning.specs.Acts.{Act, Pushes, Branches, act}
 use Rattle.dwarf_meaning.specs.Rest.{State}
-use Rattle.dwarf_eval.specs.inner.StateChanges.{Performs, Pops, PopsTo, at_rest}
+use Rattle.dwarf_eval.specs.inner.StateChanges.{Performs, PopsTo, at_rest}
 use Rattle.dwarf_eval.proofs.Placing.{performs_at}
-use Rattle.dwarf_eval.proofs.Performances.{falls_short, performs_as, performs_none, performs_number}
+use Rattle.dwarf_eval.proofs.Performances.{performs_as, performs_none, performs_number, underflows}
 use Rattle.dwarf_eval.proofs.run.machine.Machine.branch_if.Goals as goal
 
 -- by the number on top
@@ -22,8 +22,7 @@ pub returns-in_default-clause-performs : goal.returns-in_default-clause-performs
 unfolding act
 returns-in_default-clause-performs g c =
     let left = (g.R.Reader.text c.args.rest.now).bytes in
-    let none : Pops None (at_rest left c.args.self.now) (at_rest left c.pop_number.new.self) = (c.in_default.ensures.0, ap (at_rest left) c.in_default.ensures.1) in
-    falls_short _ (at_rest left c.args.self.now) (at_rest left c.pop_number.new.self) (at_rest left c.fail.new.self) none (ap (at_rest left) c.fail.ensures)
+    underflows _ (at_rest left c.args.self.now) (at_rest left c.pop_number.new.self) (c.in_default.ensures.0, ap (at_rest left) c.in_default.ensures.1)
 
 pub returns-then-number-eq0-clause-performs : goal.returns-then-number-eq0-clause-performs
 unfolding act

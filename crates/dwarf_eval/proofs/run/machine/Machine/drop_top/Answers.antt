@@ -1,12 +1,12 @@
 use Rattle.std.proofs.Common.{ap, ◌∙◌}
 use Rattle.dwarf_meaning.specs.Acts.{act}
 use Rattle.dwarf_meaning.specs.Rest.{State}
-use Rattle.dwarf_eval.proofs.Performances.{falls_short, performs_none, performs_popped}
+use Rattle.dwarf_eval.proofs.Performances.{performs_none, performs_popped, underflows}
 use Rattle.dwarf_eval.proofs.run.machine.Machine.drop_top.Goals as goal
 
 pub returns-in_default : goal.returns-in_default
 unfolding act
-returns-in_default g c = falls_short _ c.args.self.now c.pop.new.self c.fail.new.self c.in_default.ensures c.fail.ensures
+returns-in_default g c = underflows _ c.args.self.now c.pop.new.self c.in_default.ensures
 
 pub returns : goal.returns
 unfolding act

@@ -36,9 +36,9 @@ returns-in-Ok g c =
     let right = (text c.decode-operation.new.rest).bytes in
     let op = operation_of text g.R.Offset.ReaderOffset.number c.in-Ok.operation in
     let gone = gone_to left right old c.take_rest-rest.new.self c.decode-operation.new.self c.go_to.new.self c.take_rest-rest.ensures.here c.take_rest-rest.ensures.alone c.decode-operation.ensures.alone c.go_to.ensures in
-    hold_turns old waits.0 c.requires.runs c.requires.inside waits.1 c.go_to.new.self c.end_location.new.self op
+    hold_turns old waits.0 c.requires.runs c.requires.inside waits.1 c.go_to.new.self c.add_piece_of_location.new.self op
     (read_here left right old c.take_rest-rest.new.self c.decode-operation.new.self c.go_to.new.self c.take_rest-rest.ensures.here c.take_rest-rest.ensures.alone c.decode-operation.ensures.alone c.go_to.ensures op c.in-Ok.ensures.ok)
-    (c.end_location.ensures waits.0 (ap (λ (z : State). z.store.last) gone ∙ waits.1))
+    (c.add_piece_of_location.ensures waits.0 (ap (λ (z : State). z.store.last) gone ∙ waits.1))
 
 pub returns-in-Err : goal.returns-in-Err
 returns-in-Err g c =

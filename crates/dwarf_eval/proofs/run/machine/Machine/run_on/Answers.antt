@@ -8,7 +8,7 @@ loop-self-init g c = comes_here c.args.self.now c.requires
 
 pub loop-self-preserved-then-is_at_end : goal.loop-self-preserved-then-is_at_end
 loop-self-preserved-then-is_at_end g c =
-    comes_more c.args.self.now (total c.args.self.now) c.loop-self.self c.leave.new.self (sym c.is_running.ensures ∙ c.loop-self-test.true) c.loop-self.invariant c.leave.ensures.comes
+    comes_more c.args.self.now (total c.args.self.now) c.loop-self.self c.return_to_caller.new.self (sym c.is_running.ensures ∙ c.loop-self-test.true) c.loop-self.invariant c.return_to_caller.ensures.comes
 
 pub loop-self-preserved-then-is_free : goal.loop-self-preserved-then-is_free
 loop-self-preserved-then-is_free g c =

@@ -3,7 +3,7 @@ use Rattle.dwarf_value.specs.declared.types.Value.{Value}
 use Rattle.dwarf_meaning.specs.Acts.{Pushes, act, on_top, underflow}
 use Rattle.dwarf_meaning.specs.Operations as operation
 use Rattle.dwarf_meaning.specs.Stores.{address_bits}
-use Rattle.dwarf_eval.proofs.Performances.{falls_short, fewer_two, performs_as, performs_popped, performs_pushes, pops_two}
+use Rattle.dwarf_eval.proofs.Performances.{fewer_two, performs_as, performs_popped, performs_pushes, pops_two, underflows}
 use Rattle.dwarf_eval.proofs.run.machine.Machine.swap.Goals as goal
 
 swap_is : (bits : ℕ) (object : Option ℕ) (values : List Value) → act bits object operation.Swap values ≡ on_top values underflow (λ y below. on_top below underflow (λ x rest. Pushes rest (y ∷ x ∷ [])))
@@ -14,15 +14,15 @@ swap_is bits object (y ∷ x ∷ rest) = refl
 
 pub returns-in_default : goal.returns-in_default
 returns-in_default g c =
-    performs_as _ _ c.args.self.now c.fail.new.self (swap_is _ _ c.args.self.now.store.values)
-    (falls_short _ c.args.self.now c.pop.new.self c.fail.new.self c.in_default.ensures c.fail.ensures)
+    performs_as _ _ c.args.self.now c.pop.new.self (swap_is _ _ c.args.self.now.store.values)
+    (underflows _ c.args.self.now c.pop.new.self c.in_default.ensures)
 
 pub returns-in_default-pop : goal.returns-in_default-pop
 returns-in_default-pop g c =
-    let new = c.fail-in_default-pop.new.self in
+    let new = c.pop-2.new.self in
     performs_as _ _ c.args.self.now new (swap_is _ _ c.args.self.now.store.values)
     (performs_popped _ c.in-Some.top c.args.self.now c.pop.new.self new c.in-Some.ensures
-    (falls_short _ c.pop.new.self c.pop-2.new.self new c.in_default-pop.ensures c.fail-in_default-pop.ensures))
+    (underflows _ c.pop.new.self new c.in_default-pop.ensures))
 
 pub returns : goal.returns
 unfolding act

@@ -4,7 +4,7 @@ use Rattle.dwarf_meaning.specs.RunLaws.{waits_of}
 use Rattle.dwarf_meaning.specs.Rest.{State}
 use Rattle.dwarf_eval.specs.inner.StateChanges.{GoesBack, Closes}
 use Rattle.dwarf_eval.proofs.Finishing.{back_turned, finish_turns}
-use Rattle.dwarf_eval.proofs.run.machine.Machine.leave.Goals as goal
+use Rattle.dwarf_eval.proofs.run.machine.Machine.return_to_caller.Goals as goal
 
 pub returns-else-not-pop_caller : goal.returns-else-not-pop_caller
 returns-else-not-pop_caller g c = back_turned c.args.self.now c.requires.runs c.requires.ends c.pop_caller.new.self (subst (λ (b : Bool). GoesBack b c.args.self.now c.pop_caller.new.self) c.if-not-pop_caller.false c.pop_caller.ensures)

@@ -1,4 +1,4 @@
--- What equality sees of steps and their results: errors whole, readers by `text` and offsets by `number`.
+-- What equality compares in steps and their results: whole errors, readers by `text`, and offsets by `number`.
 use Rattle.std.specs.Prelude.{ℕ, Result, Ok, Err}
 use Rattle.dwarf_base.specs.declared.errors.Error.{Error}
 use Rattle.dwarf_base.specs.Reads.{Text}

@@ -62,7 +62,7 @@ abbrev pub left_of : {R : Type 0} → Option R → R → R
 left_of None whole = whole
 left_of (Some rest) whole = rest
 
--- how many bytes of a text come before the rest of it
+-- the place in a text at which this rest of it begins
 abbrev pub place_of : (whole left : Text) → ℕ
 place_of whole left = length whole.bytes - length left.bytes
 
@@ -86,7 +86,7 @@ store_of text number values pieces count object_address maximum last location = 
   refusal = Never;
 }
 
--- the mask is that of the encoding's addresses, and each rest is a suffix of its text
+-- the mask has the encoding's address size, and each rest is a suffix of its text
 pub record IsSound {R : Type 0} (text : R → Text) (encoding : Encoding) (addr_mask : ℕ) (whole left : R)
     (readers : List (R × R)) : Type 0 where
   pub mask : IsAddressMask addr_mask

@@ -9,7 +9,7 @@ use Rattle.dwexpr.specs.declared.steps.BadLine.{BadLine}
 use Rattle.dwexpr.specs.declared.words.Invocation.{Invocation}
 use Rattle.dwexpr.specs.declared.words.Words.{Words}
 
--- the result is what the input says, or bad if it says nothing; memory for it may be refused
+-- the result is what the input says, or `Bad` if that is nothing; memory for it may be refused
 abbrev pub ReadsInput : {X Y B : Type 0} → (X → Y) → (said : Option Y) → Result X (InputFault B) → Type 0
 ReadsInput view said (Ok x) = said ≡ Some (view x)
 ReadsInput view said (Err (input.Bad bad)) = said ≡ None
@@ -29,7 +29,7 @@ asked_by x = record { command = x.command; context = x.context; bytes = x.bytes.
 
 -- ---- lines
 
--- the result is the steps that lines spell, or the line that spells none; memory for them may be refused
+-- the result is the steps that the lines spell, or the first line that spells none; memory for them may be refused
 abbrev pub ReadsSteps : {A B : Type 0} → (A → Step) → (said : Result (List Step) ℕ)
     → Result (Vec A B) (InputFault BadLine) → Type 0
 ReadsSteps view said (Ok steps) = said ≡ Ok (map view steps.items)

@@ -37,7 +37,7 @@ pub data Answer : Type 0 where
   LocationAnswer : (text : Text) → Answer
   BaseTypeAnswer : (value_type : ValueType) → Answer
 
--- the settings in force: the address of the described object, if it is known, and the maximum of operations
+-- the settings in force: the address of the described object, if it is known, and the maximum number of operations
 pub record Settings : Type 0 where
   pub object_address : Option ℕ
   pub maximum : ℕ

@@ -34,7 +34,7 @@ abbrev pub before_pushes : ℕ → Refusal → Refusal
 before_pushes zero refusal = refusal
 before_pushes (suc pushes) refusal = before_push (before_pushes pushes refusal)
 
--- f of the store before some pushes is g of the store after them
+-- f of the old store is g of the new one, which some pushes led to
 pub record StoreSteps {A : Type 0} (f : Store → A) (old : Store) (g : Store → A) (new : Store) : Type 0 where
   pub pushes : ℕ
   pub same : (r : Refusal) → f (with_refusal (before_pushes pushes r) old) ≡ g (with_refusal r new)
@@ -254,7 +254,7 @@ GoesBack true old new =
     × (new ≡ record old { text = f.text; place = f.place; callers = fs })
 GoesBack false old new = (old.callers ≡ []) × (new ≡ old)
 
--- the run is complete with this value, as f says, and has at most this many more items
+-- the run is complete with this value, which f gives, and has at most this many more items
 pub record ClosesComplete (more : ℕ) (f : Store → Outcome) (value : Option Value) (old new : State) : Type 0 where
   pub steps : StoreSteps f old.store (λ s. CompleteOutcome s.pieces value) new.store
   pub alone : new ≡ with_store new.store (with_status (CompleteStatus value) old)
@@ -273,8 +273,8 @@ ClosesBy more f old new (CompleteStatus value) = ClosesComplete more f value old
 ClosesBy more f old new (FaultStatus error) = ClosesInFault f error old new
 ClosesBy more f old new _ = ⊥
 
--- the run is complete, as f says, with at most this many more items; or f gives a fault for some refusal, and the state
--- keeps it
+-- The run ends with the outcome that f gives. Either it is complete, with at most this many more items; or f gives a
+-- fault for some refusal, and the state keeps it.
 abbrev pub Closes : ℕ → (Store → Outcome) → State → State → Type 0
 Closes more f old new = ClosesBy more f old new new.status
 
@@ -319,7 +319,7 @@ abbrev pub TriesToEnter : Text → State → State → Bool → Type 0
 TriesToEnter callee old new true = Enters callee old new
 TriesToEnter callee old new false = Refused 0 (push_caller old.setup (length old.callers)) old new
 
--- the total of a state in a request, if its answer is used in this way
+-- the total of a state in a request, given the use of the answer
 abbrev pub total_used : State → Use → Refusal → List Input → Total
 total_used x used refusal inputs =
     total_of_course x.store.count x.setup x.callers

@@ -1,4 +1,4 @@
-//! The request of a state, and its kind.
+//! The reply of a machine, and the kind of a request.
 
 ghost use Rattle.std.specs.Prelude.{◌≡◌, IfOk, option_map};
 ghost use Rattle.dwarf_meaning.specs.Kinds.{kind_of_request};

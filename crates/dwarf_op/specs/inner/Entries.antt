@@ -20,7 +20,7 @@ use Rattle.dwarf_op.specs.declared.decoding.BlockMaker.TheVariants as block_make
 
 -- ---- operands
 
--- an operand of the code, as the definitions have it
+-- maps an operand in the code to one whose offset is a number
 abbrev pub operand_of : {O : Type 0} → (O → ℕ) → Operand O → Operand ℕ
 operand_of number operand = record {
   byte = operand.byte;

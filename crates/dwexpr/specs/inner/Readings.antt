@@ -23,7 +23,7 @@ texts_of words =
     words.command.now ∷ words.address_size.now ∷ words.offset_size.now ∷ words.version.now ∷ words.order.now
     ∷ words.bytes.now ∷ []
 
--- what an invocation of the code asks for, as the definitions have it
+-- maps an invocation in the code to the definitions
 abbrev pub asked_by : {A : Type 0} → Invocation A → spec.Invocation
 asked_by x = record { command = x.command; context = x.context; bytes = x.bytes.items }
 

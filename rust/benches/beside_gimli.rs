@@ -1,10 +1,11 @@
-//! Times this crate beside gimli, in rounds by turns, after it has compared what both answer.
+//! Compares the results of this crate and of gimli, and then times both in alternating rounds.
 //!
 //!     DWEXPR_LISTS=shapes.tsv:mix.tsv cargo bench --features arrayvec,gimli
 //!
-//! A line of a list is an expression, with tabs between: the size of an address, that of an offset (4 or 8), the version
-//! of DWARF, the byte order (`le` or `be`) and the bytes in hexadecimal digits. Further columns are ignored, and so are
-//! lines that begin with `#`. Without a list the rows of the repository's tests are taken. `cargo test` compares alone.
+//! Each line of a list is an expression. Its columns, with tabs between, are the size of an address, the size of an
+//! offset (4 or 8), the version of DWARF, the byte order (`le` or `be`) and the bytes in hexadecimal digits. Further
+//! columns are ignored, and so are lines that begin with `#`. Without a list it takes the rows of the repository's
+//! tests. `cargo test` only compares.
 
 use std::fmt::{self, Debug, Write};
 use std::hint::black_box;
@@ -13,7 +14,7 @@ use std::sync::Arc;
 use std::{env, fs, path, slice, str};
 
 const ROUNDS: usize = 9;
-// What evaluations are given, also by c/bench/calls.c.
+// The maximum number of operations, as in c/bench/calls.c.
 const MOST_OPERATIONS: u32 = 100_000;
 const CONTENT: u64 = 0x1234;
 const ADDRESS: u64 = 0x7000;
@@ -40,7 +41,7 @@ impl Case {
         Case { reading, shared: bytes.as_slice().into(), bytes }
     }
 
-    /// That of a line, or of the words of a row.
+    /// The case in the columns of a line, or in the words of a row.
     fn of<'a>(mut columns: impl Iterator<Item = &'a str>) -> Option<Case> {
         let mut number = |most: u8| columns.next()?.parse().ok().filter(|it| (1..=most).contains(it));
         let (address_size, offset_size, version) = (number(8)?, number(8)?, number(5)?);
@@ -51,7 +52,7 @@ impl Case {
         Some(Case::new(reading, pairs.map(byte).collect::<Option<_>>()?))
     }
 
-    /// In gimli's reader of bytes that several readers share.
+    /// The bytes in gimli's reference-counted reader.
     fn shared(&self) -> gimli::EndianArcSlice<gimli::RunTimeEndian> {
         gimli::EndianArcSlice::new(self.shared.clone(), self.order())
     }
@@ -61,7 +62,7 @@ impl Case {
     }
 }
 
-/// How many operations or requests there were, and a checksum of what `Debug` writes of them.
+/// The number of operations or requests, and a checksum of their `Debug` output.
 #[derive(Default)]
 struct Answers {
     count: u64,
@@ -90,7 +91,7 @@ impl Write for Answers {
     }
 }
 
-/// Does each case so often before the next: the sum of what `one` gives.
+/// Calls `one` this many times for each case, and returns the sum of its results.
 #[inline(always)]
 pub fn all<'a>(cases: &'a [Case], times: u32, mut one: impl FnMut(&'a Case) -> u64) -> u64 {
     let mut total = 0u64;
@@ -102,7 +103,7 @@ pub fn all<'a>(cases: &'a [Case], times: u32, mut one: impl FnMut(&'a Case) -> u
     total
 }
 
-/// The works by one of both crates, which have the same names. `$reader` makes a reader of one of gimli's.
+/// The workloads for one crate; names are the same in both crates. `$reader` converts one of gimli's readers.
 macro_rules! works {
     ($side:ident: $layer:ident, $reader:expr) => {
         #[allow(dead_code)] // c/bench takes `pieces`
@@ -146,7 +147,7 @@ macro_rules! works {
                         break;
                     };
                     answers.add::<SUMS>(&operation);
-                    // It is built in memory: else only its parts that are looked at would be.
+                    // Without this only the fields that are read would be built.
                     black_box(&operation);
                     answers.count += 1;
                 }
@@ -169,7 +170,7 @@ macro_rules! works {
                 evaluate::<_, _, SUMS>(&mut evaluation, || text_of(case, &[])).total()
             }
 
-            /// The pieces are taken out.
+            /// Takes the pieces out.
             pub fn by_result<const SUMS: bool>(cases: &[Case], times: u32) -> u64 {
                 all(cases, times, by_result_one::<SUMS>)
             }
@@ -201,7 +202,7 @@ macro_rules! works {
                 evaluate::<_, _, SUMS>(&mut evaluation, nothing).total()
             }
 
-            /// One and the number of pieces, or 0 if an evaluation isn't complete.
+            /// 1 plus the number of pieces, or 0 if an evaluation isn't complete.
             pub fn pieces(cases: &[Case], times: u32) -> u64 {
                 all(cases, times, |case| {
                     let mut evaluation = Evaluation::new(text_of(case, &case.bytes), encoding_of(case));
@@ -210,7 +211,7 @@ macro_rules! works {
                 })
             }
 
-            /// Answers each request, and a call by no bytes.
+            /// Evaluates, and answers each request. The answer to a call has no bytes.
             #[inline(always)]
             pub(super) fn evaluate<R: Reader + Debug, S: EvaluationStorage<R>, const SUMS: bool>(
                 evaluation: &mut Evaluation<R, S>,
@@ -255,7 +256,7 @@ macro_rules! works {
 works!(theirs: gimli, std::convert::identity);
 works!(ours: dwexpr, dwexpr::GimliReader);
 
-/// By one evaluation for all, which gimli doesn't have.
+/// Restarts one evaluation for all cases. gimli has no such call.
 fn restarted<const SUMS: bool>(cases: &[Case], times: u32) -> u64 {
     let Some(first) = cases.first() else { return 0 };
     let mut evaluation = dwexpr::Evaluation::new(ours::text_of(first, &[]), ours::encoding_of(first));
@@ -265,10 +266,10 @@ fn restarted<const SUMS: bool>(cases: &[Case], times: u32) -> u64 {
     })
 }
 
-/// Does each case so often before the next. The number depends on all that was done, and so no part is left out.
+/// Runs each case this many times. The number depends on all of the work, so the compiler can leave none of it out.
 pub type Work = fn(&[Case], u32) -> u64;
 
-/// A row of the table: gimli's work and the other one.
+/// A row of the table: the workload in gimli and in the other crate.
 pub struct Row {
     pub name: &'static str,
     pub timed: [Work; 2],
@@ -326,9 +327,9 @@ fn listed(path: path::PathBuf) -> List {
     (path.file_stem().unwrap_or_default().to_string_lossy().into(), cases.collect())
 }
 
-/// Short expressions, the same in every run: one in four of any bytes, else three literals and mostly operations on the
-/// stack. Two things in which gimli differs don't occur: a shift by a generic value with bits above an address, and a
-/// last operation that asks for something after a piece.
+/// Short expressions, the same in every run. A quarter of them are random bytes; the others are three literals and then
+/// mostly operations on the stack. Two cases in which gimli differs don't occur: a shift by a generic value with bits
+/// above the address size, and a request by the last operation after a piece.
 fn made_up(count: usize) -> List {
     // Xorshift (Marsaglia 2003).
     let mut state = 88_172_645_463_325_252u64;
@@ -380,7 +381,7 @@ fn main() -> ExitCode {
     }
 }
 
-/// Compares what both answer, and then prints times if they are asked for.
+/// Compares the results, and then prints times if they are asked for.
 pub fn measure(side: &str, rows: &[Row], is_timed: bool) -> ExitCode {
     let lists = lists();
     if !compare(rows, &lists) {
@@ -392,7 +393,7 @@ pub fn measure(side: &str, rows: &[Row], is_timed: bool) -> ExitCode {
     ExitCode::SUCCESS
 }
 
-/// Each expression is done twice, since what is left of the first time may change the second.
+/// Runs each expression twice, since the first run may leave something that changes the second.
 fn compare(rows: &[Row], lists: &[List]) -> bool {
     let (mut passed, mut failed) = (0, 0);
     for (list, cases) in lists {
@@ -431,7 +432,7 @@ fn print_times(side: &str, rows: &[Row], lists: &[List]) {
 
 /// The median of the ratios to gimli's time, and the least of gimli's times for an operation or an expression.
 fn time(works: [Work; 2], cases: &[Case], times: u32, items: u64) -> String {
-    // Short rounds, most of which aren't interrupted.
+    // Rounds are short, so that most of them aren't interrupted.
     let passes = (200_000 / items).max(1);
     let mut least = f64::MAX;
     let mut ratios = [0; ROUNDS].map(|_| {
@@ -454,7 +455,7 @@ unsafe extern "C" {
     fn clock_gettime(clock: i32, time: &mut [std::ffi::c_long; 2]) -> i32;
 }
 
-/// The nanoseconds that processors have spent on this process so far: what else runs isn't counted.
+/// The processor time of this process so far, in nanoseconds. Other processes don't count.
 #[cfg(target_os = "linux")]
 fn processor_time() -> f64 {
     let mut time = [0; 2];

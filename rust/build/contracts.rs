@@ -17,7 +17,7 @@ const CONTRACTS: &[(&str, bool)] = &[
 /// The name of a public function, and one of its preconditions.
 pub type Precondition = (String, String);
 
-/// Whether a sign can stand in a word.
+/// Whether a character can be in a word.
 pub fn is_in_word(sign: char) -> bool {
     sign == '_' || sign.is_alphanumeric()
 }

@@ -12,12 +12,12 @@ const CRATES: &[(&str, &str)] = &[
     ("dwarf_op", "op"),
     ("dwarf_eval", "eval"),
 ];
-// These are written by hand: the lists of the first two take an allocator, and gimli's traits have more than the
-// third's.
+// For these the crate has code written by hand: the lists of the first two take an allocator, and gimli's traits have
+// more than those of the third.
 const BY_HAND: &[&str] =
     &["dwarf_eval/src/store/heap.rt", "dwarf_eval/src/eval/heap.rt", "dwarf_eval/src/store/storage.rt"];
-// The functions of laws do nothing. Only a list on the heap gives its pieces away. The names of opcodes are the
-// standard's.
+// Why lints are allowed: the functions that state laws aren't called, only a list on the heap hands out its pieces, and
+// opcodes have the standard's names.
 const ALLOWED: &str = "#![allow(dead_code, unused_imports, non_upper_case_globals)]
 #![allow(clippy::derivable_impls, clippy::module_inception, clippy::redundant_pattern_matching)]
 #![allow(clippy::should_implement_trait, clippy::upper_case_acronyms)]";

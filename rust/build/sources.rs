@@ -1,4 +1,4 @@
-//! The proved sources on their way into a package: their contracts are put in comments, rows applied, and paths rooted.
+//! Makes the sources of a package from the proved ones: puts contracts in comments, applies rows, and roots paths.
 
 use crate::contracts::{Precondition, commented, is_in_word};
 use std::collections::BTreeSet;
@@ -48,7 +48,7 @@ pub fn read(path: &Path) -> String {
     text.replace("\r\n", "\n")
 }
 
-/// The files with an extension in a folder and the folders in it, in order. An editor's, such as `.#lib.rt`, are none.
+/// The files with an extension in a folder and its subfolders, in order, without an editor's such as `.#lib.rt`.
 pub fn files_in(folder: &Path, extension: &str) -> Vec<PathBuf> {
     println!("cargo::rerun-if-changed={}", folder.display());
     let entries = fs::read_dir(folder).unwrap_or_else(|error| panic!("{}: {error}", folder.display()));

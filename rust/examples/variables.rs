@@ -7,7 +7,7 @@
 //! for memory, that request is printed.
 
 use dwexpr::{DieReference, Error, Evaluation, EvaluationResult, GimliReader, Location, Piece, ValueType};
-// `EndianArcSlice` and `EndianRcSlice` do as well.
+// `EndianArcSlice` and `EndianRcSlice` would do as well.
 use gimli::EndianSlice as Bytes;
 use gimli::{
     AttributeValue, DebuggingInformationEntry, DwAt, EntriesTreeNode, LittleEndian, Reader, ReaderOffset, Section,
@@ -110,7 +110,7 @@ impl<R: Reader> Unit<'_, R> {
         bytes
     }
 
-    /// Prints the variables of an entry and of those below it.
+    /// Prints the variables of an entry and of the entries below it.
     fn print(&self, node: EntriesTreeNode<R>, frame_base: Option<&R>) -> gimli::Result<()> {
         let entry = node.entry();
         let own_frame_base = attribute(entry, gimli::DW_AT_frame_base);

@@ -1,4 +1,4 @@
-//! The calls of an evaluation that have a precondition. Each checks it, and then makes the call of the sources.
+//! The calls of an evaluation that have a precondition. Each checks it, and then makes the sources' call.
 
 use crate::sources::eval::eval::{Evaluation, Status, WaitingKind};
 use crate::sources::eval::store::List as _;
@@ -6,7 +6,7 @@ use crate::storage::{ArrayLike, EvaluationStorage};
 use crate::{Encoding, Error, EvaluationResult, Format, Piece, Reader, Result, Value, ValueType};
 use core::fmt;
 
-/// Whether the calls of the sources accept an encoding. If not, they are given `PLACEHOLDER` instead.
+/// Whether the sources' calls accept an encoding. If not, they get `PLACEHOLDER` instead.
 #[inline]
 fn is_taken(encoding: Encoding) -> bool {
     matches!(encoding.address_size, 1..=8)
@@ -70,7 +70,7 @@ impl<R: Reader, S: EvaluationStorage<R>> Evaluation<R, S> {
         evaluation
     }
 
-    /// Makes the evaluation fail with `UnsupportedAddressSize`, as the calls of the sources don't accept the encoding.
+    /// Makes the evaluation fail with `UnsupportedAddressSize`, since the sources' calls don't accept the encoding.
     #[cold]
     #[inline(never)]
     fn refuse(&mut self, encoding: Encoding) {
@@ -126,16 +126,16 @@ impl<R: Reader, S: EvaluationStorage<R>> Evaluation<R, S> {
     /// # Errors
     ///
     /// - Those of [`Operation::parse`](crate::Operation::parse), if the next operation is malformed.
-    /// - `UnsupportedTypeOperation`, `TypeMismatch`, `DivisionByZero` and `InvalidShiftExpression`, as the calls of
-    ///   [`Value`] give them.
+    /// - Those of the methods of [`Value`] that it calls: `UnsupportedTypeOperation`, `TypeMismatch`, `DivisionByZero`,
+    ///   `InvalidShiftExpression`.
     /// - `NotEnoughStackItems`, if the stack has too few values; also at the end, if there is neither a value nor a
     ///   location or piece.
     /// - `InvalidDerefSize`, if a dereference is wider than an address.
     /// - `InvalidPushObjectAddress`, if no object address is set.
     /// - `UnsupportedEvaluation`, at an operation that can only be decoded.
     /// - `BadBranchTarget`, if a branch leaves its expression.
-    /// - `TooManyIterations`, if one more operation is left after the maximum.
-    /// - `InvalidPiece`, if a value or a location that is no piece is left after pieces at the end.
+    /// - `TooManyIterations`, if another operation follows after the maximum number of them.
+    /// - `InvalidPiece`, if the last operation after pieces gives a value or a location that belongs to no piece.
     /// - `InvalidExpressionTerminator`, if an operation other than a piece follows a location.
     /// - `StackFull`, if a list is full or memory is refused.
     /// - `UnsupportedAddressSize`, if the encoding's addresses have 0 bytes or more than 8.

@@ -45,7 +45,7 @@ impl<R: Reader> Evaluation<R> {
     pub fn result(self) -> Vec<Piece<R>> {
         self.assert_complete("result");
         match copy_of_only(self.as_result_unchecked()) {
-            // `vec!` would take 0.05 of gimli's time more.
+            // `vec!` would take 5% of gimli's time longer.
             #[allow(clippy::vec_init_then_push)]
             Some(piece) => {
                 let mut list = Vec::with_capacity(1);
@@ -73,8 +73,8 @@ impl<R: Reader> Evaluation<R> {
     }
 }
 
-/// A copy of the only piece, if it has no reader. The fields are copied one by one, and the evaluation isn't moved,
-/// which saves 0.2 of gimli's time for libc and libm.
+/// A copy of the only piece, if it has no reader. It copies field by field and doesn't move the evaluation; otherwise
+/// libc and libm take 20% of gimli's time longer.
 #[inline(always)]
 fn copy_of_only<R: Reader>(pieces: &[Piece<R>]) -> Option<Piece<R>> {
     let [Piece { size_in_bits, bit_offset, location }] = pieces else { return None };

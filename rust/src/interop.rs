@@ -7,7 +7,7 @@ use crate::{
 use core::fmt;
 use core::ops::Deref;
 
-/// A reader of gimli's. It reads addresses and offsets by gimli's calls, so a reader that relocates them does so here.
+/// A reader of gimli's. It reads addresses and offsets by gimli's calls, so a relocating reader relocates here too.
 ///
 /// [`Error`] has no name for errors that don't come from the bytes, such as `gimli::Error::Io` from a relocation. Such
 /// an error becomes `UnexpectedEof` with the place where the read begins. A reader with such errors can keep the last
@@ -42,12 +42,12 @@ impl<R> Deref for GimliReader<R> {
     }
 }
 
-/// An offset of one of gimli's readers. It makes each of gimli's offsets one of this crate's. `From` converts a
-/// [`UnitOffset`] of it to a `gimli::UnitOffset`, and so on.
+/// An offset of one of gimli's readers, as an offset of this crate. `From` converts a [`UnitOffset`] of it to a
+/// `gimli::UnitOffset`, and so on.
 #[derive(Clone, Copy, PartialEq, Eq, PartialOrd, Ord, Hash)]
 pub struct GimliOffset<T>(pub T);
 
-/// These types are shown as what is in them.
+/// `Debug` for types that are shown as gimli's value in them.
 macro_rules! shown_as_gimlis {
     ($($type:ident)+) => {
         $(
@@ -111,7 +111,7 @@ impl<T: gimli::ReaderOffset> ReaderOffset for GimliOffset<T> {
 }
 
 impl<R: gimli::Reader> GimliReader<R> {
-    /// Takes something from the front. An error that has no name here becomes `UnexpectedEof` with the place where the
+    /// Reads by one of gimli's calls. An error that has no name here becomes `UnexpectedEof` with the place where the
     /// bytes begin.
     #[inline(always)]
     fn take<T>(&mut self, read: impl FnOnce(&mut R) -> gimli::Result<T>) -> Result<T> {
@@ -149,7 +149,7 @@ impl<R: gimli::Reader> Reader for GimliReader<R> {
 
     #[inline]
     fn offset_from(&self, base: &Self) -> Self::Offset {
-        // By the lengths, since an empty reader may be at any place.
+        // It comes from the lengths, since an empty reader of gimli's may be at any place.
         GimliOffset(base.0.len() - self.0.len())
     }
 
@@ -198,7 +198,7 @@ macro_rules! convert {
     };
 }
 
-/// Conversions both ways between types of the same name. Their values are written alike, except for the crate's name.
+/// Conversions both ways between types of the same name, whose values are written alike.
 macro_rules! both_ways {
     ($($type:ident { $($ours:pat => $theirs:expr, $there:pat => $here:expr;)+ })+) => {
         $(

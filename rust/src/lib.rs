@@ -107,7 +107,7 @@ pub const NativeEndian: LittleEndian = LittleEndian;
 #[allow(non_upper_case_globals)]
 pub const NativeEndian: BigEndian = BigEndian;
 
-// Offsets are `usize` too, and an offset takes any number of 32 bits.
+// `usize` is a type of offsets, and an offset has to hold each number of 32 bits.
 const _: () = assert!(usize::BITS >= 32, "a machine's word has to have 32 bits or more");
 
 #[cfg(all(doctest, feature = "alloc"))]

@@ -1,4 +1,4 @@
-//! The orders, hashes and small calls that gimli's plain types have besides those of the sources.
+//! The orders, hashes and small methods that gimli's plain types have and the sources' types don't.
 
 use crate::{
     BigEndian, DebugInfoOffset, DwAte, DwOp, Encoding, Endianity, Format, LittleEndian, Register, RunTimeEndian,
@@ -63,9 +63,9 @@ impl Format {
     }
 }
 
-/// What each byte order has besides the sources' trait.
+/// A method that byte orders have in gimli, and not in the sources.
 pub trait LittleOrBig: Copy {
-    /// Whether the first byte of a number is its lowest.
+    /// Whether the least significant byte of a number comes first.
     fn is_little_endian(self) -> bool;
 }
 
@@ -80,7 +80,7 @@ macro_rules! is_little_endian {
     ($($type:ident,)+) => {
         $(
             impl $type {
-                /// Whether the first byte of a number is its lowest.
+                /// Whether the least significant byte of a number comes first.
                 #[inline]
                 pub fn is_little_endian(self) -> bool {
                     !self.is_big_endian()

@@ -22,7 +22,7 @@ impl<'input, Endian: Endianity> EndianSlice<'input, Endian> {
         self.slice().iter().position(|it| *it == byte)
     }
 
-    /// The offset of these bytes in `base`, of which they are a part.
+    /// The offset of these bytes in `base`. They have to be a part of it.
     ///
     /// # Panics
     ///
@@ -135,11 +135,11 @@ impl<R: Reader> OperationIter<R> {
     ///
     /// # Panics
     ///
-    /// If `expression` is shorter than the bytes that are left, and so isn't the iterator's.
+    /// If `expression` is shorter than the iterator's remaining bytes, and so isn't the iterator's.
     #[inline]
     #[track_caller]
     pub fn offset_from(&self, expression: &Expression<R>) -> R::Offset {
-        // With too short an expression this wraps or panics.
+        // If the expression is too short, this wraps or panics.
         let offset = self.offset_from_unchecked(expression);
         assert!(offset.into_u64() <= expression.0.len().into_u64(), "these are the operations of another expression");
         offset

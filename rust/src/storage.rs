@@ -1,4 +1,4 @@
-//! Where an evaluation keeps its lists: gimli's traits, each with the list of the sources that it stands for.
+//! Where an evaluation keeps its lists: gimli's traits, and the sources' lists behind them.
 
 use crate::sources::eval::store::{List, SliceVec};
 use crate::{Piece, Reader, Value};
@@ -92,7 +92,7 @@ pub trait EvaluationStorage<R: Reader> {
     /// The values on the stack.
     type Stack: ArrayLike<Item = Value>;
 
-    /// The callers of the running expression, each as the bytes that are left of it and all of its bytes.
+    /// The callers of the running expression. Each is a pair: its remaining bytes, and all of its bytes.
     type ExpressionStack: ArrayLike<Item = (R, R)>;
 
     /// The pieces.
@@ -109,10 +109,10 @@ impl<'a, R: Reader + 'a> EvaluationStorage<R> for StoreInSlices<'a> {
     type Result = SliceVec<'a, Piece<R>>;
 }
 
-/// The list in which an evaluation of the sources keeps its values or its callers.
+/// The sources' list in which an evaluation keeps its values or its callers.
 pub(crate) type ListOf<A> = <A as ArrayLike>::List;
 
-/// The list in which it keeps its pieces.
+/// The sources' list in which an evaluation keeps its pieces.
 pub(crate) type PiecesOf<A> = <A as ArrayLike>::Pieces;
 
 impl<T: Clone + fmt::Debug> fmt::Debug for SliceVec<'_, T> {

@@ -1,4 +1,4 @@
-//! The calls on values that take an address mask. Each checks the mask, and then makes the call of the sources.
+//! The calls on values that take an address mask. Each checks the mask, and then makes the sources' call.
 
 use crate::{Result, Value, ValueType, is_addr_mask};
 
@@ -9,7 +9,7 @@ fn refuse(addr_mask: u64) -> ! {
     panic!("{addr_mask:#x} isn't the mask of an address: two to a width from 1 to 64, less one")
 }
 
-/// Calls of a type, each with the name of the call in the sources.
+/// Methods of a type, each with its name in the sources.
 macro_rules! checked {
     ($type:ident: $($(#[$doc:meta])+ $name:ident = $unchecked:ident($($argument:ident: $of:ty)?) -> $result:ty;)+) => {
         impl $type {
@@ -39,7 +39,7 @@ checked! { ValueType:
 }
 
 checked! { Value:
-    /// The value as 64 bits. A signed value is sign-extended; a generic value is cut to an address. It never fails.
+    /// The value as 64 bits. A signed value is sign-extended; a generic one is cut to the address size. It never fails.
     to_u64 = to_u64_unchecked() -> Result<u64>;
     /// The value converted to a type (`DW_OP_convert`). It never fails.
     convert = convert_unchecked(value_type: ValueType) -> Result<Value>;
@@ -57,11 +57,11 @@ checked! { Value:
     sub = sub_unchecked(rhs: Value) -> Result<Value>;
     /// The product, wrapped (`DW_OP_mul`). `TypeMismatch` if the types differ.
     mul = mul_unchecked(rhs: Value) -> Result<Value>;
-    /// The quotient, rounded towards zero; generic values count as signed (`DW_OP_div`). `DivisionByZero`, or else
-    /// `TypeMismatch` if the types differ.
+    /// The quotient, rounded towards zero; generic values count as signed (`DW_OP_div`). `DivisionByZero` if `rhs` is
+    /// zero, else `TypeMismatch` if the types differ.
     div = div_unchecked(rhs: Value) -> Result<Value>;
-    /// The remainder; generic values count as unsigned (`DW_OP_mod`). `DivisionByZero`, or else `TypeMismatch` if the
-    /// types differ.
+    /// The remainder; generic values count as unsigned (`DW_OP_mod`). `DivisionByZero` if `rhs` is zero, else
+    /// `TypeMismatch` if the types differ.
     rem = rem_unchecked(rhs: Value) -> Result<Value>;
     /// The bitwise and (`DW_OP_and`). `TypeMismatch` if the types differ.
     and = and_unchecked(rhs: Value) -> Result<Value>;

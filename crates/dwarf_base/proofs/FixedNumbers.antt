@@ -1,4 +1,4 @@
--- Numbers of 2, 4 and 8 bytes: what std makes of an array is what the places say.
+-- Numbers of 2, 4 and 8 bytes: std's conversions of arrays agree with `number_of`.
 use Rattle.std.proofs.Common.{◌≡◌, ℕ, Bool, true, false, List, [], ◌∷◌, length, slice_index_or, Ok, Err, arith, refl, ◌∙◌, if◌then◌else◌}
 use Rattle.std.proofs.lemmas.Bool.Decides.{nat_tests}
 use Rattle.std.specs.Int.{Width, w16, w32, w64, from_le_bytes, from_be_bytes}
@@ -35,7 +35,7 @@ fixed_first big bytes front rest number h e = fixed_taken big 1 bytes front rest
 
 -- ---- more bytes than one
 
--- what std makes of an array, the highest byte first or the lowest
+-- std's conversions of an array, the most or the least significant byte first
 abbrev pub from_bytes : (big : Bool) → Width → List ℕ → ℕ
 from_bytes big w bytes = if big then from_be_bytes w bytes else from_le_bytes w bytes
 

@@ -1,4 +1,4 @@
--- Reads by their fronts: how they follow one another, and which reads keep to them.
+-- Reads that depend only on the prefix that they take: each read does, and so do two reads one after another.
 use Rattle.std.proofs.Common.{◌≡◌, ℕ, ◌*◌, ◌≤◌, ◌<◌, Bool, true, false, cond, List, [], ◌∷◌, ◌++◌, length, length-append, append_assoc, take, drop, Result, Ok, Err, inl, inr, arith, refl, ap, sym, ◌∙◌, subst}
 use Rattle.std.proofs.lemmas.Bool.{cases_lt}
 use Rattle.std.proofs.lemmas.List.{length-take-le, take-append-drop}
@@ -11,12 +11,12 @@ use Rattle.dwarf_base.specs.Numbers.{number_of, signed_of, offset_of}
 use Rattle.dwarf_base.specs.Reads.{u8_at, split_at, fixed_at, signed_at, address_at, format_at, offset_size, is_fixed_size}
 use Rattle.dwarf_base.proofs.Suffixes.{ok_pair, split_short, split_long}
 
--- an answer that goes through two steps went through the first
+-- if two steps give a value, so does the first
 through : {A B : Type 0} (r : Result A Fault) (next : A → Result B Fault) (b : B) → r >>= next ≡ Ok b → (a : A) × (r ≡ Ok a) × (next a ≡ Ok b)
 through (Ok a) next b h = (a, refl, h)
 through (Err fault) next b h = absurd cc
 
--- where a list that is cut short ends, of two that are joined
+-- two joined lists that are cut short end in the first list or in the second
 data Cut (shorter first second : List ℕ) (byte : ℕ) (lost : List ℕ) : Type 0 where
   in_first : (next : ℕ) (more : List ℕ) → shorter ++ (next ∷ more) ≡ first → Cut shorter first second byte lost
   in_second : (beyond : List ℕ) → shorter ≡ first ++ beyond → beyond ++ (byte ∷ lost) ≡ second → Cut shorter first second byte lost
@@ -32,7 +32,7 @@ where_cut (y ∷ shorter) (x ∷ first) second byte lost h =
       | in_second beyond front whole ↦ in_second beyond (rw (head, front) refl) whole
     ]
 
--- one front and then another, by what the first spells
+-- one prefix and then another, which is read by the value of the first
 pub takes_then : {A B : Type 0} (read : List ℕ → Result (A × List ℕ) Fault) (next : A → List ℕ → Result (B × List ℕ) Fault) (first second : List ℕ) (a : A) (b : B)
     → TakesFront read first a → TakesFront (next a) second b → TakesFront (λ bytes. read bytes >>= λ x. next x.0 x.1) (first ++ second) b
 takes_then read next first second a b one two = record {
@@ -43,7 +43,7 @@ takes_then read next first second a b one two = record {
   ];
 }
 
--- one read, and then another by what the first gave
+-- one read and then another, which depends on the value of the first
 pub fronts_then : {A B : Type 0} (read : List ℕ → Result (A × List ℕ) Fault) (next : A → List ℕ → Result (B × List ℕ) Fault)
     → ReadsFronts read → ((a : A) → ReadsFronts (next a)) → ReadsFronts (λ bytes. read bytes >>= λ x. next x.0 x.1)
 fronts_then {A} {B} read next reads nexts = record {
@@ -62,7 +62,7 @@ not_empty : (shorter : List ℕ) (byte : ℕ) (lost : List ℕ) → shorter ++ (
 not_empty [] byte lost e = cc
 not_empty (x ∷ shorter) byte lost e = cc
 
--- what reads nothing
+-- a read of no bytes
 pub takes_none : {A : Type 0} (value : A) → TakesFront (λ bytes. Ok (value, bytes)) [] value
 takes_none value = record { whatever_follows = λ more. refl; cut_off = λ shorter byte lost e. absurd (not_empty shorter byte lost e) }
 

@@ -1,4 +1,4 @@
--- A LEB128 number is read exactly if a front of the bytes spells it.
+-- A LEB128 number is read exactly if a prefix of the bytes spells it.
 use Rattle.std.proofs.Common.{◌≡◌, ℕ, ◌+◌, ◌*◌, ◌%◌, ◌^◌, ◌<◌, ◌≤◌, true, false, cond, List, [], ◌∷◌, ◌++◌, length, length-append, Ok, Err, arith, refl, ap, sym, ◌∙◌, zero-add, inl, inr}
 use Rattle.std.proofs.lemmas.Bool.{cases_lt, cases_eq, cases_Bool}
 use Rattle.std.proofs.lemmas.Bool.Decides.{nat_tests}

@@ -23,7 +23,7 @@ seven_bits (suc place) = rw (mul-suc 7 place, pow-add 2 (7 * place) 7, pow-suc 1
 nine_places : (place : ℕ) → place ≤ 9 → 128 ^ place ≤ 2 ^ 63
 nine_places place most = let power : 128 ^ place ≤ 128 ^ 9 = pow-le-pow_right (omega arith) most in power
 
--- seven bits, shifted to their place, lose nothing
+-- seven bits shifted to their place lose nothing
 shifted : (low place : ℕ) → low < 128 → place < 9 → low * 2 ^ (7 * place) % 2 ^ 64 ≡ low * 128 ^ place
 shifted low place small most = shl_whole low 7 (7 * place) 64 small (omega arith) ∙ ap (λ weight. low * weight) (seven_bits place)
 
@@ -39,7 +39,7 @@ whole_is : (place : ℕ) → place < 9 → 128 * 2 ^ (7 * place) % 2 ^ 64 ≡ 12
 whole_is place most =
     shl_whole 128 8 (7 * place) 64 (omega arith) (omega arith) ∙ (ap (λ weight. 128 * weight) (seven_bits place) ∙ omega (arith, next_place place))
 
--- the sum is less than what the sign takes off it, by no more than an `i64` has
+-- the sum is at most 128 ^ count, and at least 2 ^ 62 less
 pub below_whole : (place sum low : ℕ) → sum < 128 ^ place → low < 128 → place < 9
     → sum + low * 2 ^ (7 * place) % 2 ^ 64 ≤ 128 * 2 ^ (7 * place) % 2 ^ 64
 below_whole place sum low below small most =

@@ -1,4 +1,4 @@
--- What is left of some bytes, and what is taken from their front.
+-- Suffixes of bytes, and the prefixes that are taken before them.
 use Rattle.std.proofs.Common.{ℕ, ◌≡◌, ◌+◌, ◌-◌, List, [], length, drop, arith, ap, ◌∙◌, sym, ◌≤◌, ◌<◌, take, Result, Ok, Err, inl, inr}
 use Rattle.std.proofs.lemmas.List.{drop_all, length-take-le}
 use Rattle.std.proofs.Math.Seq.{drop-drop}

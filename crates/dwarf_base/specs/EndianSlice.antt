@@ -13,7 +13,7 @@ slice_bytes reader = reader.slice.now
 abbrev pub slice_order : {E : Type 0} → EndianSlice E → E
 slice_order reader = reader.endian
 
--- its text; `is_big` says whether a byte order is the big one
+-- its text; `is_big` tells whether a byte order is big-endian
 abbrev pub text_of : {E : Type 0} → (is_big : E → Bool) → EndianSlice E → Text
 text_of is_big reader = record { bytes = slice_bytes reader; is_big = is_big (slice_order reader) }
 

@@ -20,12 +20,12 @@ abbrev pub fault_of : Error → Fault
 fault_of (UnexpectedEof id) = past_the_end
 fault_of error = error
 
--- a call returns the wanted value, seen through `view`, or the wanted fault
+-- a call returns the expected value, seen through `view`, or the expected fault
 abbrev pub Returns : {X Y : Type 0} → (X → Y) → Result X Error → Result Y Fault → Type 0
 Returns view (Ok x) wanted = wanted ≡ Ok (view x)
 Returns view (Err e) wanted = wanted ≡ Err (fault_of e)
 
--- the next step, given the value of a result; a fault is passed on
+-- passes the value of a result to the next step; a fault is passed on
 infixl 10 ◌>>=◌
 abbrev pub ◌>>=◌ : {A B : Type 0} → Result A Fault → (A → Result B Fault) → Result B Fault
 (Ok x) >>= next = next x

@@ -10,14 +10,14 @@ pub record Begins {A : Type 0} (Spells : List ℕ → A → Type 0) (bytes : Lis
   pub whole : front ++ rest ≡ bytes
   pub spells : Spells front value
 
--- a read gives a value exactly if a prefix spells it, and a fault exactly if the bytes are malformed with it
+-- a read gives a value exactly if a prefix spells it, and a fault exactly if the bytes are malformed by it
 pub record ReadsExactly {A : Type 0} (Spells : List ℕ → A → Type 0) (Malformed : List ℕ → Fault → Type 0)
     (read : List ℕ → Result (A × List ℕ) Fault) : Type 0 where
   pub ok : (bytes : List ℕ) (value : A) (rest : List ℕ) → (read bytes ≡ Ok (value, rest))
       ↔ Begins Spells bytes value rest
   pub err : (bytes : List ℕ) (fault : Fault) → (read bytes ≡ Err fault) ↔ Malformed bytes fault
 
--- the read takes this prefix and gives the value, whatever follows; each shorter prefix is past the end
+-- the read takes this prefix and gives the value, whatever follows; on a shorter prefix it goes past the end
 pub record TakesFront {A : Type 0} (read : List ℕ → Result (A × List ℕ) Fault) (front : List ℕ)
     (value : A) : Type 0 where
   pub whatever_follows : (more : List ℕ) → read (front ++ more) ≡ Ok (value, more)
@@ -34,12 +34,12 @@ pub record SpellsBlock (n : ℕ) (bytes block : List ℕ) : Type 0 where
   pub length_is : length bytes ≡ n
   pub block_is : block ≡ bytes
 
--- n bytes spell a number by their places in the byte order
+-- n bytes spell the number that they make in the byte order
 pub record SpellsFixed (big : Bool) (n : ℕ) (bytes : List ℕ) (value : ℕ) : Type 0 where
   pub length_is : length bytes ≡ n
   pub value_is : value ≡ number_of big bytes
 
--- fewer than n bytes are cut off
+-- fewer than n bytes are malformed: a read goes past the end
 pub record MalformedBlock (n : ℕ) (bytes : List ℕ) (fault : Fault) : Type 0 where
   pub shorter : length bytes < n
   pub fault_is : fault ≡ past_the_end

@@ -1,11 +1,11 @@
--- LEB128 numbers (DWARF 5, section 7.6): seven bits a byte, the lowest first; each byte but the last has the high bit.
--- A number has at most ten bytes and 64 bits, and may be padded.
+-- LEB128 numbers (DWARF 5, section 7.6): seven bits per byte, the least significant first. The high bit is set in every
+-- byte except the last. A number has at most ten bytes and 64 bits, and may be padded.
 use Rattle.std.specs.Prelude.{ℕ, ◌+◌, ◌*◌, ◌%◌, ◌^◌, ◌≤◌, ◌<◌, Bool, true, false, List, [], ◌∷◌, ◌++◌, Result, Ok, Err, length, nat_lt, ◌==◌, ◌||◌, if◌then◌else◌, ℤ, pos, ◌-ℤ◌, ◌≡◌, ◌⊎◌}
 use Rattle.dwarf_base.specs.Faults.{Fault, past_the_end, ◌>>=◌}
 use Rattle.dwarf_base.specs.declared.errors.Error.TheVariants.{BadUnsignedLeb128, BadSignedLeb128}
 
--- the differences between unsigned and signed numbers: the tenth bytes that keep to 64 bits, the fault for any other
--- tenth byte, and the number, made from the sum of the low bits, the count of the bytes and the last byte
+-- how unsigned and signed numbers differ: which tenth bytes are allowed, the fault for any other tenth byte, and the
+-- number, by the sum of the low bits, the number of bytes and the last byte
 pub record LebForm (A : Type 0) : Type 0 where
   pub allows_tenth : ℕ → Bool
   pub fault : Fault
@@ -15,7 +15,7 @@ pub record LebForm (A : Type 0) : Type 0 where
 abbrev pub unsigned_leb : LebForm ℕ
 unsigned_leb = record { allows_tenth = λ byte. nat_lt byte 2; fault = BadUnsignedLeb128; number = λ sum n last. sum }
 
--- the bit 0x40 of the last byte is the sign's
+-- the sign is bit 0x40 of the last byte
 abbrev pub sign_extension : (sum count last : ℕ) → ℤ
 sign_extension sum count last = if nat_lt last 64 then pos sum else pos sum -ℤ pos (128 ^ count)
 
@@ -26,12 +26,12 @@ signed_leb =
 
 -- ---- which bytes spell a number
 
--- the low seven bits of each byte, times 128 to its place; `place` bytes come before
+-- the sum of the low seven bits of each byte times 128 ^ its place; `place` bytes come before
 abbrev pub low_sum : (place : ℕ) → List ℕ → ℕ
 low_sum place [] = 0
 low_sum place (byte ∷ bytes) = byte % 128 * 128 ^ place + low_sum (place + 1) bytes
 
--- each byte but the last has the high bit, and the last hasn't
+-- the high bit is set in every byte except the last
 abbrev pub IsEnded : List ℕ → Type 0
 IsEnded [] = ⊥
 IsEnded (byte ∷ []) = byte < 128
@@ -52,17 +52,17 @@ pub record SpellsLeb {A : Type 0} (form : LebForm A) (bytes : List ℕ) (value :
 
 -- ---- which bytes are malformed
 
--- each byte has the high bit
+-- the high bit is set in every byte
 abbrev pub GoesOn : List ℕ → Type 0
 GoesOn [] = Unit {0}
 GoesOn (byte ∷ bytes) = (128 ≤ byte) × GoesOn bytes
 
--- they end before a last byte, and there are at most nine
+-- at most nine bytes, and the number's last byte isn't among them
 pub record IsCutOff (bytes : List ℕ) : Type 0 where
   pub goes_on : GoesOn bytes
   pub at_most_nine : length bytes ≤ 9
 
--- nine bytes that go on, and a tenth with which the number exceeds 64 bits
+-- nine bytes that go on, and then a tenth byte that isn't allowed
 pub record IsTooLong {A : Type 0} (form : LebForm A) (bytes : List ℕ) : Type 0 where
   pub nine : List ℕ
   pub tenth : ℕ

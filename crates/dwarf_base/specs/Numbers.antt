@@ -20,11 +20,11 @@ register_of number = if nat_lt number 65536 then Ok number else Err (Unsupported
 abbrev pub signed_of : (bits number : ℕ) → ℤ
 signed_of bits number = if nat_lt number (2 ^ (bits - 1)) then pos number else pos number -ℤ pos (2 ^ bits)
 
--- the number that some bytes make, the lowest first
+-- the number that bytes make, the least significant first
 abbrev pub little_of : List ℕ → ℕ
 little_of [] = 0
 little_of (byte ∷ bytes) = byte + 256 * little_of bytes
 
--- the number that some bytes make in a byte order; `big` says that the highest is first (DWARF 5, section 7)
+-- the number that bytes make in a byte order; `big` says that the most significant comes first (DWARF 5, section 7)
 abbrev pub number_of : (big : Bool) → List ℕ → ℕ
 number_of big bytes = little_of (if big then reverse bytes else bytes)

@@ -55,7 +55,7 @@ fixed_at big n bytes = split_at n bytes >>= λ front. Ok (number_of big front.0,
 abbrev pub signed_at : (big : Bool) (n : ℕ) → List ℕ → Result (ℤ × List ℕ) Fault
 signed_at big n bytes = fixed_at big n bytes >>= λ number. Ok (signed_of (8 * n) number.0, number.1)
 
--- the sizes in bytes that a number of fixed size may have
+-- whether a number of fixed size may have this many bytes
 abbrev pub is_fixed_size : ℕ → Bool
 is_fixed_size n = n == 1 || n == 2 || n == 4 || n == 8
 

@@ -1,4 +1,4 @@
-//! The order of the bytes of a number.
+//! Byte orders.
 
 ghost use Rattle.std.specs.Prelude.{◌≡◌, Bool, true, false};
 ghost use Rattle.dwarf_base.specs.ByteOrder.{is_big_of};
@@ -7,25 +7,25 @@ ghost use Rattle.dwarf_base.specs.ByteOrder.{is_big_of};
 pub trait Endianity: Copy {
     ghost is_big: { Self → Bool };
 
-    /// Whether the first byte of a number is its highest.
+    /// Whether the most significant byte of a number comes first.
     fn is_big_endian(self) -> bool
         ensures { result ≡ is_big self };
 }
 
-/// The lowest byte of a number comes first.
+/// The least significant byte of a number comes first.
 #[derive(Clone, Copy, Debug, Default, PartialEq, Eq, Hash)]
 pub struct LittleEndian;
 
-/// The highest byte of a number comes first.
+/// The most significant byte of a number comes first.
 #[derive(Clone, Copy, Debug, Default, PartialEq, Eq, Hash)]
 pub struct BigEndian;
 
 /// A byte order that is known when the program runs.
 #[derive(Clone, Copy, Debug, PartialEq, Eq, Hash)]
 pub enum RunTimeEndian {
-    /// The lowest byte of a number comes first.
+    /// The least significant byte of a number comes first.
     Little,
-    /// The highest byte of a number comes first.
+    /// The most significant byte of a number comes first.
     Big,
 }
 

@@ -14,7 +14,7 @@ pub enum Format {
     Dwarf64,
 }
 
-/// The parameters of a unit that its expressions are read with (DWARF 5, section 7.5.1).
+/// How a unit encodes its expressions: the size of addresses, the format and the version (DWARF 5, section 7.5.1).
 #[derive(Clone, Copy, Debug, PartialEq, Eq)]
 pub struct Encoding {
     /// The size of an address, in bytes.

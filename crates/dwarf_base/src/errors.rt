@@ -6,24 +6,24 @@ use crate::constants::DwOp;
 pub enum Error {
     /// A read goes past the end. The value of the identifier is unspecified.
     UnexpectedEof(ReaderOffsetId),
-    /// The tenth byte of an unsigned LEB128 number is neither `00` nor `01`, or the number has more bits than are
-    /// wanted. Padding is no fault: nine bytes `80` and a `00` are zero.
+    /// The tenth byte of an unsigned LEB128 number is neither `00` nor `01`, or an index of 32 bits is too large.
+    /// Padding is no fault: nine bytes `80` and a `00` are zero.
     BadUnsignedLeb128,
     /// The tenth byte of a signed LEB128 number is neither `00` nor `7f`.
     BadSignedLeb128,
-    /// The size of an address is none of 1, 2, 4 and 8 bytes.
+    /// The size of an address isn't 1, 2, 4 or 8 bytes.
     UnsupportedAddressSize(u8),
     /// A number doesn't fit the reader's offsets.
     UnsupportedOffset,
     /// A register's number is above 65535.
     UnsupportedRegister(u64),
-    /// An opcode is unknown, or the kind after `DW_OP_WASM_location` is.
+    /// An opcode is unknown, or the kind that follows the opcode `DW_OP_WASM_location`.
     InvalidExpression(DwOp),
-    /// The size of a `DW_OP_piece`, here in bytes, doesn't fit in 64 bits when it is counted in bits.
+    /// The size of a `DW_OP_piece`, given here in bytes, doesn't fit in 64 bits once it is converted to bits.
     InvalidPieceSize(u64),
-    /// The operation isn't defined at the value's type.
+    /// The operation isn't defined for the value's type.
     UnsupportedTypeOperation,
-    /// Two values have different types, or different sizes if only the sizes have to be equal.
+    /// Two values have different types, or a value is reinterpreted as a type of another size.
     TypeMismatch,
     /// The divisor is zero.
     DivisionByZero,
@@ -31,7 +31,7 @@ pub enum Error {
     InvalidShiftExpression,
     /// An operation takes more values than the stack holds.
     NotEnoughStackItems,
-    /// A dereference of this many bytes is wider than an address.
+    /// A dereference reads this many bytes, more than an address has.
     InvalidDerefSize(u8),
     /// `DW_OP_push_object_address` is evaluated and no object address is set.
     InvalidPushObjectAddress,
@@ -39,11 +39,11 @@ pub enum Error {
     UnsupportedEvaluation,
     /// A branch leads to this place, past the end of its expression.
     BadBranchTarget(u64),
-    /// The maximum of operations is reached.
+    /// The maximum number of operations is reached.
     TooManyIterations,
-    /// An expression has pieces, and also a value or a location that is no piece.
+    /// An expression has pieces, and also a value or a location that belongs to no piece.
     InvalidPiece,
-    /// After a location comes an operation other than a piece; its last byte is at this place.
+    /// An operation other than a piece follows a location; its last byte is at this place.
     InvalidExpressionTerminator(u64),
     /// One of the lists of the evaluation couldn't take one more item.
     StackFull,

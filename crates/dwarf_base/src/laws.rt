@@ -1,4 +1,4 @@
-//! Laws of what `Reader`'s contracts say of reads, of equality, and of the constants.
+//! Laws of reads, of equality and of the constants.
 ghost use Rattle.std.specs.Prelude.{ℕ, Bool};
 ghost use Rattle.dwarf_base.specs.declared.common.Format.{Format};
 ghost use Rattle.dwarf_base.specs.Equality.{IsEquality, IsEqualityBy, IsSliceEquality};

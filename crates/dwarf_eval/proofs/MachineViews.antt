@@ -1,4 +1,4 @@
--- How the machine's lists and sorts are seen: the last item is the top of the stack, or the innermost caller.
+-- How contracts see the machine's lists and enums: a list's last item is the top of the stack, or the innermost caller.
 use Rattle.std.proofs.Common.{◌≡◌, Option, Some, None, List, [], ◌∷◌, ◌++◌, reverse, sym, ap, ◌∙◌, length, map, false, refl}
 use Rattle.std.specs.Prelude.{option_to_list, IfNone}
 use Rattle.std.proofs.lemmas.List.{reverse-append, append-nil, map-append, length-reverse, length-map}

@@ -57,7 +57,7 @@ module _ (a : Act) (f : Store → Result Store Fault) (old : State) (is : (s : S
         stays = h.stays;
       })
 
--- f of what is kept, once its values and the sort of the last operation are these
+-- f of the store with these values and this kind of last operation
 abbrev pub from : (values : List Value) → Last → (Store → Result Store Fault) → Store → Result Store Fault
 from values last f s = f (record s { values = values; last = last })
 

@@ -15,7 +15,7 @@ use Rattle.dwarf_meaning.specs.Inputs.{with_status}
 use Rattle.dwarf_eval.specs.inner.StateChanges.{StoreSteps, MayGive, Refused, before_push, before_pushes}
 use Rattle.dwarf_eval.proofs.Staying.{stays_status}
 
--- how many pushes on lists without a limit a push is
+-- 1 if a push is on a list without a limit
 abbrev cost : Option ℕ → ℕ
 cost None = 1
 cost (Some limit) = 0
@@ -29,7 +29,7 @@ room_before : (limit : Option ℕ) (n : ℕ) (r : Refusal) → HasRoom limit n �
 room_before None n r h = after_before_push r
 room_before (Some limit) n r h = cond-true (nat_lt n limit) (Ok r) (Err StackFull) (grind (arith, nat_tests))
 
--- the refusal under which a list at its limit, or without one, refuses now
+-- the refusal with which a list refuses now: it is at its limit, or has none
 abbrev refuser : Option ℕ → Refusal
 refuser None = After 0 0
 refuser (Some limit) = Never

@@ -29,7 +29,7 @@ stays_more n m a b c h i =
       items = omega (arith, h.items, i.items);
     }
 
--- Before this step values were popped, the sort of the last operation was noted, and a status was entered.
+-- Before this step values were popped, the kind of the last operation was set, and so was a status.
 pub stays_from : (n m : ℕ) (rest : List Value) (last : Last) (status : Status) (old new : State) → length rest + n ≤ length old.store.values + m → Stays n (with_status status (with_last last (with_values rest old))) new → Stays m old new
 stays_from n m rest last status old new fits h =
     record {

@@ -1,4 +1,4 @@
--- The reply of a call of an evaluation, by the meaning, and the rest of the evaluation.
+-- What a call of an evaluation replies, by the meaning of the expression, and where the evaluation then stands.
 pub use Rattle.dwarf_meaning.specs.Inputs.{fresh_state, input_of, Keeps, with_status, with_object, with_maximum}
 use Rattle.std.specs.Prelude.{ℕ, ◌≡◌, List, [], Option, Some, None, Result, Ok, Err}
 use Rattle.std.specs.Option.{option_map_or}
@@ -52,8 +52,8 @@ IsReplied replied (CompleteStatus value) = replied ≡ CompleteReply
 IsReplied replied (FaultStatus error) = replied ≡ FaultReply (fault_of error)
 IsReplied replied _ = ⊥
 
--- With some refusal, or none, a call gave the reply of `totals` and its count of operations. The setup and the settings
--- stay. If no fault was met, the total of the new state is what `totals` gives, for all further inputs.
+-- For some refusal or none, a call gave the reply of `totals` and its count of operations. The setup and the settings
+-- stay. If no fault was met, the new state has the total that `totals` gives, for all further inputs.
 pub record Follows (old : State) (totals : Refusal → List Input → Total) (replied : Reply) (new : State) : Type 0 where
   pub refusal : Refusal
   pub may : MayPick old.setup.limits refusal
@@ -66,8 +66,8 @@ pub record Follows (old : State) (totals : Refusal → List Input → Total) (re
   pub spends : Spends 0 old new
 
 module _ {R O P : Type 0} (text : R → Text) (number : O → ℕ) where
-  -- `evaluate`: at the start it replies the meaning. After the end it replies the same again, and changes nothing. It
-  -- isn't called while a request is open, and nothing runs between calls.
+  -- `evaluate`: at the start its reply is that of the meaning. After the end it replies the same again, and changes
+  -- nothing. It isn't called while a request is open, and nothing runs between calls.
   abbrev pub Evaluates : State → State → Result (EvaluationResult R O P) Error → Status → Type 0
   Evaluates old new replied (Start initial_value) = Follows old (total old) (reply_of text number replied) new
   Evaluates old new replied (CompleteStatus value) = (replied ≡ Ok result.Complete) × (new ≡ old)

@@ -15,18 +15,19 @@ use Rattle.dwarf_eval.specs.declared.op.expressions.OperationIter.{OperationIter
 abbrev pub unread_of : {R P : Type 0} → OperationIter R P → R
 unread_of iterator = iterator.input
 
--- the encoding by which it reads
+-- its encoding
 abbrev pub encoding_of : {R P : Type 0} → OperationIter R P → Encoding
 encoding_of iterator = iterator.encoding
 
--- the operation that is read, and the bytes after it; at the end no operation; after a fault no bytes
+-- it returns the operation that is read, and leaves the bytes after it; at the end there is no operation, and after a
+-- fault no bytes are left
 abbrev pub GivesNext : {X : Type 0} → (X → meaning.Operation) → Result (Option X) Error → (left bytes : List ℕ)
     → Result (meaning.Operation × List ℕ) Fault → Type 0
 GivesNext view (Ok None) left bytes read = (bytes ≡ []) × (left ≡ [])
 GivesNext view (Ok (Some x)) left bytes read = read ≡ Ok (view x, left)
 GivesNext view (Err e) left bytes read = (bytes ≢ []) × (read ≡ Err (fault_of e)) × (left ≡ [])
 
--- the first of the items, and the items after it
+-- it returns the first of the items, and leaves the items after it
 abbrev pub GivesItem : {X : Type 0} → (X → meaning.Operation) → Result (Option X) Error
     → (left items : List (Result meaning.Operation Fault)) → Type 0
 GivesItem view (Ok None) left items = (items ≡ []) × (left ≡ [])
@@ -38,7 +39,7 @@ abbrev pub item_of : {X : Type 0} → (X → meaning.Operation) → Result X Err
 item_of view (Ok x) = Ok (view x)
 item_of view (Err e) = Err (fault_of e)
 
--- the items that are left: the splitting of the bytes that are left
+-- the items that are left: those into which the bytes that are left split
 abbrev pub items_left : {R P : Type 0} → (R → Text) → (offset_bits : ℕ) → OperationIter R P
     → List (Result meaning.Operation Fault)
 items_left text offset_bits iterator = items_at (encoding_of iterator) offset_bits (text (unread_of iterator))

@@ -27,7 +27,7 @@ IsOpenFor kind (RequestStatus request on_answer) = kind_of_request request ≡ k
 IsOpenFor kind (FaultStatus error) = Unit {0}
 IsOpenFor kind _ = ⊥
 
--- what the start permits: without an initial value, to set one; with one, to evaluate
+-- the precondition of the call that comes next at the start: setting an initial value, or `evaluate` after that
 abbrev pub IsStart : (initial : Bool) → rest.Status → Type 0
 IsStart true s = IsClosed s
 IsStart false s = s ≡ Start None

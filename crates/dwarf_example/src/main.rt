@@ -1,4 +1,4 @@
-//! Expressions evaluated on the heap and over lent slices, in three loops that a user may write.
+//! Evaluates expressions on the heap and over lent slices, in three loops such as users write.
 #![tactic(auto)]
 
 ghost use Rattle.dwarf_expr.specs.Evaluation.{IsClosed};
@@ -32,18 +32,18 @@ const ENCODING: Encoding = Encoding {
     version: 4,
 };
 
-/// A process that stands still, in one function.
+/// A stopped process, in one function.
 #[derive(Clone, Copy)]
 struct Stopped<'a> {
     registers: [u64; 2],
     frame_base: u64,
     cfa: u64,
-    /// The location of every entry that is called.
+    /// The expression of every called entry.
     called: Bytes<'a>,
 }
 
 impl<'a> Process<Bytes<'a>> for Stopped<'a> {
-    /// Each byte of memory is 7. An address space holds its own number.
+    /// In memory each byte is 7. In an address space each value is the space's number.
     fn memory(&self, _address: u64, size: u8, space: Option<u64>) -> Result<Value> {
         match (space, size) {
             (Some(number), _) => Ok(Value::Generic(number)),
@@ -101,7 +101,7 @@ impl<'a> Process<Bytes<'a>> for Stopped<'a> {
     }
 }
 
-/// Prints what a debugger's loop makes of an evaluation.
+/// Prints the result of an evaluation that a debugger's loop completes.
 fn show_complete<'a, S: EvaluationStorage<Bytes<'a>>>(
     rt: &HostRuntime,
     lists: &str,
@@ -120,14 +120,14 @@ fn show_complete<'a, S: EvaluationStorage<Bytes<'a>>>(
     }
 }
 
-/// Prints what it makes of the bytes, on the heap.
+/// Prints the result for one expression, on the heap.
 fn show_on_heap<'a>(rt: &HostRuntime, bytes: Bytes<'a>, process: &Stopped<'a>) -> io::Result<()> {
     let mut evaluation = Evaluation::new(rt.alloc(), bytes, ENCODING);
     show_complete(rt, "heap", &mut evaluation, process)
 }
 
-/// Prints what it makes of each expression, by a new evaluation over slices that all of them use. None takes memory,
-/// and none sets a list to zero.
+/// Prints the result for each expression, from a new evaluation over the same slices. None of these evaluations
+/// allocates, or sets a list to zero.
 fn show_lent<'a>(
     rt: &HostRuntime,
     expressions: &[&'a [u8]],
@@ -150,7 +150,7 @@ fn show_lent<'a>(
     Ok(())
 }
 
-/// Prints what it makes of each expression. One evaluation serves for all of them, so only the first few take memory.
+/// Prints the result for each expression. One evaluation is restarted for all of them, so only the first few allocate.
 fn show_restarted<'a>(
     rt: &HostRuntime,
     expressions: &[&'a [u8]],
@@ -166,7 +166,7 @@ fn show_restarted<'a>(
     Ok(())
 }
 
-/// Prints what registers alone make of the bytes, with at most `step` operations more for each.
+/// Prints whether registers alone complete the expression, with at most `step` more operations after each.
 fn show_registers<'a>(
     rt: &HostRuntime,
     bytes: Bytes<'a>,
@@ -180,7 +180,7 @@ fn show_registers<'a>(
     }
 }
 
-/// Prints how often the bytes ask.
+/// Prints how many requests the expression makes.
 fn show_requests(rt: &HostRuntime, bytes: Bytes<'_>) -> io::Result<()> {
     let mut evaluation = Evaluation::new(rt.alloc(), bytes, ENCODING);
     let nothing = EndianSlice::new(&[], RunTimeEndian::Little);
@@ -190,7 +190,7 @@ fn show_requests(rt: &HostRuntime, bytes: Bytes<'_>) -> io::Result<()> {
     }
 }
 
-/// Prints what each call gives if all answers are known before the first.
+/// Prints the result of each call of a replay, for which all answers are known in advance.
 fn show_replayed<'a>(
     rt: &HostRuntime,
     bytes: Bytes<'a>,

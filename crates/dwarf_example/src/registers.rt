@@ -1,4 +1,4 @@
-//! An evaluation that answers only requests for registers, and raises its maximum of operations at each.
+//! A loop that answers only requests for registers, and raises the maximum number of operations at each.
 
 ghost use Rattle.std.specs.Prelude.{◌≡◌, IfOk, true};
 ghost use Rattle.dwarf_expr.specs.Evaluation.{IsClosed, IsComplete};
@@ -9,7 +9,7 @@ use dwarf_expr::op::EvaluationResult;
 use dwarf_expr::store::EvaluationStorage;
 use dwarf_expr::value::Value;
 
-/// Evaluates with the values of registers, and at most `step` more operations for each of them. `false` if the
+/// Evaluates with the values of registers, and at most `step` more operations after each of them. `false` if the
 /// expression asks for anything else; that request stays open.
 pub fn complete_with_registers<R: Reader + Copy + PartialEq, S: EvaluationStorage<R>>(
     evaluation: &mut Evaluation<R, S>,

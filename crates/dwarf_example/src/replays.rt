@@ -1,4 +1,4 @@
-//! A replay that ends, whatever the expression.
+//! A replay that ends for every expression.
 
 ghost use Rattle.std.specs.Prelude.{◌≡◌, [], None};
 ghost use Rattle.dwarf_expr.specs.Evaluation.{with_maximum};

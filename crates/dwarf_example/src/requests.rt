@@ -1,4 +1,4 @@
-//! Two evaluations that answer every request: a debugger's loop, and a loop over the evaluation's status.
+//! Two loops that answer every request: a debugger's, and one that asks for the evaluation's status.
 
 ghost use Rattle.std.specs.Prelude.{◌≢◌, ◌<◌, IfOk, OnOk};
 ghost use Rattle.dwarf_expr.specs.Bounds.{calls_left};
@@ -20,7 +20,7 @@ pub trait Process<R: Reader> {
     /// The contents of a register.
     fn register(&self, register: Register, base_type: UnitOffset<R::Offset>) -> Result<Value>;
 
-    /// A local, a global or a value on the stack of a WebAssembly machine.
+    /// A WebAssembly local, global or operand stack item.
     fn wasm_value(&self, index: u32) -> Result<Value>;
 
     /// The value of the function's `DW_AT_frame_base`.
@@ -38,16 +38,16 @@ pub trait Process<R: Reader> {
     /// The value that the expression had when the function was entered.
     fn entry_value(&self, expression: Expression<R>) -> Result<Value>;
 
-    /// The value of a parameter, as its call site says.
+    /// The value of a parameter, as the call site gives it.
     fn parameter(&self, entry: UnitOffset<R::Offset>) -> Result<u64>;
 
-    /// The address at which an address of the file was loaded.
+    /// An address of the file, relocated to where the file is loaded.
     fn relocated(&self, address: u64) -> Result<u64>;
 
-    /// The entry of `.debug_addr` with this index.
+    /// The address or constant at this index of `.debug_addr`.
     fn indexed_address(&self, index: DebugAddrIndex<R::Offset>, relocate: bool) -> Result<u64>;
 
-    /// The type that an entry describes.
+    /// The type that a base type's entry describes.
     fn base_type(&self, entry: UnitOffset<R::Offset>) -> Result<ValueType>;
 }
 

@@ -26,7 +26,7 @@ use Rattle.dwarf_laws.proofs.Evaluations.{two_runs}
 use Rattle.dwarf_replay.specs.Replays.{log_at, IsInRequest, IsInFault, StandsAt}
 use Rattle.dwarf_expr.specs.Twins.{AreTwins, MayReplay, AreComparableReplays, open_texts, StatesStandAlike, unstarted, in_request, in_fault, in_completion, IsFront, DoesAllWith, FindsMisplaced, FindsNoRoom, ReplayAlike, TwoReplays}
 
--- ---- fronts of lists
+-- ---- prefixes of lists
 
 pub take_both : {A : Type 0} {R : A → A → Type 0} (n : ℕ) {xs ys : List A} → Pairwise R xs ys → Pairwise R (take n xs) (take n ys)
 take_both zero h = none

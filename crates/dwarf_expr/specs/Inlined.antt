@@ -1,4 +1,4 @@
--- Two evaluations: of a text with a call, and of the text with the called bytes in place of the call (DWARF 5, section
+-- Evaluations of two texts: one with a call, and one with the called bytes in place of the call (DWARF 5, section
 -- 2.5.1.5).
 use Rattle.std.specs.Prelude.{◌≡◌, ◌≢◌, List, ◌∷◌, ◌++◌, Option, Some}
 use Rattle.dwarf_base.specs.declared.errors.Error.{Error}
@@ -14,8 +14,8 @@ use Rattle.dwarf_laws.specs.TwoRuns.{NoneIsFull}
 use Rattle.dwarf_laws.specs.Inlining.{CallSite, outer_text, callee_text, inlined_text, in_force, StandsIn, IsInlinable, LeadsToCall}
 use Rattle.dwarf_replay.specs.Replays.{log_at, DoesAll}
 
--- Two evaluations without limits, of the outer text and of the inlined one, with the same settings. The steps in
--- `start` lead the first one to the call. Since its last answer, or its start, no setting was changed.
+-- Two evaluations without limits, of the outer text and of the inlined text, with the same settings. The steps in
+-- `start` lead the first one to the call. No setting was changed since its last answer, or since its start.
 pub record MayInline (x y : State) (site : CallSite) (offset : DieReference) (start : List Step) : Type 0 where
   pub unlimited : x.setup.limits ≡ no_limits
   pub setups : x.setup ≡ y.setup
@@ -39,8 +39,8 @@ pub data StatesEndAlike (x y : State) : Type 0 where
   in_completion : (value : Option Value) → x.status ≡ CompleteStatus value → y.status ≡ CompleteStatus value
       → x.store.pieces ≡ y.store.pieces → StatesEndAlike x y
 
--- The replay of the outer text does all steps, without a fault, and that of the inlined text all but the call's answer.
--- No push was refused.
+-- If the replay of the outer text does all steps without a fault, the replay of the inlined text does all except the
+-- call's answer, and no push was refused, both evaluations end alike.
 abbrev pub InlinedReplay : Type 0
 InlinedReplay =
     (x y new other : State) (site : CallSite) (offset : DieReference) (start rest : List Step)

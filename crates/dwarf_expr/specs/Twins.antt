@@ -1,5 +1,5 @@
--- Two evaluations of one text, each replayed by its own steps: bits above an address change nothing that matters
--- (DWARF 5, section 2.5.1).
+-- Two evaluations of one text, each replayed by its own steps: bits above the address size change no request, fault,
+-- branch or address (DWARF 5, section 2.5.1).
 use Rattle.std.specs.Prelude.{ℕ, ◌<◌, ◌≤◌, ◌≡◌, ◌⊎◌, List, [], ◌∷◌, ◌++◌, Option}
 use Rattle.std.specs.List.{AllZip}
 use Rattle.dwarf_base.specs.declared.errors.Error.{Error}
@@ -34,7 +34,7 @@ pub record MayReplay (x y : State) (steps others : List Step) : Type 0 where
   pub twins : AreTwins x y
   pub agreeing : AllZip (AgreeingSteps (address_bits x.setup)) steps others
 
--- the limits are the same, and so is the refusal if a list has no limit; or no push was refused
+-- either the limits are the same, and the refusal too if a list has no limit; or no push was refused
 abbrev pub AreComparableReplays : (x y : State) → (refusal another : Refusal) → (replies given : List Reply) → Type 0
 AreComparableReplays x y refusal another replies given =
     ((x.setup.limits ≡ y.setup.limits) × (HasFreeList x.setup.limits → refusal ≡ another))
@@ -72,15 +72,15 @@ abbrev pub FindsMisplaced : (index : ℕ) → Refusal → State → List Step �
 FindsMisplaced index refusal old steps replies new =
     (stops_at : StopsAt index old steps replies new) × (stops_at.does_all.refusal ≡ refusal)
 
--- with this refusal, the steps up to this one were done, and its reply, the last of these, had no room
+-- with this refusal, the steps up to this one were done; its reply is the last of these, and had no room
 abbrev pub FindsNoRoom : (index : ℕ) → Refusal → State → List Step → List Reply → State → Type 0
 FindsNoRoom index refusal old steps replies new =
     (before : List Reply) × (last : Reply) × (limit : Option ℕ)
     × (overflows_at : OverflowsAt index last limit old steps before new)
     × (overflows_at.does_all.refusal ≡ refusal) × (replies ≡ before ++ last ∷ [])
 
--- What two replays have in common, by how each ended: the replies are the same as far as both go, and both evaluations
--- stand alike.
+-- What two replays have in common, by how each ended: the replies are the same as long as both go on, and both
+-- evaluations stand alike.
 pub record ReplayAlike (x y new other : State) (steps others : List Step) (refusal another : Refusal)
     (replies given : List Reply) : Type 0 where
   -- all steps were done on both sides: the replies are the same
@@ -94,8 +94,8 @@ pub record ReplayAlike (x y new other : State) (steps others : List Step) (refus
   pub not_alone : (index : ℕ)
       → (FindsMisplaced index refusal x steps replies new → DoesAllWith another y others given other → ⊥)
       × (DoesAllWith refusal x steps replies new → FindsMisplaced index another y others given other → ⊥)
-  -- All steps were done on the first side, and a reply had no room on the second: the replies of the second side, with
-  -- that one, are a prefix of those of the first.
+  -- All steps were done on the first side, and a reply had no room on the second: the replies of the second side,
+  -- including that reply, are a prefix of the first side's.
   pub no_room : (second : ℕ) → DoesAllWith refusal x steps replies new → FindsNoRoom second another y others given other
       → IsFront given replies
   -- The same if a later step on the first side wasn't allowed.
@@ -105,7 +105,7 @@ pub record ReplayAlike (x y new other : State) (steps others : List Step) (refus
   pub no_room_twice : (index second : ℕ) → FindsNoRoom index refusal x steps replies new
       → FindsNoRoom second another y others given other → second ≤ index → IsFront given replies
 
--- The replays of twins are alike if they are comparable, each with its refusal.
+-- Comparable replays of twins are alike. Each replay has its own refusal.
 abbrev pub TwoReplays : Type 0
 TwoReplays =
     (x y new other : State) (steps others : List Step) (refusal another : Refusal) (replies given : List Reply)

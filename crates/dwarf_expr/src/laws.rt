@@ -25,11 +25,11 @@ pub use dwarf_laws::{
 pub use dwarf_meaning::{decode_laws, run_laws, worked_rows};
 pub use dwarf_value::value_laws;
 
-/// Bits above an address change nothing that matters in two evaluations that were replayed.
+/// Bits above the address size change no request, fault, branch or address in a replay.
 ///
-/// It does nothing. Its contract states the law, over what `replay` guarantees for each of them, whichever way it
-/// ended; and that fresh evaluations of one text, such as those of `twin_rows`, meet the premises. The last clause is a
-/// worked row: two evaluations without limits meet the same refusal, at the push of the answer.
+/// It does nothing. Its contract states the law for two evaluations, from what `replay` guarantees for each, whichever
+/// way the replays end. It also states that fresh evaluations of one text, such as those of `twin_rows`, meet the
+/// premises. The last clause is a worked row: in two evaluations without limits the push of the answer is refused.
 pub fn two_replays()
     ensures alike { TwoReplays }
     ensures met { (text : Text) (steps others : List Step)
@@ -41,10 +41,10 @@ pub fn two_replays()
         (RequestReply RequiresCallFrameCfa ∷ FaultReply StackFull ∷ []) }
 {}
 
-/// A called text may be written in place of its call in two evaluations that were replayed.
+/// A called text may be written in place of its call in a replay.
 ///
-/// It does nothing. Its contract states the law, over what `replay` guarantees for each of them; and that fresh
-/// evaluations of the worked texts, those of `called_rows`, meet the premises.
+/// It does nothing. Its contract states the law for two evaluations, from what `replay` guarantees for each. It also
+/// states that fresh evaluations of the texts in `called_rows` meet the premises.
 pub fn inlined_replay()
     ensures ends { InlinedReplay }
     ensures met { (site : CallSite) (later : List Input) (after : List Request) (outcome : Outcome)

@@ -35,7 +35,7 @@ use Rattle.dwarf_laws.proofs.UpToCall.{call_course, call_turn, straight_beyond, 
 abbrev pub answered : CallSite → Settings → Input
 answered site settings = record { settings = settings; answer = LocationAnswer (inlining.callee_text site) }
 
--- the operations at the front, and what follows them
+-- the operations that the bytes begin with, and what follows them
 straight_both : (encoding : Encoding) (bits : ℕ) (big : Bool) (bytes : List ℕ) (ops : List Operation)
     → Joined (context_of encoding bits big) bytes ops → (rest : List ℕ)
     → AllStraight (items_at encoding bits (record { bytes = bytes ++ rest; is_big = big }))

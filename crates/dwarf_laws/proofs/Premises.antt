@@ -74,7 +74,7 @@ values_agree : (w : ℕ) (o o' : Option Value) → Both (Agree w) o o' → Value
 values_agree w o o' nothing = tt
 values_agree w o o' (something a) = a
 
--- the same sort of outcome; of completions, values that agree
+-- outcomes of the same kind; values of completions agree
 abbrev pub Alike : (w : ℕ) → Outcome → Outcome → Type 0
 Alike w (RequestOutcome request positions) (RequestOutcome other others) = Unit {0}
 Alike w (FaultOutcome fault) (FaultOutcome other) = fault ≡ other

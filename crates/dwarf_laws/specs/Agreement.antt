@@ -1,4 +1,4 @@
--- What agrees in two evaluations, up to the bits above an address: inputs and outcomes (DWARF 5, sections 2.5.1 and
+-- Inputs and outcomes of two evaluations agree if they differ only above the address size (DWARF 5, sections 2.5.1 and
 -- 2.6.1).
 use Rattle.std.specs.Prelude.{ℕ, ◌%◌, ◌^◌, ◌≡◌, List, Option, Some, None}
 use Rattle.std.specs.List.{AllZip}
@@ -56,7 +56,7 @@ pub record AgreeingInputs (w : ℕ) (first second : Input) : Type 0 where
   pub settings : AgreeingSettings w first.settings second.settings
   pub answer : AgreeingAnswers w first.answer second.answer
 
--- Logs with agreeing settings and answers, started on both sides or on neither.
+-- logs with agreeing settings and answers, started on both sides or on neither
 pub record AgreeingLogs (w : ℕ) (log other : Log) : Type 0 where
   pub now : AgreeingFirsts w log.now other.now
   pub first : Both (AgreeingFirsts w) log.first other.first

@@ -19,7 +19,8 @@ use Rattle.dwarf_meaning.specs.RowWords.{no_limits}
 
 -- ---- the texts
 
--- The bytes before a call, its own and those after it, and the bytes that answer it, in one byte order.
+-- A call in a text: the bytes before it, its own bytes, the bytes after it, and the bytes that answer it; all have one
+-- byte order.
 pub record CallSite : Type 0 where
   pub before : List ℕ
   pub call : List ℕ
@@ -60,7 +61,7 @@ IsStraight (Bra target) = ⊥
 IsStraight (Skip target) = ⊥
 IsStraight _ = Unit {0}
 
--- the call is one of the operations that the outer text splits into, and none of them is a branch
+-- the call is one of the operations of the outer text, and none of these is a branch
 pub record StandsIn (setup : Setup) (site : CallSite) (offset : DieReference) : Type 0 where
   pub ahead : List Operation
   pub joined : Joined (context_of setup.encoding setup.offset_bits site.is_big) site.before ahead
@@ -71,14 +72,14 @@ pub record StandsIn (setup : Setup) (site : CallSite) (offset : DieReference) : 
       (outer_text site).bytes operations fault
   pub straight : AllByRecursion IsStraight operations
 
--- The callee has bytes, and no 16-bit branch wraps in the inlined text.
+-- The callee has bytes, and the inlined text is so short that no 16-bit branch wraps in it.
 pub record IsInlinable (setup : Setup) (site : CallSite) : Type 0 where
   pub some : 0 < length site.callee
   pub bytes : AreBytes site.callee
   pub short : length (inlined_text site).bytes + 32768 < 2 ^ setup.offset_bits
 
--- The earlier inputs lead to the call: all of them are taken by then, and only the outer text is open. `requests` were
--- asked before the call.
+-- The earlier inputs lead to the call: all of them are taken, and only the outer text is open. `requests` were asked
+-- before the call.
 pub record LeadsToCall (setup : Setup) (site : CallSite) (offset : DieReference) (first : First)
     (earlier : List Input) (requests : List Request) : Type 0 where
   pub end : (course_of setup Never (outer_text site) first earlier).end
@@ -96,8 +97,8 @@ pub data EndAlike : Outcome → Outcome → Type 0 where
   requests : {request : Request} {positions others : List Position}
       → EndAlike (RequestOutcome request positions) (RequestOutcome request others)
 
--- The inlined text, without the answer to that call, ends as the outer one does, and asks the same, except for the
--- call's request.
+-- Without the call's answer, the inlined text ends as the outer text does. It asks the same, except for the call's
+-- request.
 pub record IsInlined (setup : Setup) (site : CallSite) (offset : DieReference) (first : First)
     (earlier later : List Input) (requests : List Request) : Type 0 where
   pub ends : EndAlike (meaning setup Never (outer_text site) first (with_answer site first earlier later))

@@ -43,8 +43,8 @@ abbrev pub call_site : (before beyond callee : List ℕ) → CallSite
 call_site before beyond callee =
     record { before = before; call = 0x98 ∷ 0x05 ∷ 0x00 ∷ []; beyond = beyond; callee = callee; is_big = false }
 
--- Every premise of the law holds, with nothing set. These are the outcomes of both texts, and their requests before the
--- call and after it.
+-- Every premise of the law holds for evaluations without settings. These are the outcomes of both texts, and their
+-- requests before the call and after it.
 pub record IsWorked (site : CallSite) (earlier later : List Input) (before after : List Request)
     (outcome : Outcome) : Type 0 where
   pub unlimited : dwarf4.limits ≡ no_limits
@@ -78,7 +78,7 @@ pub record EndUnlike (setup : Setup) (bytes others : List ℕ) (first : First) (
 
 -- ---- how tight the bounds are (DWARF 5, section 2.5)
 
--- an evaluation with these numbers of counted operations and of decodings, and these values, callers and pieces
+-- an evaluation with these counts of operations and of decodings, and these values, callers and pieces
 abbrev pub sample : (count decodings : ℕ) → List Value → List Position → List Piece → State
 sample count decodings values callers pieces = record {
   status = Running;

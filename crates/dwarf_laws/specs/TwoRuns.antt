@@ -1,4 +1,4 @@
--- Bits above an address change nothing that matters (DWARF 5, section 2.5.1).
+-- Bits above the address size change no request, fault, branch or address (DWARF 5, section 2.5.1).
 use Rattle.std.specs.Prelude.{◌≡◌, ◌≢◌, ◌⊎◌, ◌↔◌, List, ◌++◌, Option, option_map}
 use Rattle.std.specs.List.{AllByRecursion, AllZip}
 use Rattle.dwarf_base.specs.declared.errors.Error.TheVariants.{StackFull}
@@ -42,7 +42,7 @@ pub record AreAlike (setup other : Setup) (refusal another : Refusal) (text : Te
   pub stand : StandAlike setup other refusal another text
       (after_steps setup refusal text log steps) (after_steps other another text second others)
 
--- the limits and the refusal are the same, or no push was refused, before these steps or by them
+-- either the limits and the refusal are the same, or no push was refused until the end of these steps
 abbrev pub AreComparable : (setup other : Setup) (refusal another : Refusal) (text : Text) (log second : Log)
     (steps others : List Step) → Type 0
 AreComparable setup other refusal another text log second steps others =
@@ -50,8 +50,8 @@ AreComparable setup other refusal another text log second steps others =
     ⊎ (NoneIsFull (replies (outcome_of setup refusal text log) ++ replies_of setup refusal text log steps)
     × NoneIsFull (replies (outcome_of other another text second) ++ replies_of other another text second others))
 
--- Agreeing steps, after agreeing logs, under any limits and refusals. With `empty_log` on both sides it covers whole
--- evaluations.
+-- After agreeing logs, agreeing steps give comparable evaluations that are alike. The limits and refusals may be any.
+-- With `empty_log` on both sides the law covers whole evaluations.
 abbrev pub TwoRuns : Type 0
 TwoRuns =
     (setup : Setup) (limits : Limits) (refusal another : Refusal) (text : Text) (log second : Log)

@@ -1,4 +1,4 @@
-//! Rows that show how tight the bounds are.
+//! Worked rows that show how tight the bounds are.
 
 ghost use Rattle.std.specs.Prelude.{◌≡◌, ◌<◌, [], ◌∷◌, None, Some, length};
 ghost use Rattle.dwarf_value.specs.declared.types.Value.TheVariants.{Generic};
@@ -17,8 +17,8 @@ ghost use Rattle.dwarf_laws.specs.LawRows.{IsTight, byte_at, course_over, in_fau
 
 /// Worked rows of the bounds on lists and decodings.
 ///
-/// It does nothing. Each clause of its contract gives a state after one operation for which a bound holds, and one with
-/// a value, a caller or a decoding more or less for which it doesn't.
+/// It does nothing. Each clause of its contract gives a state after one operation for which a bound holds, and a state
+/// for which it doesn't, with one value, caller or decoding more or less.
 pub fn tight_bounds()
     ensures values { IsTight (sample 1 1 (Generic 5 ∷ []) [] [])
         (sample 1 1 (Generic 5 ∷ Generic 6 ∷ []) [] []) }
@@ -37,8 +37,8 @@ pub fn tight_bounds()
 /// Worked rows of the other bounds: on decodings at a fault and at a location, on callers and decodings alone, on
 /// calls, turns, counts and limits, on what may be refused, and on the length of an inlined text.
 ///
-/// It does nothing. Each clause of its contract gives a case for which a bound still holds, or its neighbour for which
-/// it doesn't.
+/// It does nothing. Each clause of its contract gives a case for which a bound just holds, or one for which it just
+/// doesn't.
 #[tactic(auto, unfolding(dwarf_meaning::specs::Run::most_operations))]
 pub fn bound_rows()
     ensures fault { DecodesOnce (in_fault (sample 1 2 [] [] [])) }

@@ -13,10 +13,10 @@ ghost use Rattle.dwarf_laws.specs.TwoRuns.{TwoRuns};
 pub use bounds::{bound_rows, tight_bounds};
 pub use rows::{called_rows, premises_of_high_bits, premises_of_inlining, twin_rows};
 
-/// Bits above an address change nothing that matters.
+/// Bits above the address size change no request, fault, branch or address.
 ///
-/// It does nothing. Its contract states the law, from any logs on; and that the law covers evaluations from their
-/// beginning, as empty logs agree.
+/// It does nothing. Its contract states the law for two evaluations that go on after agreeing logs. It also states that
+/// empty logs agree, so the law covers evaluations from their beginning.
 pub fn high_bits()
     ensures onwards { TwoRuns }
     ensures from_the_beginning { (bits : ℕ) → AgreeingLogs bits empty_log empty_log }

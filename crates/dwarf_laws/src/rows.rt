@@ -16,10 +16,10 @@ ghost use Rattle.dwarf_meaning.specs.Steps.{InitialValue, ObjectAddress, Request
 ghost use Rattle.dwarf_meaning.specs.RowWords.{text, no_limits, with_limits, dwarf4, at_most, unset, inputs_of, callee, open_at, word_at, value_at, pieces_only};
 ghost use Rattle.dwarf_laws.specs.LawRows.{started_steps, ComeAlike, call_site, IsWorked, Disagree, EndUnlike};
 
-/// Worked rows of `high_bits`: two runs of one text whose answers differ above the 32 bits of an address.
+/// Worked rows of `high_bits`: two runs of one text whose answers differ only above the 32 bits of an address.
 ///
-/// It does nothing. Each clause of its contract gives the limits, the bytes of the text, and the steps of both runs,
-/// which agree; then the replies to both, and the outcome of each.
+/// It does nothing. Each clause of its contract gives the limits, the bytes of the text, and the agreeing steps of both
+/// runs; then the replies, which are the same for both, and the outcome of each.
 pub fn twin_rows()
     ensures frame_address { ComeAlike dwarf4 (0x9c ∷ [])
         (started_steps (NumberAnswer kind.CallFrameCfa 0x10 ∷ []))
@@ -135,8 +135,8 @@ pub fn twin_rows()
 /// Worked rows of `inlining`: calls, and the texts that answer them.
 ///
 /// It does nothing. Each clause of its contract gives the bytes before and after a call, and the bytes that answer it;
-/// the other answers, before and after it; the requests before and after it; and the outcomes of the outer text and the
-/// inlined one. It states that every premise of the law holds.
+/// the other answers before and after the call; the requests before and after the call; and the outcomes of the outer
+/// text and of the inlined text. It states that every premise of the law holds.
 pub fn called_rows()
     ensures sum { IsWorked (call_site (0x31 ∷ []) (0x22 ∷ []) (0x32 ∷ []))
         [] []
@@ -158,10 +158,10 @@ pub fn called_rows()
         (RequiresCallFrameCfa ∷ []) (RequiresCallFrameCfa ∷ []) (value_at 5 5) }
 {}
 
-/// Why `high_bits` has its premises: the smallest two runs whose outcomes disagree if one premise doesn't hold.
+/// Why `high_bits` has its premises: for each, the smallest two runs that break it, and their outcomes, which disagree.
 ///
-/// It does nothing. Each clause of its contract gives the limits and the refusal of both runs, the bytes of the text,
-/// the settings and the answers of both, and the outcome of each.
+/// It does nothing. Each clause of its contract gives the limits and the refusal of each run, the bytes of the text,
+/// the settings and the answers of each run, and the outcome of each.
 pub fn premises_of_high_bits()
     ensures limits_differ { Disagree dwarf4 (with_limits (record no_limits { values = Some 0 }))
         Never Never (0x31 ∷ []) unset unset
@@ -202,10 +202,11 @@ pub fn premises_of_high_bits()
         (CompleteOutcome (whole_piece (AtAddress 0) ∷ []) (Some (U16 0))) }
 {}
 
-/// Why `inlining` has its premises: the smallest call whose inlined text ends differently if one premise doesn't hold.
+/// Why `inlining` has its premises: for each, the smallest call that breaks it, and whose inlined text ends
+/// differently.
 ///
-/// It does nothing. Each clause of its contract gives the limits, the bytes of the outer text and of the inlined one,
-/// the settings, the answers to each, and the outcome of each.
+/// It does nothing. Each clause of its contract gives the limits, the bytes of the outer and of the inlined text, the
+/// settings, the answers to each text, and the outcome of each.
 pub fn premises_of_inlining()
     ensures callers_have_a_limit { EndUnlike (with_limits (record no_limits { callers = Some 0 }))
         (0x98 ∷ 0x05 ∷ 0x00 ∷ []) (0x31 ∷ [])

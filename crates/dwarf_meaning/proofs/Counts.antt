@@ -43,7 +43,7 @@ unfolding push_value
 tally-push_value setup value s =
     bound_store (HasTally (tally_of s)) (push_with_room setup.limits.values (length s.values) s.refusal) (λ left. record s { values = value ∷ s.values; refusal = left }) (λ left. refl)
 
--- a piece that is pushed leaves the sort of the last operation, too
+-- pushing a piece leaves the kind of the last operation as it is, too
 pub record KeepsBoth (m : Tally) (sort : Last) (s : Store) : Type 0 where
   pub tally : tally_of s ≡ m
   pub last : s.last ≡ sort

@@ -15,7 +15,8 @@ pub record ReadsExactly {A : Type 0} (read : List ℕ → Reading A) (Spelling :
   pub refused : (bytes : List ℕ) (fault : Fault) → read bytes ≡ Err fault → Refusal bytes fault
   pub cut_off : (before : List ℕ) (byte : ℕ) (after : List ℕ) (value : A) → Spelling (before ++ (byte ∷ after)) value → read before ≡ Err past_the_end
 
--- A read that takes each spelling as a front, and refuses what is malformed; and bytes begin in one of the ways.
+-- A read that takes each spelling as a prefix, and refuses malformed bytes; all bytes begin with a spelling or are
+-- malformed.
 pub record Covers {A : Type 0} (read : List ℕ → Reading A) (S : List ℕ → A → Type 0) (Q : List ℕ → Fault → Type 0) : Type 0 where
   pub takes : (front : List ℕ) (value : A) → S front value → TakesFront read front value
   pub refuses : (bytes : List ℕ) (fault : Fault) → Q bytes fault → read bytes ≡ Err fault

@@ -28,14 +28,14 @@ pub data Act : Type 0 where
   RequestAct : (rest : List Value) (request : Request) (on_answer : OnAnswer) → Act
   FaultAct : (fault : Fault) → Act
 
--- ---- words for the tables below
+-- ---- abbreviations for the tables below
 
 -- `go` of the top of a stack and the values below it; `none` if the stack is empty
 unfoldable pub on_top : {A : Type 0} → List Value → A → (Value → List Value → A) → A
 on_top [] none go = none
 on_top (x ∷ rest) none go = go x rest
 
--- `go` of the result of a call on values; `faulted` of its error, as a fault
+-- `go` of the value that a call on values returns; `faulted` of its error, as a fault
 unfoldable pub on_result : {X A : Type 0} → Result X Error → (Fault → A) → (X → A) → A
 on_result (Ok x) faulted go = go x
 on_result (Err error) faulted go = faulted (fault_of error)
@@ -59,7 +59,7 @@ binary call values =
 
 -- ---- operations that are done at once, and those that ask
 
--- An address has `bits` bits. `object` is the address of the object that is described, if it is known.
+-- An address has `bits` bits. `object` is the address of the described object, if it is known.
 module _ (bits : ℕ) (object : Option ℕ) where
   -- what an operation does with the values on the stack
   unfoldable pub act : Operation → List Value → Act

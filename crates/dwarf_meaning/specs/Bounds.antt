@@ -1,5 +1,5 @@
--- Bounds on what an evaluation keeps and how often it decodes, by the number of operations that it counted (DWARF 5,
--- section 2.5).
+-- Bounds on how many items an evaluation keeps and how often it decodes, by the number of operations that it counted
+-- (DWARF 5, section 2.5).
 use Rattle.std.specs.Prelude.{ℕ, ◌+◌, ◌-◌, ◌*◌, ◌≤◌, ◌≡◌, Bool, true, false, ◌&&◌, IsTrue, List, [], ◌∷◌, Some, is_some, length, count_by}
 use Rattle.std.specs.List.{list_all}
 use Rattle.dwarf_meaning.specs.Locations.{Location, Empty, AtAddress, Piece}
@@ -7,7 +7,7 @@ use Rattle.dwarf_meaning.specs.Run.{most_operations}
 use Rattle.dwarf_meaning.specs.Stores.{Last, Located}
 use Rattle.dwarf_meaning.specs.Rest.{State, Status, Start, RequestStatus, CompleteStatus, FaultStatus}
 
--- the location that waits for its piece, if there is one, until the evaluation is over
+-- the location that waits for its piece, if there is one; none once the evaluation is over
 abbrev pub waiting : Last → Status → List Location
 waiting last (CompleteStatus value) = []
 waiting last (FaultStatus error) = []
@@ -24,16 +24,16 @@ abbrev pub answer_due : Status → ℕ
 answer_due (RequestStatus request on_answer) = 1
 answer_due _ = 0
 
--- how many callers there are, and one more if an answer is still to come
+-- how many callers there are, plus 1 if an answer is still to come
 abbrev pub caller_count : State → ℕ
 caller_count x = length x.callers + answer_due x.status
 
--- how many items the three lists hold together, and those that are still to come
+-- how many items the three lists have together, plus those that are still to come
 abbrev pub item_count : State → ℕ
 item_count x = caller_count x + length x.store.values + initial_due x.status
     + length x.store.pieces + length (waiting x.store.last x.status)
 
--- how often the evaluation decoded, and once more if a piece is still to come
+-- how often the evaluation decoded, plus 1 if a piece is still to come
 abbrev pub decoding_count : State → ℕ
 decoding_count x = x.decodings + length (waiting x.store.last x.status)
 
@@ -53,8 +53,7 @@ faults_in (FaultStatus error) = 1
 faults_in _ = 0
 
 -- Each counted operation was decoded once, and so was each piece that ended a location. Nothing else was decoded,
--- except an operation that stands in place of such a piece, which is a fault. A location that waits came from an
--- operation.
+-- except an operation in place of such a piece, which is a fault. If a location waits, an operation gave it.
 pub record DecodesOnce (x : State) : Type 0 where
   pub each : x.store.count + endings x.store.pieces ≤ x.decodings
   pub no_other : x.decodings ≤ x.store.count + endings x.store.pieces + faults_in x.status
@@ -76,8 +75,8 @@ pub record IsUnspent (x : State) : Type 0 where
   pub count : x.store.count ≡ 0
   pub once : DecodesOnce x
 
--- How many more resumes there may be, by the status. It falls with each request, as only counted operations ask, and at
--- the end.
+-- How many more resumes there may be, by the status. It falls at the end, and with each request, since each operation
+-- that asks is counted.
 abbrev pub calls_left_by : State → Status → ℕ
 calls_left_by x (CompleteStatus value) = 0
 calls_left_by x (FaultStatus error) = 0

@@ -1,4 +1,4 @@
--- The kinds of answers that requests wait for (DWARF 5, sections 2.5.1 and 2.6.1).
+-- The kind of answer that each request waits for (DWARF 5, sections 2.5.1 and 2.6.1).
 use Rattle.std.specs.Prelude.{Bool}
 use denote.Enum.Bare.{sameb}
 use Rattle.dwarf_meaning.specs.Requests as requests
@@ -7,7 +7,7 @@ use Rattle.dwarf_meaning.specs.declared.kinds.WaitingKind.{WaitingKind}
 use Rattle.dwarf_meaning.specs.contracts.kinds.WaitingKind.{the_type}
 use Rattle.dwarf_meaning.specs.declared.kinds.WaitingKind.TheVariants.{Memory, Register, WasmValue, EntryValue, FrameBase, Tls, CallFrameCfa, ParameterRef, RelocatedAddress, IndexedAddress, AtLocation, BaseType}
 
--- the kind of answer that a request wants
+-- the kind of answer that a request waits for
 abbrev pub kind_of_request : Request → WaitingKind
 kind_of_request (requests.RequiresMemory address size space base_type) = Memory
 kind_of_request (requests.RequiresRegister register base_type) = Register
@@ -31,6 +31,6 @@ kind_of_answer (NumberAnswer kind number) = kind
 kind_of_answer (LocationAnswer text) = AtLocation
 kind_of_answer (BaseTypeAnswer value_type) = BaseType
 
--- whether two kinds are the same, as `==` tells
+-- whether two kinds are equal by `==`
 unfoldable pub is_same_kind : WaitingKind → WaitingKind → Bool
 is_same_kind = sameb the_type

@@ -64,7 +64,7 @@ module _ (setup : Setup) where
 
 -- ---- the meaning
 
--- the outcome, by how the outermost text ends
+-- the outcome, by the end of the outermost text's run
 abbrev pub outcome_of_end : Setup → End → Outcome
 outcome_of_end setup (CompleteEnd s inputs) = finish setup s
 outcome_of_end setup (RequestEnd request positions inputs) = RequestOutcome request positions
@@ -75,7 +75,7 @@ pub record First : Type 0 where
   pub initial_value : Option ℕ
   pub settings : Settings
 
--- the store at the start: it has nothing but the settings
+-- the store at the start: empty lists, and the settings
 abbrev pub fresh_store : First → Refusal → Store
 fresh_store first r =
     record { values = []; pieces = []; count = 0; settings = first.settings; last = Nothing; refusal = r }

@@ -7,7 +7,7 @@ use Rattle.dwarf_meaning.specs.Operations.{Operation, Address, AddressIndex, Bin
 use Rattle.dwarf_meaning.specs.Operands.{Layout, Range, Bytes, Leb128, Any, Offset, Register, PieceSize, U32, ref_size}
 use Rattle.dwarf_value.specs.Values.{Abs, Neg, Not, Plus, Minus, Mul, Div, Mod, And, Or, Xor, Shl, Shr, Shra, Eq, Ne, Lt, Le, Gt, Ge}
 
--- What follows an opcode: operands in order, then the operation that their values make; or the opcode has no operation.
+-- What follows an opcode: operands in order, then the operation made from their values; or the opcode is unknown.
 pub data Row : Type 0 where
   Makes : Operation → Row
   Unsigned : Layout × Range → (ℕ → Row) → Row
@@ -36,11 +36,11 @@ pub record Line : Type 0 where
 abbrev pub one : (opcode : ℕ) → Row → Line
 one opcode row = record { has = λ n. n == opcode; row = λ n. row }
 
--- the standard's opcode, and the one of GNU's extension that came before it
+-- the standard's opcode, and that of the GNU extension that came before it
 abbrev pub both : (standard gnu : ℕ) → Row → Line
 both standard gnu row = record { has = λ n. n == standard || n == gnu; row = λ n. row }
 
--- a range of opcodes; the row of each is made from its distance to the first
+-- a range of opcodes; the row of each is made from its distance from the first
 abbrev pub range : (from to : ℕ) → (ℕ → Row) → Line
 range from to row = record { has = λ n. nat_le from n && nat_le n to; row = λ n. row (n - from) }
 

@@ -26,11 +26,11 @@ pub data Layout : Type 0 where
   Bytes : (size : ℕ) → Layout
   Leb128 : Layout
 
--- which unsigned numbers an operand may be
+-- which unsigned numbers an operand may have
 pub data Range : Type 0 where
   Any Offset Register PieceSize U32 : Range
 
--- how many bytes a reference into `.debug_info` has: in version 2 of DWARF, as many as an address
+-- how many bytes a reference into `.debug_info` has: as many as an address in version 2, else as many as an offset
 abbrev pub ref_size : Encoding → ℕ
 ref_size encoding = if encoding.version == 2 then encoding.address_size else offset_size encoding.format
 

@@ -1,9 +1,9 @@
--- Operations of DWARF expressions (DWARF 5, sections 2.5 and 2.6), with no readers in them.
+-- Operations of DWARF expressions (DWARF 5, sections 2.5 and 2.6), without readers.
 use Rattle.std.specs.Prelude.{ℕ, ℤ, Bool, Option}
 use Rattle.dwarf_base.specs.Reads.{Text}
 use Rattle.dwarf_value.specs.Values.{UnaryOperator, BinaryOperator}
 
--- where a called expression stands: in this unit, or in `.debug_info`
+-- the called entry, by its offset in this unit or in `.debug_info`
 pub data DieReference : Type 0 where
   UnitRef DebugInfoRef : (offset : ℕ) → DieReference
 

@@ -9,8 +9,8 @@ pub record Limits : Type 0 where
   pub callers : Option ℕ
   pub pieces : Option ℕ
 
--- Which push on a list without a limit is refused: none, or one. Before the refused push come this many more inputs,
--- and then this many more pushes on such lists.
+-- Which push on a list without a limit is refused: none, or one. `After`: this many inputs come before the refused
+-- push, and after them this many pushes on such lists.
 pub data Refusal : Type 0 where
   Never : Refusal
   After : (inputs pushes : ℕ) → Refusal
@@ -46,12 +46,12 @@ abbrev pub MayPick : Limits → Refusal → Type 0
 MayPick limits Never = Unit {0}
 MayPick limits (After inputs pushes) = HasFreeList limits
 
--- the refusal as it was one input before
+-- the refusal as it was before the last input
 abbrev pub before_input : Refusal → Refusal
 before_input Never = Never
 before_input (After inputs pushes) = After (suc inputs) pushes
 
--- the refusal as it was this many inputs before
+-- the refusal as it was before the last n inputs
 abbrev pub before_inputs : ℕ → Refusal → Refusal
 before_inputs zero refusal = refusal
 before_inputs (suc n) refusal = before_inputs n (before_input refusal)

@@ -25,9 +25,9 @@ pub data OnAnswer : Type 0 where
   Push : OnAnswer
   -- the sum with this offset is pushed
   Add : (offset : ℤ) → OnAnswer
-  -- these bytes are pushed as a value of the type
+  -- the literal's bytes are pushed, as a value of the type that was answered
   Parse : (literal : Text) → OnAnswer
-  -- the top is converted to the type: by its number, or by its bits
+  -- the top is converted to the type that was answered: by its number, or by its bits
   Convert Reinterpret : OnAnswer
 
 -- an answer: a value or a number of the kind that was asked for, a text, or a type
@@ -37,12 +37,12 @@ pub data Answer : Type 0 where
   LocationAnswer : (text : Text) → Answer
   BaseTypeAnswer : (value_type : ValueType) → Answer
 
--- the settings in force: the address of the described object, if it is known, and the maximum of operations
+-- the settings in force: the address of the described object, if it is known, and the maximum number of operations
 pub record Settings : Type 0 where
   pub object_address : Option ℕ
   pub maximum : ℕ
 
--- an answer, with the settings that hold from then on
+-- an answer, and the settings that hold from then on
 pub record Input : Type 0 where
   pub settings : Settings
   pub answer : Answer

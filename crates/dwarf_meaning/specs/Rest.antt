@@ -1,4 +1,4 @@
--- The rest of an evaluation, from any state on (DWARF 5, sections 2.5 and 2.5.1.5).
+-- How an evaluation goes on from any of its states (DWARF 5, sections 2.5 and 2.5.1.5).
 use Rattle.std.specs.Prelude.{ℕ, ◌+◌, List, [], ◌∷◌, Option, length}
 use Rattle.dwarf_base.specs.declared.errors.Error.{Error}
 use Rattle.dwarf_base.specs.Faults.{fault_of}
@@ -40,7 +40,7 @@ pub record Total : Type 0 where
   pub outcome : Outcome
   pub count : ℕ
 
--- the total of a course and the rest of its callers, if n operations were counted before
+-- the total of a course and then of its callers, if n operations were counted before
 abbrev pub total_of_course : (n : ℕ) → Setup → (callers : List Position) → Course → Total
 total_of_course n setup callers course =
     let whole = return_to_callers setup callers course in
@@ -50,7 +50,7 @@ total_of_course n setup callers course =
 abbrev pub first_of : State → Option ℕ → First
 first_of x initial_value = record { initial_value = initial_value; settings = x.store.settings }
 
--- the total, by the status: at the start it is that of the meaning; a running evaluation goes on; one in a request
+-- the total, by the status: at the start it is the meaning's; a running evaluation goes on; an evaluation in a request
 -- takes the first input; one that is over stays as it is
 abbrev pub total_by : State → Store → List Input → Status → Total
 total_by x s inputs (Start initial_value) =

@@ -18,8 +18,8 @@ pub record Position : Type 0 where
   pub text : Text
   pub place : ℕ
 
--- How a run ends: at the end of its text, with the store and the inputs that are left; in a request, with the open
--- texts, the innermost first, and the inputs that are left; or in a fault.
+-- How a run ends: at the end of its text, with the store and the remaining inputs; in a request, with the open texts,
+-- the innermost first, and the remaining inputs; or in a fault.
 pub data End : Type 0 where
   CompleteEnd : Store → List Input → End
   RequestEnd : Request → List Position → List Input → End
@@ -52,7 +52,7 @@ abbrev pub read : Setup → Text → (place : ℕ) → Result (Operation × List
 read setup text place =
     operation_at setup.encoding setup.offset_bits (record { bytes = drop place text.bytes; is_big = text.is_big })
 
--- the maximum if none is set; no run counts more
+-- the maximum if none is set, which no run exceeds
 unfoldable pub most_operations : ℕ
 most_operations = 4294967295
 
@@ -68,7 +68,7 @@ count_one s = record s { count = s.count + 1 }
 abbrev pub counted_act : Setup → Store → (place : ℕ) → Operation → Act
 counted_act setup s place op = act (address_bits setup) s.settings.object_address op s.values
 
--- what the operation after a location does: a piece ends the location there, and any other operation is a fault
+-- what the operation after a location does: a piece is at the location and ends it; any other operation is a fault
 abbrev pub located_act : Location → Store → (place : ℕ) → Operation → Act
 located_act location s place (operation.Piece size offset) = EndsPiece s.values (sized_piece size offset location)
 located_act location s place _ = FaultAct (InvalidExpressionTerminator (place - 1))
@@ -96,7 +96,7 @@ module _ (go : Continues) where
 
   module _ (setup : Setup) where
     module _ (position : Position) (depth : ℕ) where
-      -- the answer to a call is run; if it has no bytes, the run goes on after the call at once
+      -- the answer to a call is run; if it has no bytes, the run goes on directly after the call
       abbrev pub run_callee : Text → List ℕ → Store → List Input → Course
       run_callee callee [] s inputs = go position.text position.place depth (record s { last = Called }) inputs
       run_callee callee (byte ∷ bytes) s inputs = enter_callee position depth callee inputs (push_caller setup depth s)
@@ -108,7 +108,7 @@ module _ (go : Continues) where
       after_answer (Calls callee) s inputs = run_callee callee callee.bytes s inputs
       after_answer (FaultUse fault) s inputs = only_end (FaultEnd fault)
 
-      -- a request takes the next input; it stays open if there is none, or none of its kind
+      -- a request takes the next input; it stays open if there is none, or if the next one has another kind
       abbrev pub await_answer : Request → OnAnswer → Store → List Input → Course
       await_answer request on_answer s [] = only_end (RequestEnd request (position ∷ []) [])
       await_answer request on_answer s (input ∷ inputs) =
@@ -169,7 +169,7 @@ enough_turns = 2 * most_operations + 1
 abbrev pub run : Setup → Continues
 run setup = run_for enough_turns setup
 
--- a course, and then the rest of its callers, the innermost first
+-- a course, and then what is left of its callers, the innermost first
 abbrev pub return_to_callers : Setup → (callers : List Position) → Course → Course
 return_to_callers setup [] course = course
 return_to_callers setup (caller ∷ callers) course =

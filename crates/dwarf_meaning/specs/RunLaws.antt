@@ -59,7 +59,7 @@ EndTook inputs requests (FaultEnd fault) = length requests ≤ length inputs
 abbrev pub MaximaWithin : (bound : ℕ) → List Input → Type 0
 MaximaWithin bound inputs = All (λ (input : Input). input.settings.maximum ≤ bound) inputs
 
--- P holds of the store, if the run ends at the end of its text
+-- if the run ends at the end of its text, P holds of the store
 abbrev pub AtEnd : (Store → Type 0) → End → Type 0
 AtEnd P (CompleteEnd s left) = P s
 AtEnd P _ = Unit {0}
@@ -76,8 +76,8 @@ pub record ListsWithin (limits : Limits) (s : Store) : Type 0 where
   pub values : IsWithin limits.values (length s.values)
   pub pieces : IsWithin limits.pieces (length s.pieces)
 
--- the open texts of a run of a text, at a depth of calls: callees, within the limit of callers, and then the text
--- itself
+-- the open texts when a text runs at this depth of calls: its callees, no more than the limit of callers allows, and
+-- then the text itself
 pub record OpenTexts (limit : Option ℕ) (text : Text) (depth : ℕ) (positions : List Position) : Type 0 where
   pub callees : List Position
   pub place : ℕ
@@ -85,13 +85,13 @@ pub record OpenTexts (limit : Option ℕ) (text : Text) (depth : ℕ) (positions
   pub one_more : length positions ≡ length callees + 1
   pub within : IsWithin limit (depth + length callees)
 
--- the lists are within their limits at the end of the text, and the open texts are in a request
+-- the lists at the end of the text, or the open texts in a request, are within the limits
 abbrev pub EndWithin : Limits → Text → (depth : ℕ) → End → Type 0
 EndWithin limits text depth (CompleteEnd s left) = ListsWithin limits s
 EndWithin limits text depth (RequestEnd request positions left) = OpenTexts limits.callers text depth positions
 EndWithin limits text depth (FaultEnd fault) = Unit {0}
 
--- the texts that are open, or the pieces, are within the limits
+-- the open texts, or the pieces, are within the limits
 abbrev pub OutcomeWithin : Limits → Text → Outcome → Type 0
 OutcomeWithin limits text (RequestOutcome request positions) = OpenTexts limits.callers text 0 positions
 OutcomeWithin limits text (FaultOutcome fault) = Unit {0}
@@ -104,19 +104,19 @@ outermost text (caller ∷ callers) = outermost caller.text callers
 
 -- ---- calls
 
--- a text of at least one byte that answers a call, and so is run in its place
+-- a text of at least one byte that answers a call
 pub record IsCallee (inputs : List Input) (text : Text) : Type 0 where
   pub answered : Any (λ (input : Input). input.answer ≡ LocationAnswer text) inputs
   pub some_bytes : 0 < length text.bytes
 
--- the open texts of a run of a text: the text alone, or the open texts of its callee and then the text
+-- the open texts when a text runs: the text alone, or the open texts of its callee and then the text
 pub data Open (inputs : List Input) : Text → List Position → Type 0 where
   alone : (position : Position) → Open inputs position.text (position ∷ [])
   calling : (position : Position) (callee : Text) (positions : List Position) → IsCallee inputs callee
       → Open inputs callee positions
       → Open inputs position.text (positions ++ position ∷ [])
 
--- if the evaluation of a text is in a request, the open texts are the text and callees
+-- if the outcome is a request, its open texts are the text and callees
 abbrev pub OutcomeOpen : List Input → Text → Outcome → Type 0
 OutcomeOpen inputs text (RequestOutcome request positions) = Open inputs text positions
 OutcomeOpen inputs text _ = Unit {0}

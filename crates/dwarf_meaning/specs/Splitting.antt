@@ -29,13 +29,13 @@ items_of [] None = []
 items_of [] (Some fault) = Err fault ∷ []
 items_of (op ∷ ops) fault = Ok op ∷ items_of ops fault
 
--- the item that is read at the front, and then the items after it
+-- the item at the front, and then the items after it
 abbrev pub item_then : Result (Operation × List ℕ) Fault → (List ℕ → List (Result Operation Fault))
     → List (Result Operation Fault)
 item_then (Ok x) items = Ok x.0 ∷ items x.1
 item_then (Err fault) items = Err fault ∷ []
 
--- the items as they are read, up to this many
+-- the items, up to this many
 abbrev pub items_within : (most : ℕ) → Context → List ℕ → List (Result Operation Fault)
 items_within zero context bytes = []
 items_within (suc most) context [] = []

@@ -53,7 +53,7 @@ Allows log outcome (Resume answer) = Awaits answer outcome
 
 -- ---- the log after a step
 
--- the inputs and one more: the answer, with the current settings; after a fault it isn't added
+-- the inputs after an answer: it is added with the current settings, but not after a fault
 abbrev pub inputs_after : First → List Input → Answer → Option Outcome → List Input
 inputs_after now inputs answer (Some (RequestOutcome request positions)) =
     inputs ++ record { settings = now.settings; answer = answer } ∷ []
@@ -88,14 +88,14 @@ abbrev pub replies : Option Outcome → List Reply
 replies None = []
 replies (Some outcome) = reply outcome ∷ []
 
--- the replies of a step: a setting has none; `outcome` is the outcome after the step
+-- the replies of a step: none for a setting, else that of `outcome`, the outcome after the step
 abbrev pub step_replies : Step → Option Outcome → List Reply
 step_replies Evaluate outcome = replies outcome
 step_replies (Resume answer) outcome = replies outcome
 step_replies _ outcome = []
 
 module _ (setup : Setup) (refusal : Refusal) (text : Text) where
-  -- the log after a step; the outcome of the steps before decides
+  -- the log after a step, by the outcome before it
   abbrev pub after_step : Log → Step → Log
   after_step log step = after log (outcome_of setup refusal text log) step
 

@@ -1,5 +1,5 @@
--- What a run keeps besides texts and places, and when its lists take one more item (DWARF 5, sections 2.5.1, 2.5.1.5
--- and 2.6.1.2).
+-- What a run keeps besides texts and places, and when its lists take another item (DWARF 5, sections 2.5.1, 2.5.1.5 and
+-- 2.6.1.2).
 use Rattle.std.specs.Prelude.{ℕ, ◌*◌, ◌≤◌, ℤ, pos, ◌+ℤ◌, List, [], ◌∷◌, ◌++◌, Option, Some, None, Result, Ok, Err, length, nat_lt, if◌then◌else◌}
 use Rattle.dwarf_base.specs.declared.common.Encoding.{Encoding}
 use Rattle.dwarf_base.specs.Faults.{Fault, ◌>>=◌}
@@ -34,8 +34,8 @@ setup_of encoding offset_bits values callers pieces = record {
 abbrev pub address_bits : Setup → ℕ
 address_bits setup = 8 * setup.encoding.address_size
 
--- The kind of the last operation. `Nothing`: there is none yet. `Plain`: it asked nothing, gave no location and ended
--- no piece. `Pieced`: it ended a piece. `Pushed`: its answer was pushed. `Called`: it is a call that was answered by an
+-- The kind of the last operation. `Nothing`: there was none yet. `Plain`: it asked nothing, gave no location and ended
+-- no piece. `Pieced`: it ended a piece. `Pushed`: its answer was pushed. `Called`: it was a call, and the answer was an
 -- empty text. `Located`: its location waits for a piece.
 pub data Last : Type 0 where
   Nothing Plain Pieced Pushed Called : Last

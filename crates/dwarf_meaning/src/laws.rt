@@ -20,9 +20,9 @@ ghost use Rattle.dwarf_meaning.specs.Refusals.{Refusal};
 
 /// Laws of decoding, for every text.
 ///
-/// It does nothing. Its contract states that decoding reads exactly the operations that are spelled; that a text begins
-/// with exactly one operation or has exactly one fault; how a text splits into operations; and that the operands of
-/// branches have 16 bits.
+/// It does nothing. Its contract states that decoding reads exactly the operations that the bytes spell; that a text
+/// begins with exactly one operation or has exactly one fault; how a text splits into operations; and that the operands
+/// of branches have 16 bits.
 pub fn decode_laws()
     ensures reading { (context : Context)
         → ReadsExactly (Spells context) (Malformed context) (operation_in context) }
@@ -45,9 +45,9 @@ pub fn decode_laws()
 /// Laws of runs, for every text.
 ///
 /// It does nothing. Its contract states these laws. A run is one turn and then the rest of the run; any number of turns
-/// that is enough gives the same run. Each answered request takes one input, and further inputs change nothing. Each
-/// operation of the path is counted once, up to the maximum in force and 4294967295. Each list stays within its limit,
-/// and so do the open texts of a request. The open texts are the text and its open callees.
+/// that is large enough gives the same run. Each answered request takes one input, and further inputs change nothing.
+/// Each operation of the path is counted once, up to the maximum in force and 4294967295. Each list stays within its
+/// limit. So do the open texts of a request, which are the text and its open callees.
 pub fn run_laws()
     ensures one_turn { (setup : Setup) (text : Text) (place depth : ℕ) (s : Store)
         (inputs : List Input)

@@ -1,4 +1,5 @@
--- Operations, references and locations as the definitions have them: a reader as a text, and an offset as a number.
+-- Maps operations, references and locations of the code to the definitions. A reader becomes a text, and an offset a
+-- number.
 use Rattle.std.specs.Prelude.{ℕ}
 use Rattle.dwarf_base.specs.Reads.{Text}
 use Rattle.dwarf_meaning.specs.Locations as locations
@@ -12,13 +13,13 @@ use Rattle.dwarf_op.specs.declared.operations.DieReference.{DieReference}
 use Rattle.dwarf_op.specs.declared.operations.DieReference.TheVariants as reference
 use Rattle.dwarf_value.specs.Values.{Abs, Neg, Not, Plus, Minus, Mul, Div, Mod, And, Or, Xor, Shl, Shr, Shra, Eq, Ne, Lt, Le, Gt, Ge}
 
--- a reference of the code, as the definitions have it
+-- maps a reference in the code to the definitions
 abbrev pub reference_of : {O : Type 0} → (O → ℕ) → DieReference O → meaning.DieReference
 reference_of number (reference.UnitRef offset) = meaning.UnitRef (number offset.0)
 reference_of number (reference.DebugInfoRef offset) = meaning.DebugInfoRef (number offset.0)
 
 module _ {R O P : Type 0} (text : R → Text) (number : O → ℕ) where
-  -- an operation of the code, as the definitions have it
+  -- maps an operation in the code to the definitions
   abbrev pub operation_of : Operation R O P → meaning.Operation
   operation_of (operation.Deref size base_type space) = meaning.Deref (number base_type.0) size space
   operation_of operation.Drop = meaning.Drop
@@ -77,7 +78,7 @@ module _ {R O P : Type 0} (text : R → Text) (number : O → ℕ) where
   operation_of (operation.WasmStack index) = meaning.WasmStack index
   operation_of (operation.VariableValue offset) = meaning.VariableValue (number offset.0)
 
-  -- a location of the code, as the definitions have it
+  -- maps a location in the code to the definitions
   abbrev pub location_of : Location R O P → locations.Location
   location_of location.Empty = locations.Empty
   location_of (location.Register register) = locations.InRegister register.0
@@ -86,7 +87,7 @@ module _ {R O P : Type 0} (text : R → Text) (number : O → ℕ) where
   location_of (location.Bytes value) = locations.HoldsBytes (text value)
   location_of (location.ImplicitPointer value byte_offset) = locations.PointsInto (number value.0) byte_offset
 
-  -- a piece of the code, as the definitions have it
+  -- maps a piece in the code to the definitions
   abbrev pub piece_of : Piece R O P → locations.Piece
   piece_of piece = record {
     size_in_bits = piece.size_in_bits;

@@ -19,7 +19,7 @@ use dwarf_base::{
     UnitOffset,
 };
 
-// The first opcode and the last of each range.
+// The first and last opcode of each range.
 const LIT0: u8 = DW_OP_lit0.0;
 
 const LIT31: u8 = DW_OP_lit31.0;
@@ -37,8 +37,8 @@ impl<R: Reader + Copy> Operation<R> {
     ///
     /// `UnexpectedEof` if its bytes are cut off. `InvalidExpression` if the opcode is unknown. `BadUnsignedLeb128`,
     /// `BadSignedLeb128`, `UnsupportedAddressSize`, `UnsupportedOffset`, `UnsupportedRegister` or `InvalidPieceSize` if
-    /// an operand is malformed; the first one decides. After an error `bytes` is at a suffix of what it was. Which one
-    /// is unspecified: a reader may have taken the opcode and operands, or nothing.
+    /// an operand is malformed; the first malformed operand decides. After an error `bytes` is some suffix of what it
+    /// was: the reader may have taken the opcode and operands, or nothing.
     #[tactic(auto, using(dwarf_base::proofs::Suffixes::suffix_trans), unfolding(dwarf_meaning::specs::Decoding::operation_at))]
     #[inline(always)]
     pub fn parse(bytes: &mut R, encoding: Encoding) -> Result<Operation<R>>
@@ -53,11 +53,11 @@ impl<R: Reader + Copy> Operation<R> {
 }
 
 /// The table of opcodes (DWARF 5, section 7.7.1). A row is an operation, or the shapes of its operands in order and how
-/// they make the operation.
+/// the operation is made from them.
 ///
-/// Each row is a constant where it is read, so that the compiler knows its shapes. A row with two operands reads the
-/// first one itself, and passes in the result. The kit inlines a function that reads one operand, but not one that
-/// reads two; this saves 0.1 of gimli's time to decode libc and libm.
+/// Each row passes its shapes as constants, so that the compiler knows them. A row with two operands reads the first
+/// one itself and passes the result to `second`, because the kit inlines a function that reads one operand, but not one
+/// that reads two. Without this, decoding libc and libm takes 10% of gimli's time longer.
 #[tactic(auto, unfolding(dwarf_meaning::specs::Opcodes::row_of))]
 #[inline(always)]
 fn read_row<R: Reader + Copy>(opcode: u8, bytes: &mut R, encoding: Encoding) -> Result<Operation<R>>
@@ -289,7 +289,7 @@ fn block<R: Reader + Copy>(
     })
 }
 
-/// How one operand or two make an operation.
+/// How to make an operation from one or two operands.
 #[derive(Clone, Copy)]
 enum Maker {
     Deref { space: bool },
@@ -324,7 +324,7 @@ enum Maker {
     VariableValue,
 }
 
-/// How a block makes an operation.
+/// How to make an operation from a block.
 #[derive(Clone, Copy)]
 enum BlockMaker {
     ImplicitValue,
@@ -340,7 +340,7 @@ fn generic_type<O: ReaderOffset>() -> UnitOffset<O>
     UnitOffset(O::from_u8(0))
 }
 
-/// Makes the operation from one operand or two.
+/// Makes the operation from one or two operands.
 #[inline(always)]
 fn make<R: Reader>(
     maker: Maker,

@@ -34,7 +34,7 @@ pub enum Location<R: Reader, O = <R as Reader>::Offset> {
     ImplicitPointer {
         /// The entry that describes the object: its `DW_AT_location` or `DW_AT_const_value` gives the object's value.
         value: DebugInfoOffset<O>,
-        /// The offset in the object to which it points, in bytes.
+        /// The offset into the object, in bytes.
         byte_offset: i64,
     },
 }
@@ -44,9 +44,9 @@ pub enum Location<R: Reader, O = <R as Reader>::Offset> {
 pub struct Piece<R: Reader, O = <R as Reader>::Offset> {
     /// Its size in bits. `None` if it is the only piece, and so the whole variable.
     pub size_in_bits: Option<u64>,
-    /// The bit of its location at which it begins. In a register or a value, bits are counted from the least
-    /// significant one; in memory, by the numbering of the target's language. `None` if it begins where its location
-    /// does; then the target's calling convention says which part of a larger register it is.
+    /// The offset of its first bit in its location. In a register or a value, bits are counted from the least
+    /// significant one; in memory, as the target's language numbers them. `None` if it begins where its location does;
+    /// in a larger register the target's calling convention then says which part it takes.
     pub bit_offset: Option<u64>,
     /// Where it is, or what it contains.
     pub location: Location<R, O>,

@@ -5,7 +5,7 @@ ghost use Rattle.dwarf_op.specs.inner.Entries.{GoesOn, no_operand, operand_of, s
 
 use dwarf_base::{Encoding, Error, Reader, ReaderOffset, Register, Result, constants};
 
-/// The layout of an operand's bytes, and the numbers that are allowed.
+/// How an operand is encoded, and which numbers it may have.
 #[derive(Clone, Copy)]
 pub(crate) enum Shape {
     /// There is no operand.
@@ -24,14 +24,14 @@ pub(crate) enum Shape {
     Offset,
     /// An unsigned LEB128 number that fits a register.
     RegisterNumber,
-    /// An unsigned LEB128 number of bytes; counted in bits it fits in 64 bits.
+    /// An unsigned LEB128 number of bytes that, converted to bits, fits in 64 bits.
     PieceSize,
-    /// An offset into a section, as wide as the format says.
+    /// An offset into a section. The format says how wide it is.
     SectionOffset,
-    /// An offset into `.debug_info`: as a section's, but in version 2 as wide as an address.
+    /// An offset into `.debug_info`: like `SectionOffset`, but in version 2 as wide as an address.
     Reference,
     Address,
-    /// The index of a value of WebAssembly, laid out as the byte before it says.
+    /// The index of a WebAssembly value. The byte before it says how it is encoded.
     WasmIndex,
 }
 
@@ -43,7 +43,7 @@ pub(crate) enum WasmPlace {
     Stack,
 }
 
-/// An operand, in each type that a field of an operation may have. A field that its shape doesn't give is zero.
+/// An operand, in every type that a field of an operation may have. A field that its shape doesn't set is zero.
 #[derive(Clone, Copy)]
 pub(crate) struct Operand<O> {
     pub(crate) byte: u8,
@@ -57,7 +57,7 @@ pub(crate) struct Operand<O> {
 }
 
 impl<O: ReaderOffset> Operand<O> {
-    /// An operand that is absent.
+    /// No operand.
     #[inline(always)]
     pub(crate) fn none() -> Self
         ensures { operand_of O.number result ≡ no_operand }

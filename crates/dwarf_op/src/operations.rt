@@ -5,7 +5,7 @@ ghost use Rattle.std.specs.Prelude.{◌≡◌, ⊤};
 use dwarf_base::{DebugAddrIndex, DebugInfoOffset, Reader, Register, UnitOffset};
 use std::alloc::AllocError;
 
-/// Where a called expression stands (DWARF 5, section 2.5.1.5).
+/// The entry whose expression is called (DWARF 5, section 2.5.1.5).
 #[derive(Clone, Copy, Debug, PartialEq, Eq)]
 pub enum DieReference<T = usize> {
     /// An entry of the unit.
@@ -127,15 +127,14 @@ pub enum Operation<R: Reader, O = <R as Reader>::Offset> {
         /// The offset, in bytes.
         offset: i64,
     },
-    /// Nothing: `DW_OP_nop`.
+    /// Do nothing: `DW_OP_nop`.
     Nop,
-    /// Push the address of the described object, as `set_object_address` of the evaluation has set it:
-    /// `DW_OP_push_object_address`.
+    /// Push the address of the described object, which `set_object_address` sets: `DW_OP_push_object_address`.
     PushObjectAddress,
-    /// Evaluate another expression, the `DW_AT_location` of an entry, in this one's place: `DW_OP_call2`,
+    /// Evaluate the expression in an entry's `DW_AT_location`, in place of this operation: `DW_OP_call2`,
     /// `DW_OP_call4`, `DW_OP_call_ref`.
     Call {
-        /// Where the entry stands.
+        /// The entry.
         offset: DieReference<O>,
     },
     /// Pop an index and push an address in thread-local storage: `DW_OP_form_tls_address`,
@@ -143,12 +142,12 @@ pub enum Operation<R: Reader, O = <R as Reader>::Offset> {
     TLS,
     /// Push the canonical frame address (DWARF 5, section 6.4): `DW_OP_call_frame_cfa`.
     CallFrameCFA,
-    /// End a piece of the variable: `DW_OP_piece`, `DW_OP_bit_piece`. After an operation that gives a location the
-    /// piece is there; else it is at the address that it pops, or nowhere if the stack is empty.
+    /// End a piece of the variable: `DW_OP_piece`, `DW_OP_bit_piece`. If the operation before gives a location, the
+    /// piece is there. Else it is at the address that is popped, or nowhere if the stack is empty.
     Piece {
         /// Its size, in bits.
         size_in_bits: u64,
-        /// The bit of its location at which it begins; `None` for `DW_OP_piece`, which begins at the next byte
+        /// The offset of its first bit in its location; `None` for `DW_OP_piece`, which begins at the next byte
         /// boundary. In a register or a value, bits are counted from the least significant one.
         bit_offset: Option<u64>,
     },
@@ -165,7 +164,7 @@ pub enum Operation<R: Reader, O = <R as Reader>::Offset> {
     ImplicitPointer {
         /// The entry that describes the object.
         value: DebugInfoOffset<O>,
-        /// The offset in the object to which it points, in bytes.
+        /// The offset into the object, in bytes.
         byte_offset: i64,
     },
     /// Push the value that an expression had when the function was entered: `DW_OP_entry_value`,
@@ -212,24 +211,24 @@ pub enum Operation<R: Reader, O = <R as Reader>::Offset> {
         /// The type.
         base_type: UnitOffset<O>,
     },
-    /// The variable isn't initialized: `DW_OP_GNU_uninit`. An evaluation answers `UnsupportedEvaluation`.
+    /// The variable isn't initialized: `DW_OP_GNU_uninit`. Evaluation fails with `UnsupportedEvaluation`.
     Uninitialized,
-    /// Push a local of WebAssembly's running function: `DW_OP_WASM_location` 0.
+    /// Push a local variable of the running WebAssembly function: `DW_OP_WASM_location` 0.
     WasmLocal {
         /// Its index.
         index: u32,
     },
-    /// Push a global of WebAssembly: `DW_OP_WASM_location` 1 and 3.
+    /// Push a WebAssembly global: `DW_OP_WASM_location` 1 and 3.
     WasmGlobal {
         /// Its index.
         index: u32,
     },
-    /// Push an item of WebAssembly's operand stack: `DW_OP_WASM_location` 2.
+    /// Push an item of the WebAssembly operand stack: `DW_OP_WASM_location` 2.
     WasmStack {
         /// Its index; 0 is the bottom.
         index: u32,
     },
-    /// Push the value of a variable: `DW_OP_GNU_variable_value`. An evaluation answers `UnsupportedEvaluation`.
+    /// Push the value of a variable: `DW_OP_GNU_variable_value`. Evaluation fails with `UnsupportedEvaluation`.
     VariableValue {
         /// The entry that describes the variable.
         offset: DebugInfoOffset<O>,

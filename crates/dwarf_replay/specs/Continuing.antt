@@ -14,14 +14,14 @@ use Rattle.dwarf_replay.specs.declared.steps.Step.{Step}
 
 -- ---- the steps that were done
 
--- the steps that were done: all; those before the one that isn't allowed; or those up to the one whose reply had no
--- room
+-- the steps that were done: all steps; the steps before the one that isn't allowed; or the steps up to the one whose
+-- reply had no room
 abbrev pub done_steps : {R O P : Type 0} → (R → Text) → List (Step R) → Replayed R O P → List meaning.Step
 done_steps text steps replayed.Done = steps_of text steps
 done_steps text steps (replayed.Misplaced index) = take index (steps_of text steps)
 done_steps text steps (replayed.NoRoom index answer) = take (suc index) (steps_of text steps)
 
--- their replies: those in the list, and the one that had no room
+-- the replies to these steps: those in the list, and the one that had no room
 abbrev pub done_replies : {R O P : Type 0} → (R → Text) → (O → ℕ) → List (Answer R O P) → Replayed R O P → List Reply
 done_replies text number given replayed.Done = replies_in text number given
 done_replies text number given (replayed.Misplaced index) = replies_in text number given
@@ -36,15 +36,16 @@ initial_items (step ∷ steps) = initial_items steps
 
 -- ---- the rest
 
--- It wasn't started: the setup and the text are the old ones, and the steps are done so whichever push is refused.
+-- It wasn't started: the setup and the text are the old ones, and the steps are done in this way whichever push is
+-- refused.
 pub record IsUnbegun (old : State) (steps : List meaning.Step) (replies : List Reply) (new : State) : Type 0 where
   pub log : Log
   pub setup : new.setup ≡ old.setup
   pub text : new.text ≡ old.text
   pub alike : (r : Refusal) → AreDoneFrom old steps replies log r
 
--- It was started and met no fault: the setup is the old one, and the steps are done so whichever push after the inputs
--- so far is refused. Given more inputs, the rest of it leads to what the meaning says of all inputs.
+-- It was started and met no fault: the setup is the old one, and the steps are done in this way whichever push after
+-- these inputs is refused. If more inputs are given, it comes to the outcome that the meaning has for all inputs.
 pub record IsLeft (old : State) (steps : List meaning.Step) (replies : List Reply) (new : State) : Type 0 where
   pub log : Log
   pub setup : new.setup ≡ old.setup
@@ -53,7 +54,7 @@ pub record IsLeft (old : State) (steps : List meaning.Step) (replies : List Repl
       outcome_of old.setup (before_inputs (length log.inputs) r) old.text
       (record log { inputs = log.inputs ++ inputs }) ≡ Some (total new r inputs).outcome
 
--- the rest of the evaluation, by its status
+-- what the evaluation comes to, by its status
 abbrev pub Leaves : State → List meaning.Step → List Reply → State → Status → Type 0
 Leaves old steps replies new (Start initial_value) = IsUnbegun old steps replies new
 Leaves old steps replies new (RequestStatus request on_answer) = IsLeft old steps replies new

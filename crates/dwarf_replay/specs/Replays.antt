@@ -17,7 +17,7 @@ use Rattle.dwarf_replay.specs.declared.steps.Answer.{Answer}
 use Rattle.dwarf_replay.specs.declared.steps.Replayed.{Replayed}
 use Rattle.dwarf_replay.specs.declared.steps.Replayed.TheVariants as replayed
 
--- the steps of the code, as the definitions have them
+-- maps steps in the code to the definitions
 abbrev pub steps_of : {R : Type 0} → (R → Text) → List (Step R) → List meaning.Step
 steps_of text steps = map (step_of text) steps
 

@@ -1,4 +1,4 @@
--- What equality sees of steps and their results: errors whole, readers by `text` and offsets by `number`.
+-- What equality compares in steps and their results: whole errors, readers by `text`, and offsets by `number`.
 use Rattle.std.specs.Prelude.{ℕ, Result, Ok, Err}
 use Rattle.dwarf_base.specs.declared.errors.Error.{Error}
 use Rattle.dwarf_base.specs.Reads.{Text}
@@ -22,7 +22,7 @@ pub data StepOutcome : Type 0 where
   Set : StepOutcome
   Answered : Result Reply Error → StepOutcome
 
--- the outcome of a step of the code, as the definitions have it
+-- maps the outcome of a step in the code to `StepOutcome`
 abbrev pub outcome_of_step : {R O P : Type 0} → (R → Text) → (O → ℕ) → Stepped R O P → StepOutcome
 outcome_of_step text number stepped.Misplaced = Misplaced
 outcome_of_step text number stepped.Set = Set
@@ -34,7 +34,7 @@ pub data ReplayEnd : Type 0 where
   MisplacedAt : (index : ℕ) → ReplayEnd
   NoRoom : (index : ℕ) → Result Reply Error → ReplayEnd
 
--- the end of a replay of the code, as the definitions have it
+-- maps the end of a replay in the code to `ReplayEnd`
 abbrev pub end_of_replay : {R O P : Type 0} → (R → Text) → (O → ℕ) → Replayed R O P → ReplayEnd
 end_of_replay text number replayed.Done = Done
 end_of_replay text number (replayed.Misplaced index) = MisplacedAt index

@@ -16,7 +16,7 @@ use Rattle.dwarf_replay.specs.declared.steps.Step.TheVariants as step
 use Rattle.dwarf_replay.specs.declared.steps.Stepped.{Stepped}
 use Rattle.dwarf_replay.specs.declared.steps.Stepped.TheVariants as stepped
 
--- a step of the code, as the definitions have it
+-- maps a step in the code to the definitions
 abbrev pub step_of : {R : Type 0} → (R → Text) → Step R → meaning.Step
 step_of text (step.InitialValue number) = meaning.InitialValue number
 step_of text (step.ObjectAddress address) = meaning.ObjectAddress address

@@ -15,7 +15,8 @@ pub fn step_equality_laws<R: Reader + Eq>()
         → IsEqualityOf (step_of text) ⟦<Step<R> as PartialEq>⟧.eq }
 {}
 
-/// The same law for the results of calls, steps and replays, provided that it holds of readers and offsets.
+/// Results of calls, steps and replays are equal exactly if contracts can't tell them apart, provided that this holds
+/// of readers and offsets. It does nothing; its contract states the laws.
 pub fn answer_equality_laws<R: Reader + Eq, O: Eq>()
     ensures answer { (text : R → Text) (number : O → ℕ) → IsEqualityOf text R.PartialEq.eq
         → IsEqualityOf number O.PartialEq.eq

@@ -13,7 +13,7 @@ pub record IsWidth (w : ℕ) : Type 0 where
   pub some_bit : 0 < w
   pub within_64 : w ≤ 64
 
--- a value's number is in the range of its type; that of each value in a program is
+-- a value's number is in the range of its type, as that of each value in a program is
 unfoldable pub InRange : Value → Type 0
 InRange (Generic n) = n < 2 ^ 64
 InRange (I8 x) = FitsSigned w8 x
@@ -58,7 +58,7 @@ Opposites =
 
 -- ---- arithmetic
 
--- the quotient times the divisor, plus the remainder, is the dividend, at each type but the generic one
+-- the quotient times the divisor, plus the remainder, is the dividend, for each type except the generic one
 abbrev pub QuotientAndRemainder : Type 0
 QuotientAndRemainder =
     (w : ℕ) (x y : Value) → IsWidth w → InRange x → type_of x ≢ kind.Generic → type_of x ≡ type_of y
@@ -70,7 +70,7 @@ QuotientAndRemainder =
 abbrev pub GivesBack : (operator : ℕ → Value → Result Value Error) → (w : ℕ) → Value → Type 0
 GivesBack operator w x = (there : Value) × (operator w x ≡ Ok there) × (operator w there ≡ Ok x)
 
--- it gives back each value of a signed type
+-- applying the operator twice gives back each value of a signed type
 abbrev pub GivesBackSigned : (operator : ℕ → Value → Result Value Error) → Type 0
 GivesBackSigned operator =
     (w : ℕ) (x : Value) → IsWidth w → InRange x → is_signed false (type_of x) ≡ true → GivesBack operator w x
@@ -108,7 +108,7 @@ SameForOne result = (w : ℕ) (x x' : Value) → Agree w x x' → result w x ≡
 abbrev pub SameForTwo : (ℕ → Value → Value → Result Value Error) → Type 0
 SameForTwo result = (w : ℕ) (x x' y y' : Value) → Agree w x x' → Agree w y y' → result w x y ≡ result w x' y'
 
--- agreeing arguments give equal results; those of `reinterpret`, which reads all bits of a generic value, only agree
+-- Agreeing arguments give equal results. Those of `reinterpret` only agree, since it reads all bits of a generic value.
 pub record AgreementIsKept : Type 0 where
   pub to_u64 : (w : ℕ) (x x' : Value) → Agree w x x' → to_u64_of w x ≡ to_u64_of w x'
   pub convert : (t : ValueType) → SameForOne (λ w. convert_of w t)

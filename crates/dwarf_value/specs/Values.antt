@@ -26,7 +26,7 @@ pub record IsAddressMask (mask : ℕ) : Type 0 where
 
 -- ---- types and integers
 
--- whether a type is signed, and how many bits its values have; for the generic type the arguments say both
+-- whether a type is signed, and how many bits its values have; for the generic type both are the arguments
 abbrev pub shape_of : (signed : Bool) (w : ℕ) → ValueType → Bool × ℕ
 shape_of signed w kind.Generic = (signed, w)
 shape_of signed w kind.I8 = (true, 8)
@@ -38,7 +38,7 @@ shape_of signed w kind.U32 = (false, 32)
 shape_of signed w kind.I64 = (true, 64)
 shape_of signed w kind.U64 = (false, 64)
 
--- whether a type is signed; `generic` is the answer for the generic type
+-- whether a type is signed; for the generic type it is `generic`
 unfoldable pub is_signed : (generic : Bool) → ValueType → Bool
 is_signed generic t = (shape_of generic 0 t).0
 
@@ -46,7 +46,7 @@ is_signed generic t = (shape_of generic 0 t).0
 unfoldable pub bit_size_of : (w : ℕ) → ValueType → ℕ
 bit_size_of w t = (shape_of false w t).1
 
--- whether two types are the same, as `==` tells
+-- whether two types are equal by `==`
 unfoldable pub is_same : ValueType → ValueType → Bool
 is_same = sameb the_type
 
@@ -74,11 +74,11 @@ type_of x = (parts_of false 0 x).0
 unfoldable pub integer_of : (signed : Bool) (w : ℕ) → Value → ℤ
 integer_of signed w x = (parts_of signed w x).1
 
--- the integer, from 0 up if the value is generic
+-- the integer of a value; a generic value is unsigned
 abbrev pub unsigned_integer : (w : ℕ) → Value → ℤ
 unsigned_integer = integer_of false
 
--- the integer, in two's complement if the value is generic
+-- the integer of a value; a generic value is signed
 abbrev pub signed_integer : (w : ℕ) → Value → ℤ
 signed_integer = integer_of true
 
@@ -87,7 +87,7 @@ pub record Agree (w : ℕ) (x y : Value) : Type 0 where
   pub types : type_of x ≡ type_of y
   pub integers : unsigned_integer w x ≡ unsigned_integer w y
 
--- the value of a type that an integer wraps to, modulo 2 ^ k for a type of k bits; a generic value keeps g bits
+-- the value of a type that is congruent to the integer modulo 2 ^ k, for a type of k bits; a generic value has g bits
 unfoldable pub value_of : (g : ℕ) → ValueType → ℤ → Value
 value_of g kind.Generic z = Generic (residue g z)
 value_of g kind.I8 z = I8 (signed_of 8 (residue 8 z))
@@ -118,8 +118,8 @@ type_of_size t8 t16 t32 t64 byte_size =
     else if byte_size == 8 then Some t64
     else None
 
--- the type of an integer by its encoding, which is 5 for signed and 7 for unsigned ones, and its size in bytes
--- (DWARF 5, section 7.8)
+-- the type of integers with this encoding, 5 for signed and 7 for unsigned ones, and this size in bytes (DWARF 5,
+-- section 7.8)
 abbrev pub from_encoding_of : (encoding byte_size : ℕ) → Option ValueType
 from_encoding_of encoding byte_size =
     if encoding == 0x05 then type_of_size kind.I8 kind.I16 kind.I32 kind.I64 byte_size
@@ -151,7 +151,7 @@ pub data UnaryOperator : Type 0 where
 pub data BinaryOperator : Type 0 where
   Plus Minus Mul Div Mod And Or Xor Shl Shr Shra Eq Ne Lt Le Gt Ge : BinaryOperator
 
--- the given result if two values have one type, else `TypeMismatch`
+-- the third value if the first two have one type, else `TypeMismatch`
 abbrev pub of_one_type : Value → Value → Value → Result Value Error
 of_one_type x y result = if is_same (type_of x) (type_of y) then Ok result else Err TypeMismatch
 
@@ -159,7 +159,7 @@ of_one_type x y result = if is_same (type_of x) (type_of y) then Ok result else 
 abbrev pub combination : (ℤ → ℤ → ℤ) → (w : ℕ) → Value → Value → Result Value Error
 combination f w x y = of_one_type x y (value_of w (type_of x) (f (unsigned_integer w x) (unsigned_integer w y)))
 
--- the given result of a division; `DivisionByZero` if the divisor is zero, and else `TypeMismatch` if the types differ
+-- the third value, of a division; `DivisionByZero` if the divisor is zero, else `TypeMismatch` if the types differ
 abbrev pub division : (w : ℕ) → Value → Value → Value → Result Value Error
 division w x y result = if int_eq (unsigned_integer w y) (pos 0) then Err DivisionByZero else of_one_type x y result
 
@@ -178,7 +178,7 @@ floor_quotient (negsuc n) m = negsuc (n / m)
 abbrev pub comparison : (ℤ → ℤ → Bool) → (w : ℕ) → Value → Value → Result Value Error
 comparison passes w x y = of_one_type x y (Generic (if passes (signed_integer w x) (signed_integer w y) then 1 else 0))
 
--- The result of each operator on one value: the absolute value; the negated integer, or a fault at an unsigned type;
+-- The result of each operator on one value: the absolute value; the negated integer, or a fault for an unsigned type;
 -- the bitwise complement, which is the negated integer minus one.
 abbrev pub unary_of : UnaryOperator → (w : ℕ) → Value → Result Value Error
 unary_of Abs w x = Ok (value_of 64 (type_of x) (pos (unsigned_abs (signed_integer w x))))

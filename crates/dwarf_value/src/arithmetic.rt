@@ -49,7 +49,7 @@ impl Value {
 
     /// The quotient, rounded towards zero and wrapped (`DW_OP_div`). Generic values are divided as signed integers.
     ///
-    /// `DivisionByZero` if the divisor is zero, of whatever type; else `TypeMismatch` if the types differ.
+    /// `DivisionByZero` if the divisor is zero, whatever its type; else `TypeMismatch` if the types differ.
     ///
     /// `addr_mask` has a one for each bit of an address; [`is_addr_mask`](crate::is_addr_mask) checks that.
     #[inline(always)]
@@ -63,7 +63,7 @@ impl Value {
 
     /// The remainder, with the dividend's sign (`DW_OP_mod`). Generic values are divided as unsigned integers.
     ///
-    /// `DivisionByZero` if the divisor is zero, of whatever type; else `TypeMismatch` if the types differ.
+    /// `DivisionByZero` if the divisor is zero, whatever its type; else `TypeMismatch` if the types differ.
     ///
     /// `addr_mask` has a one for each bit of an address; [`is_addr_mask`](crate::is_addr_mask) checks that.
     #[inline(always)]
@@ -88,7 +88,7 @@ impl Value {
     }
 
     /// The negated value, wrapped (`DW_OP_neg`). A generic value is a signed integer here.
-    /// `UnsupportedTypeOperation` at an unsigned type.
+    /// `UnsupportedTypeOperation` for an unsigned type.
     ///
     /// `addr_mask` has a one for each bit of an address; [`is_addr_mask`](crate::is_addr_mask) checks that.
     #[inline(always)]
@@ -103,8 +103,7 @@ impl Value {
         Ok(Value::wrapped_to_64(value_type, -word.integer()))
     }
 
-    /// `operands` for a dividend and a divisor. `DivisionByZero` if the divisor is zero; else `TypeMismatch` if the
-    /// types differ.
+    /// The `operands` of a division. `DivisionByZero` if the divisor is zero; else `TypeMismatch` if the types differ.
     #[inline(always)]
     fn divided_by(self, rhs: Value, addr_mask: u64, signed: bool) -> Result<Operands>
         requires { IsAddressMask addr_mask }

@@ -9,7 +9,7 @@ use dwarf_base::{Error, Reader, Result};
 impl Value {
     /// Reads a value of the type from the first bytes, in their byte order. Further bytes are ignored.
     ///
-    /// `UnsupportedTypeOperation` at the generic type; else `UnexpectedEof` if there are too few bytes.
+    /// `UnsupportedTypeOperation` for the generic type; else `UnexpectedEof` if there are too few bytes.
     #[inline(always)]
     pub fn parse<R: Reader + Copy>(value_type: ValueType, bytes: R) -> Result<Value>
         ensures { Returns (λ value. value) result

@@ -11,10 +11,10 @@ ghost use Rattle.dwarf_value.specs.Laws.{InRange, Trichotomy, Opposites, Quotien
 
 use crate::types::{Value, ValueType};
 
-/// Laws of the results of the calls on values, at every address mask, and worked rows of negation.
+/// Laws of what the calls on values return, for every address mask, and worked rows of negation.
 ///
 /// It does nothing. Its contract states the laws. The rows show that a law of all signed types covers the least value
-/// of each, and what negation gives at the least byte and its neighbours.
+/// of each type, and what negation gives for -128 and its neighbours.
 pub fn value_laws()
     ensures trichotomy { Trichotomy }
     ensures opposites { Opposites }

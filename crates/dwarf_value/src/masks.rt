@@ -1,4 +1,4 @@
-//! Address masks: which numbers are one, and how many bits an address has.
+//! Address masks: which numbers are address masks, and how many bits an address has.
 
 ghost use Rattle.std.specs.Prelude.{◌≡◌, ◌<◌, ◌≤◌, ◌↔◌, IsTrue};
 ghost use Rattle.dwarf_value.specs.Values.{IsAddressMask, width_of};

@@ -30,7 +30,7 @@ impl Value {
     /// Shifts to the right by a length of any type, and fills with zeros (`DW_OP_shr`). A generic value is an unsigned
     /// integer here.
     ///
-    /// `InvalidShiftExpression` if the length is negative; else `UnsupportedTypeOperation` at a signed type.
+    /// `InvalidShiftExpression` if the length is negative; else `UnsupportedTypeOperation` for a signed type.
     ///
     /// `addr_mask` has a one for each bit of an address; [`is_addr_mask`](crate::is_addr_mask) checks that.
     #[inline(always)]
@@ -49,7 +49,7 @@ impl Value {
     /// Shifts to the right by a length of any type, and fills with copies of the sign (`DW_OP_shra`). A generic value
     /// is a signed integer here.
     ///
-    /// `InvalidShiftExpression` if the length is negative; else `UnsupportedTypeOperation` at an unsigned type.
+    /// `InvalidShiftExpression` if the length is negative; else `UnsupportedTypeOperation` for an unsigned type.
     ///
     /// `addr_mask` has a one for each bit of an address; [`is_addr_mask`](crate::is_addr_mask) checks that.
     #[inline(always)]

@@ -34,7 +34,7 @@ pub enum ValueType {
 /// A value on the stack of a DWARF expression.
 #[derive(Clone, Copy, Debug, PartialEq, Eq)]
 pub enum Value {
-    /// A generic value. Operations count only as many of its bits as an address has, but `reinterpret` takes all 64. A
+    /// A generic value. Operations use only its lowest bits, as many as an address has; `reinterpret` uses all 64. A
     /// value that is only passed on keeps all 64.
     Generic(u64),
     /// A signed integer of 8 bits.
@@ -101,8 +101,8 @@ impl ValueType {
         }
     }
 
-    /// The type of the values of a base type, by its encoding and its size in bytes. `DW_ATE_signed` and
-    /// `DW_ATE_unsigned` with 1, 2, 4 or 8 bytes have one, and all others none (DWARF 5, sections 5.1 and 7.8).
+    /// The type of values for a base type with this encoding and this size in bytes (DWARF 5, sections 5.1 and 7.8).
+    /// `None` unless the encoding is `DW_ATE_signed` or `DW_ATE_unsigned` and the size is 1, 2, 4 or 8.
     pub fn from_encoding(encoding: DwAte, byte_size: u64) -> Option<ValueType>
         ensures { result ≡ from_encoding_of encoding.0 byte_size }
     {

@@ -154,7 +154,7 @@ impl Value {
         Ok((value_type, first.integer(), second.integer()))
     }
 
-    /// The value of this type in the lowest bits of a word. A generic value is cut to the bits of an address.
+    /// The lowest bits of a word, as a value of this type. A generic value is cut to the bits of an address.
     #[tactic(auto, unfolding(crate::specs::Values::value_of))]
     #[inline(always)]
     pub(crate) fn make(value_type: ValueType, word: Word, addr_mask: u64) -> Value
@@ -175,7 +175,7 @@ impl Value {
         }
     }
 
-    /// The value of this type that an integer wraps to. A generic value is cut to the bits of an address.
+    /// The integer, wrapped to a value of this type. A generic value is cut to the bits of an address.
     #[tactic(auto, using(crate::proofs::Congruences::low_bits_only, crate::proofs::MaskBits::width_within_64))]
     #[inline(always)]
     pub(crate) fn wrapped(value_type: ValueType, integer: i128, addr_mask: u64) -> Value
@@ -189,7 +189,7 @@ impl Value {
         )
     }
 
-    /// The value of this type that an integer wraps to. A generic value keeps 64 bits.
+    /// The integer, wrapped to a value of this type. A generic value keeps 64 bits.
     #[tactic(auto, using(crate::proofs::MaskBits::all_bits))]
     #[inline(always)]
     pub(crate) fn wrapped_to_64(value_type: ValueType, integer: i128) -> Value

@@ -12,7 +12,7 @@ use Rattle.std.specs.Fmt.{digit_glyph, signed_decimal, digits_onto}
 
 -- ---- a text of which some was written
 
--- a front of the text was written, and this rest of it wasn't yet
+-- a prefix of the text was written; this is the rest of it
 pub record Written (old new : Option (List ℕ)) (text rest : List ℕ) : Type 0 where
   pub done : List ℕ
   pub whole : text ≡ done ++ rest

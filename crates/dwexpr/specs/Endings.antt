@@ -10,7 +10,7 @@ pub record Ending : Type 0 where
   pub text : List ℕ
   pub status : ℕ
 
--- the words aren't in their form
+-- the words are wrong
 abbrev pub bad_words : Ending
 bad_words = record { text = line (codes "bad words") []; status = 2 }
 
@@ -22,11 +22,11 @@ no_memory = record { text = line (codes "no memory") []; status = 1 }
 abbrev pub no_input : Ending
 no_input = record { text = []; status = 1 }
 
--- the line of this number is no step
+-- the line with this number is no step
 abbrev pub bad_step : (number : ℕ) → Ending
 bad_step number = record { text = line (codes "bad step") (decimal number ∷ []); status = 2 }
 
--- the step at this index, from 0, isn't allowed; its line counts from 1
+-- the step at this index, from 0, isn't allowed; the printed line number counts from 1
 abbrev pub misplaced_step : (index : ℕ) → Ending
 misplaced_step index = record { text = line (codes "misplaced") (decimal (index + 1) ∷ []); status = 2 }
 

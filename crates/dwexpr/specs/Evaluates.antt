@@ -21,7 +21,7 @@ outcome_ending (Some (CompleteOutcome pieces value)) = complete_ending pieces va
 abbrev pub after_replies : List Reply → Ending → Ending
 after_replies replies ending = record ending { text = reply_lines replies ++ ending.text }
 
--- the call of this step replies
+-- the step is a call that has a reply
 abbrev pub IsCall : Step → Type 0
 IsCall Evaluate = Unit {0}
 IsCall (Resume answer) = Unit {0}
@@ -35,8 +35,8 @@ pub data EndsAt (index : ℕ) (now : Log) (outcome : Option Outcome) : (next : O
   without_memory : {step : Step} → Allows now outcome step → IsCall step
       → EndsAt index now outcome (Some step) no_memory
 
--- the steps before some index were done, with one push refused for want of memory or with none, and the evaluation
--- ended there
+-- the steps before some index were done, and the evaluation ended there; for lack of memory one push may have been
+-- refused
 pub record EvaluatesSteps (setup : Setup) (text : Text) (log : Log) (steps : List Step) (ending : Ending)
     : Type 0 where
   pub refusal : Refusal
@@ -48,12 +48,12 @@ pub record EvaluatesSteps (setup : Setup) (text : Text) (log : Log) (steps : Lis
   pub ends : EndsAt index now (outcome_of setup refusal text now) (slice_get steps index) last
   pub ending_is : ending ≡ after_replies replies last
 
--- the ending of lines that spell these steps, or of lines with a bad one
+-- the ending for lines that spell these steps, or for lines of which one is bad
 abbrev pub EvaluatesSaid : Setup → Text → Result (List Step) ℕ → Ending → Type 0
 EvaluatesSaid setup text (Ok steps) ending = EvaluatesSteps setup text empty_log steps ending
 EvaluatesSaid setup text (Err number) ending = ending ≡ bad_step number
 
--- the ending of an input, with no limit on any list; or there was no memory for its steps
+-- the ending for an input, with no limit on any list; or there was no memory for its steps
 abbrev pub EvaluatesLines : Encoding → Text → (input : List ℕ) → Ending → Type 0
 EvaluatesLines encoding text input ending =
     EvaluatesSaid (setup_of encoding 64 None None None) text (steps_in text.is_big (lines_in input)) ending

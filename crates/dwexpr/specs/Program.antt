@@ -1,4 +1,4 @@
--- The ending of the program, by its words and its input.
+-- How the program ends, by its words and its input.
 use Rattle.std.specs.Prelude.{ℕ, ◌≡◌, ◌⊎◌, List, Option, Some, None, IfSome}
 use Rattle.std.specs.Io.KnownBytes.{Appends}
 use Rattle.dwarf_base.specs.ByteOrder.{is_big_of}
@@ -13,8 +13,8 @@ use Rattle.dwexpr.specs.Writing.{AppendsFront}
 use Rattle.dwexpr.specs.declared.words.Command.{Command}
 use Rattle.dwexpr.specs.declared.words.Command.TheVariants.{Ops, Eval}
 
--- the whole input was read, which is what the reader had left, if that is known; or a read failed, or memory was
--- refused
+-- either the whole input was read, which is all that the reader had left, if that is known; or a read failed, or memory
+-- was refused
 abbrev pub EvaluatesInput : Encoding → Text → (left : Option (List ℕ)) → Ending → Type 0
 EvaluatesInput encoding text left ending =
     ((input : List ℕ) × IfSome left (λ bytes. input ≡ bytes) × EvaluatesLines encoding text input ending)

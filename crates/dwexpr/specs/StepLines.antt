@@ -68,7 +68,7 @@ value_of_type number type.U32 = option_map value.U32 (option_and_then (below 32)
 value_of_type number type.I64 = option_map value.I64 (integer_in number)
 value_of_type number type.U64 = option_map value.U64 (number_in number)
 
--- what stands before the first byte of this kind, and what stands after it
+-- the bytes before the first such byte, and the bytes after it
 abbrev pub cut_at : (byte : ℕ) → List ℕ → Option (List ℕ × List ℕ)
 cut_at byte word =
     if nat_lt (position_or_len (λ b. b == byte) word) (length word)
@@ -98,7 +98,7 @@ lines_in input = lines_within (length input) input
 
 -- ---- steps
 
--- the kind of request that the answer with this name answers
+-- the kind of request that an answer of this name is for
 abbrev pub answer_kind_in : List ℕ → Option WaitingKind
 answer_kind_in name =
     lookup (bytes_eq name) ((codes "memory", kind.Memory) ∷ (codes "register", kind.Register)
@@ -142,7 +142,7 @@ said_then None more = Err 1
 said_then (Some step) (Ok steps) = Ok (step ∷ steps)
 said_then (Some step) (Err number) = Err (suc number)
 
--- a step for each line, or the number of the first line that is none, from 1
+-- a step for each line, or the number, from 1, of the first line that spells none
 abbrev pub steps_in : (big : Bool) → List (List ℕ) → Result (List Step) ℕ
 steps_in big [] = Ok []
 steps_in big (line ∷ lines) = said_then (step_in big line) (steps_in big lines)

@@ -43,13 +43,13 @@ version_in word = lookup (bytes_eq word) ((codes "2", 2) ∷ (codes "3", 3) ∷ 
 abbrev pub order_in : List ℕ → Option RunTimeEndian
 order_in word = lookup (bytes_eq word) ((codes "le", Little) ∷ (codes "be", Big) ∷ [])
 
--- all four
+-- how the bytes are read, if all four words are good
 abbrev pub decoding_context_of : Option ℕ → Option Format → Option ℕ → Option RunTimeEndian → Option DecodingContext
 decoding_context_of (Some size) (Some format) (Some version) (Some order) =
     Some (record { encoding = record { address_size = size; format = format; version = version }; order = order })
 decoding_context_of _ _ _ _ = None
 
--- how the bytes are read, by the four words about that
+-- how the bytes are read, from the four words that say it
 abbrev pub decoding_context_in : (size offsets version order : List ℕ) → Option DecodingContext
 decoding_context_in size offsets version order =
     decoding_context_of (address_size_in size) (format_in offsets) (version_in version) (order_in order)
@@ -62,13 +62,13 @@ pub record Invocation : Type 0 where
   pub context : DecodingContext
   pub bytes : List ℕ
 
--- all three
+-- what the words ask for, if all three parts are good
 abbrev pub invocation_by : Option Command → Option DecodingContext → Option (List ℕ) → Option Invocation
 invocation_by (Some command) (Some context) (Some bytes) =
     Some (record { command = command; context = context; bytes = bytes })
 invocation_by _ _ _ = None
 
--- six words, each of its form
+-- what the words ask for, if there are six and each is good
 abbrev pub invocation_in : List (List ℕ) → Option Invocation
 invocation_in (command ∷ size ∷ offsets ∷ version ∷ order ∷ hexadecimal ∷ []) =
     invocation_by (command_in command) (decoding_context_in size offsets version order) (bytes_in hexadecimal)

@@ -17,7 +17,7 @@ pub(crate) const FAILED: u8 = 1;
 /// The status if the words or the lines are wrong.
 const MISUSED: u8 = 2;
 
-/// Prints that the words aren't in the program's form.
+/// Prints that the words are wrong.
 pub(crate) fn bad_words<W: Write>(output: &mut W) -> io::Result<u8>
     ensures { WritesEnding (W.contents output.old) (W.contents output.new) endings.bad_words result }
 {

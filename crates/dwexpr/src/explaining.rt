@@ -12,7 +12,7 @@ use std::{fmt, io};
 
 /// A writer of the program's lines that can also explain what is wrong.
 pub trait Output: Write {
-    /// Explains why a word or a line is bad, or which read or write failed. The explanation is no part of the lines. By
+    /// Explains why a word or a line is bad, or which read or write failed. The explanation isn't part of the lines. By
     /// default it is dropped.
     fn complain<D: Display + Drop>(&mut self, complaint: D)
         ensures { Self.contents self.new ≡ Self.contents self.old }
@@ -52,7 +52,7 @@ impl<O: Write, E: Write> Output for Terminal<O, E> {
 /// The most bytes of a word or a line that are shown.
 const SHOWN: usize = 60;
 
-/// A word or a line, as an explanation shows it.
+/// A word or a line, quoted in an explanation.
 #[derive(Clone, Copy)]
 struct Shown<'a>(&'a [u8]);
 
@@ -90,7 +90,7 @@ impl Display for BadLine<'_> {
     }
 }
 
-/// Explains what the line may be.
+/// Says what the line should be.
 impl Display for BadStep {
     fn fmt<W: fmt::Write>(&self, f: &mut Formatter<W>) -> fmt::Result {
         let expected = match *self {

@@ -27,7 +27,7 @@ fn is_hexadecimal(word: &[u8]) -> bool
 }
 
 /// The bytes of a word of hexadecimal digits, of either case; `-` stands for no bytes. The word is checked before
-/// memory is taken, so `NoMemory` comes only for a good one.
+/// memory is allocated, so only a good word can give `NoMemory`.
 pub fn bytes_of<A: Allocator>(alloc: A, word: &str) -> Result<Vec<u8, A>, HexFault>
     ensures ok { IfOk result (λ bytes. bytes_in word.now ≡ Some bytes.items) }
     ensures bad { result ≡ Err HexFault.Bad → bytes_in word.now ≡ None }
@@ -54,7 +54,7 @@ pub fn bytes_of<A: Allocator>(alloc: A, word: &str) -> Result<Vec<u8, A>, HexFau
 /// Why words or lines weren't read.
 #[derive(Clone, Copy)]
 pub(crate) enum InputFault<B> {
-    /// They are bad; this says in what way.
+    /// They are bad, for this reason.
     Bad(B),
     /// Memory for them was refused.
     NoMemory,
@@ -68,7 +68,7 @@ impl<B> From<B> for InputFault<B> {
     }
 }
 
-/// The bytes of a word, or `bad` if the word isn't in their form.
+/// The bytes of a word, or `bad` if the word isn't hexadecimal digits or `-`.
 pub(crate) fn bytes_or<A: Allocator, B: Drop>(
     alloc: A,
     word: &str,

@@ -19,7 +19,7 @@ use dwarf_value::Value;
 use std::io;
 use std::io::Write;
 
-/// The name of a fault, and the number that it carries, if it has one.
+/// The name of a fault, and its number if it carries one.
 fn words_of(error: Error) -> (&'static str, Option<u64>)
     ensures { fault_words (fault_of error)
         ≡ result.0.now ∷ option_map_or (λ number. decimal number ∷ []) result.1 [] }

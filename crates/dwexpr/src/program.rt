@@ -97,7 +97,7 @@ fn print_outcome<'a, S: EvaluationStorage<Bytes<'a>>, W: Write>(
     }
 }
 
-/// Prints what comes after the answers. If a step isn't allowed, it explains which line it is.
+/// Prints what follows the answers. If a step isn't allowed, it explains which line that step is.
 fn print_end<A: Allocator + Copy, W: Output>(
     output: &mut W,
     evaluation: &Evaluation<Bytes<'_>, StoreOnHeap<A>>,
@@ -123,7 +123,7 @@ fn print_end<A: Allocator + Copy, W: Output>(
     }
 }
 
-/// Does the steps on the bytes. Prints each answer, and then the pieces and the value. `lines` are the steps' lines.
+/// Evaluates the bytes by the steps, which `lines` spell. Prints each answer, and then the pieces and the value.
 fn evaluate<'a, A: Allocator + Copy, W: Output>(
     alloc: A,
     bytes: &'a [u8],
@@ -168,7 +168,7 @@ fn refuse_lines<W: Output>(output: &mut W, fault: InputFault<BadLine<'_>>) -> io
     }
 }
 
-/// Reads the lines as steps, and evaluates the bytes in them.
+/// Reads the lines as steps, and evaluates the bytes by them.
 fn run_lines<'a, A: Allocator + Copy + 'a, W: Output>(
     alloc: A,
     bytes: &'a [u8],
@@ -189,7 +189,7 @@ fn run_lines<'a, A: Allocator + Copy + 'a, W: Output>(
     }
 }
 
-/// Reads the input, and evaluates the bytes in its steps.
+/// Reads the input, and evaluates the bytes by its steps.
 fn run_eval<A: Allocator + Copy, I: Read + Drop, W: Output>(
     alloc: A,
     bytes: &[u8],
@@ -205,7 +205,7 @@ fn run_eval<A: Allocator + Copy, I: Read + Drop, W: Output>(
         × WritesEnding (W.contents output.old) (W.contents output.new) ending result }
 {
     let mut lines = Vec::new(alloc);
-    // A failed read and a list that can't grow may both lack memory. The reader tells which of them it was.
+    // Both a failed read and a list that can't grow may report a lack of memory. The reader knows which it was.
     let mut input = WatchedReader {
         reader,
         failed: false,
@@ -247,7 +247,7 @@ fn run_words<A: Allocator + Copy, I: Read + Drop, W: Output>(
     }
 }
 
-/// The status of what was printed. Explains a failed write.
+/// The exit status. Explains a failed write.
 fn status_of<W: Output>(printed: io::Result<u8>, output: &mut W) -> u8
     ensures status { result ≡ result_unwrap_or printed 1 }
     ensures nothing { W.contents output.new ≡ W.contents output.old }
@@ -282,13 +282,13 @@ pub(crate) fn run_without_words<W: Output>(error: io::Error, output: &mut W) -> 
 /// Runs the program on the words after its name, and returns its exit status.
 ///
 /// `ops ADDR OFFSET VERSION ORDER HEX` lists the operations in the bytes HEX: the place, the bytes and the name of
-/// each, or the place and the fault if there is one. `eval ADDR OFFSET VERSION ORDER HEX` evaluates the bytes HEX in
+/// each, or the place and the fault if there is one. `eval ADDR OFFSET VERSION ORDER HEX` evaluates the bytes HEX by
 /// the steps that the lines of `input` spell. It reads and checks all lines first, and then does their steps in order.
 /// It prints a line for each answer and, if the evaluation is complete at the end, its pieces and its value.
 ///
-/// The status is 0. It is 1 if the evaluation or the decoding failed, a read or a write failed, or memory was refused.
-/// It is 2 if the words or a line are bad, or a step isn't allowed where it stands. `output` also gets an explanation
-/// of which word or line is wrong, or which read or write failed. Any writer can be the output, if it is borrowed:
+/// The status is 1 if the evaluation or the decoding failed, a read or a write failed, or memory was refused. It is 2
+/// if the words or a line are bad, or a step isn't allowed where it stands. Otherwise it is 0. `output` also gets an
+/// explanation of which word or line is wrong, or which read or write failed. Any borrowed writer can be the output:
 /// `&mut &mut writer`.
 pub fn run<A: Allocator + Copy, I: Read + Drop, W: Output>(
     alloc: A,

@@ -65,7 +65,7 @@ fn value(word: &str) -> Result<Value, BadStep>
     value_of(word).ok_or(BadStep::Value)
 }
 
-/// The name of each answer, the form of its word, and the kind of request that it answers.
+/// The name of each answer, the form of its word, and the kind of request that it is for.
 pub(crate) const ANSWERS: [(&str, &str, WaitingKind); 12] = [
     ("memory", "V", WaitingKind::Memory),
     ("register", "V", WaitingKind::Register),
@@ -81,7 +81,7 @@ pub(crate) const ANSWERS: [(&str, &str, WaitingKind); 12] = [
     ("type", "T", WaitingKind::BaseType),
 ];
 
-/// The kind of request that the answer with this name answers.
+/// The kind of request that an answer of this name is for.
 fn kind_of(name: &str) -> Option<WaitingKind>
     ensures { result ≡ spec.answer_kind_in name.now }
 {
@@ -93,7 +93,7 @@ fn kind_of(name: &str) -> Option<WaitingKind>
     None
 }
 
-/// The answer of this kind with this word. A text is read in this byte order, and kept until the program ends.
+/// The answer of this kind with this word. A text gets this byte order, and is kept until the program ends.
 fn answer<'t, A: Allocator + 't>(
     alloc: A,
     order: RunTimeEndian,
@@ -153,7 +153,7 @@ fn text_step<'t, A: Allocator + 't>(
     }
     match text.split_once(' ') {
         Some((name, word)) => named_step(alloc, order, name, word),
-        // No step has an empty word, so the text is bad in the way of its missing word.
+        // No step has an empty word, so this gives the fault of the missing word.
         None => Err(InputFault::Bad(match named_step(alloc, order, text, "") {
             Err(InputFault::Bad(fault)) => fault,
             _ => BadStep::Unknown,
@@ -184,8 +184,8 @@ pub(crate) struct BadLine<'a> {
     pub(crate) fault: BadStep,
 }
 
-/// The steps that the lines of the input spell; their texts are read in this byte order. The first line that is no step
-/// or has no memory decides.
+/// The steps that the lines of the input spell. Their texts get this byte order. The first line that is no step, or for
+/// which memory is refused, decides the fault.
 pub(crate) fn steps_in<'i, 't, A: Allocator + Copy + 't>(
     alloc: A,
     order: RunTimeEndian,

@@ -1,4 +1,4 @@
-//! Tests of `run` with std's readers and writers, and with readers and writers that fail after each number of bytes.
+//! Tests of `run` with std's reader and writer, and with readers and writers that fail after every number of bytes.
 use crate::program::run;
 use std::alloc::{AllocError, Global};
 use std::io;
@@ -44,7 +44,7 @@ impl Write for Sink {
     }
 }
 
-/// The words, the input, if it is read, the output and the status.
+/// The words, the input if it is read, the output, and the status.
 struct Row {
     words: &'static str,
     input: Option<&'static str>,

@@ -137,7 +137,7 @@ fn order(word: &str) -> Result<RunTimeEndian, BadWords<'_>>
     }
 }
 
-/// How the bytes are read, by the four words about that.
+/// How the bytes are read, from the four words that say it.
 fn decoding_context_of(words: Words<'_>) -> Result<DecodingContext, BadWords<'_>>
     ensures exact { result_ok result ≡ decoding_context_in words.entry.address_size.now
         words.entry.offset_size.now words.entry.version.now words.entry.order.now }
@@ -166,7 +166,7 @@ pub(crate) struct Invocation<A: Allocator> {
     pub(crate) bytes: Vec<u8, A>,
 }
 
-/// What the words ask for. Only their bytes take memory, and only if all words are good.
+/// What the words ask for. Memory is allocated only for the bytes, and only if all words are good.
 pub(crate) fn invocation_of<A: Allocator>(
     alloc: A,
     words: &[String<A>],

@@ -14,7 +14,7 @@ use std::io::{ErrorKind, Write};
 /// Bytes in the byte order that the words ask for.
 pub(crate) type Bytes<'a> = EndianSlice<'a, RunTimeEndian>;
 
-/// Writes the bytes. `write!` can't be used: after a refused write nothing is known of what it wrote.
+/// Writes the bytes. `write!` wouldn't do: after a failed write, its contract doesn't say what was written.
 fn put<W: Write>(output: &mut W, bytes: &[u8]) -> io::Result<()>
     ensures { Prints (W.contents output.old) (W.contents output.new) bytes.now result }
 {
@@ -86,7 +86,7 @@ fn put_digits<W: Write>(output: &mut W, base: u64, number: u64) -> io::Result<()
     put(output, &buffer[start..])
 }
 
-/// Writes lower case digits after the prefix.
+/// Writes the prefix, and the number in lower case digits of this base.
 fn put_number<W: Write>(output: &mut W, prefix: &str, base: u64, number: u64) -> io::Result<()>
     requires least { 2 ≤ base }
     requires most { base ≤ 16 }
@@ -97,7 +97,7 @@ fn put_number<W: Write>(output: &mut W, prefix: &str, base: u64, number: u64) ->
     put_digits(output, base, number)
 }
 
-/// Writes a minus sign, if the number is negative, and decimal digits, after the prefix.
+/// Writes the prefix, a minus sign if the number is negative, and decimal digits.
 fn put_integer<W: Write>(output: &mut W, prefix: &str, number: i64) -> io::Result<()>
     ensures { Prints (W.contents output.old) (W.contents output.new)
         (prefix.now ++ signed_decimal number) result }
@@ -171,7 +171,7 @@ fn put_word<W: Write>(output: &mut W, word: Word<'_>) -> io::Result<()>
     }
 }
 
-/// Writes the end of a line: a blank before each word, and a line feed.
+/// Writes the rest of a line: a blank before each word, and a line feed.
 fn put_ending<W: Write>(output: &mut W, words: &[Word<'_>]) -> io::Result<()>
     ensures { Prints (W.contents output.old) (W.contents output.new)
         (ending (map word_text words.now)) result }
@@ -183,7 +183,7 @@ fn put_ending<W: Write>(output: &mut W, words: &[Word<'_>]) -> io::Result<()>
     put_text(output, "\n")
 }
 
-/// Writes a line: the first word, a blank before each further one, and a line feed.
+/// Writes a line: the first word, a blank before each further word, and a line feed.
 pub(crate) fn put_line<W: Write>(output: &mut W, first: &str, words: &[Word<'_>]) -> io::Result<()>
     ensures { Prints (W.contents output.old) (W.contents output.new)
         (line first.now (map word_text words.now)) result }

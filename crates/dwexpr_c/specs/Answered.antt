@@ -23,7 +23,7 @@ use Rattle.dwexpr_c.specs.declared.texts.DwexprText.{DwexprText}
 
 -- ---- what is shown of a call
 
--- the outcome by where an evaluation stands; none before it is started
+-- the outcome, by the evaluation's status; none before it is started
 abbrev pub outcome_in : State → Status → Option Outcome
 outcome_in x (RequestStatus request on_answer) =
     Some (RequestOutcome request (record { text = x.text; place = x.place } ∷ x.callers))
@@ -41,7 +41,7 @@ LacksBytes texts (Some (RequestOutcome request positions)) old new =
 LacksBytes texts (Some (CompleteOutcome pieces value)) old new = SomeNowhere texts pieces
 LacksBytes texts _ old new = ⊥
 
--- the outcome is shown, or that the texts lack bytes of it
+-- the outcome is shown, or the code for bytes that the texts lack
 abbrev pub ShowsCall : List DwexprText → Option Outcome → (out : DwexprOutcome) → (old new : List DwexprPiece) → Type 0
 ShowsCall texts outcome out old new =
     ShowsOutcome texts outcome out old new
@@ -49,12 +49,12 @@ ShowsCall texts outcome out old new =
 
 -- ---- what an answer does
 
--- the numbers say no answer, for this code, or one that isn't allowed
+-- the numbers stand for no answer, which has this code, or for an answer that isn't allowed
 abbrev pub IsRefused : Result Answer ℕ → (code : ℕ) → Status → Type 0
 IsRefused (Err refused) code status = code ≡ refused
 IsRefused (Ok answer) code status = (code ≡ codes.MISPLACED) × (MayTake (Resume answer) status → ⊥)
 
--- it isn't taken, which changes nothing, and the code is shown
+-- the answer isn't taken: nothing is changed, and the code is shown
 pub record Refuses (said : Result Answer ℕ) (before after : State) (out : DwexprOutcome)
     (old new : List DwexprPiece) : Type 0 where
   pub code : ℕ
@@ -63,20 +63,20 @@ pub record Refuses (said : Result Answer ℕ) (before after : State) (out : Dwex
   pub shown : out ≡ ended_outcome code 0
   pub kept : new ≡ old
 
--- the evaluation went on with the answer, and what that came to is shown
+-- the evaluation went on with the answer, and its new outcome is shown
 pub record Takes (texts : List DwexprText) (answer : Answer) (before after : State) (out : DwexprOutcome)
     (old new : List DwexprPiece) : Type 0 where
   pub result : Result (EvaluationResult Placed ℕ ℕ) Error
   pub called : HasReplied text_of_placed (λ x. x) (Resume answer) before after result
   pub shown : ShowsCall texts (outcome_at after) out old new
 
--- the answer that the numbers say is taken, or it isn't
+-- the answer that the numbers stand for is taken, or it isn't
 abbrev pub TakesOrRefuses : List DwexprText → Result Answer ℕ → (before after : State) → (out : DwexprOutcome)
     → (old new : List DwexprPiece) → Type 0
 TakesOrRefuses texts said before after out old new =
     IsOkAnd said (λ answer. Takes texts answer before after out old new) ⊎ Refuses said before after out old new
 
--- and the byte order stays
+-- an answer is taken or refused, and the byte order stays
 pub record HasResumed (texts : List DwexprText) (numbers : DwexprAnswer) (before after : Held) (out : DwexprOutcome)
     (old new : List DwexprPiece) : Type 0 where
   pub order : after.order ≡ before.order
@@ -85,7 +85,7 @@ pub record HasResumed (texts : List DwexprText) (numbers : DwexprAnswer) (before
 
 -- ---- one more answer than those so far
 
--- if it is allowed, it was given after those steps; else nothing changed
+-- if the answer is allowed, it was given after those steps; else nothing changed
 abbrev pub DoesMore : (first : State) (steps : List Step) → Result Answer ℕ → (before after : State)
     → HasDone first steps before → Type 0
 DoesMore first steps (Ok answer) before after done =
@@ -93,14 +93,14 @@ DoesMore first steps (Ok answer) before after done =
     ⊎ ((Allows done.log (outcome_by first done.log) (Resume answer) → ⊥) × (after ≡ before))
 DoesMore first steps (Err code) before after done = after ≡ before
 
--- and the outcome of all is shown
+-- the answer is added, and the outcome of all steps is shown
 pub record AddsAnswer (texts : List DwexprText) (said : Result Answer ℕ) (before after : State) (out : DwexprOutcome)
     (old new : List DwexprPiece) (first : State) (steps : List Step) (done : HasDone first steps before) : Type 0 where
   pub more : DoesMore first steps said before after done
   pub shown : IfOk said (λ answer. (all : HasDone first (steps ++ Resume answer ∷ []) after)
       → ShowsCall texts (outcome_by first all.log) out old new)
 
--- whichever steps led to where it stood, this answer is added to them
+-- whichever steps led to the state before, this answer is added to them
 abbrev pub GoesOn : List DwexprText → DwexprAnswer → (before after : Held) → (out : DwexprOutcome)
     → (old new : List DwexprPiece) → Type 0
 GoesOn texts numbers before after out old new =

@@ -45,7 +45,7 @@ pub record IsPlaced (texts : List DwexprText) (text offset : ℕ) (block : List 
 abbrev pub IsNowhere : List DwexprText → (block : List ℕ) → Type 0
 IsNowhere texts block = (text offset : ℕ) → IsPlaced texts text offset block → ⊥
 
--- a block is asked about that is nowhere
+-- the request names bytes that are nowhere
 abbrev pub AsksNowhere : List DwexprText → Reply → Type 0
 AsksNowhere texts (RequestReply (requests.RequiresEntryValue expression)) = IsNowhere texts expression.bytes
 AsksNowhere texts _ = ⊥
@@ -55,6 +55,6 @@ abbrev pub HoldsNowhere : List DwexprText → Location → Type 0
 HoldsNowhere texts (HoldsBytes value) = IsNowhere texts value.bytes
 HoldsNowhere texts _ = ⊥
 
--- one of the pieces has
+-- one of the pieces has bytes that are nowhere
 abbrev pub SomeNowhere : List DwexprText → List Piece → Type 0
 SomeNowhere texts pieces = Any (λ piece. HoldsNowhere texts piece.location) pieces

@@ -143,7 +143,7 @@ abbrev pub decoded_operation : (offset opcode size : ℕ) → Operation → Dwex
 decoded_operation offset opcode size op =
     record (with_block (offset + size) (block_in op) (operands_of op)) { offset = offset; opcode = opcode; size = size }
 
--- the shown operation, by the operation or fault that is read at the offset, where `left` bytes are left
+-- the shown operation, by the operation or fault that is read at the offset; `left` bytes are there to read
 abbrev pub Decodes : (offset opcode left : ℕ) → Result (Operation × List ℕ) Fault → DwexprOperation → Type 0
 Decodes offset opcode left (Ok read) shown = shown ≡ decoded_operation offset opcode (left - length read.1) read.0
 Decodes offset opcode left (Err fault) shown =

@@ -21,6 +21,6 @@ encoding_in e = record {
   version = e.version;
 }
 
--- whether the first byte of a number is its highest
+-- whether the most significant byte of a number comes first
 abbrev pub is_big_in : DwexprEncoding → Bool
 is_big_in e = e.big_endian == 1

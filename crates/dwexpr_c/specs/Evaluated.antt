@@ -1,4 +1,4 @@
--- What an expression comes to with the settings of a caller in C (DWARF 5, sections 2.5 and 2.6).
+-- The outcome of an expression with the settings of a caller in C (DWARF 5, sections 2.5 and 2.6).
 use Rattle.std.specs.Prelude.{◌≡◌, List, Option, Some, None, length}
 use Rattle.dwarf_base.specs.declared.common.Encoding.{Encoding}
 use Rattle.dwarf_base.specs.Reads.{Text}
@@ -36,7 +36,7 @@ outcome_by first log = outcome_of first.setup Never first.text log
 abbrev pub comes_of : State → List Step → Option Outcome
 comes_of first steps = outcome_by first (log_by first steps)
 
--- what is shown of the outcome, and of the places for pieces
+-- what is shown of the outcome, and what is written to the caller's array of pieces
 abbrev pub ShowsOutcome : List DwexprText → Option Outcome → DwexprOutcome → (old new : List DwexprPiece) → Type 0
 ShowsOutcome texts (Some (RequestOutcome request positions)) out old new = ShowsRequest texts request out × (new ≡ old)
 ShowsOutcome texts (Some (CompleteOutcome pieces value)) out old new =
@@ -45,7 +45,7 @@ ShowsOutcome texts (Some (FaultOutcome fault)) out old new =
     (out ≡ ended_outcome (code_of_fault fault) (number_of_fault fault)) × (new ≡ old)
 ShowsOutcome texts None out old new = ⊥
 
--- each of the steps is allowed when it comes, and their outcome is shown
+-- each of the steps is allowed in its turn, and their outcome is shown
 pub record Evaluates (first : State) (texts : List DwexprText) (steps : List Step) (out : DwexprOutcome)
     (old new : List DwexprPiece) : Type 0 where
   pub allowed : AllAllowed first.setup Never first.text (log_at first) steps

@@ -1,4 +1,4 @@
--- Where an evaluation stands that is held between the calls of a caller in C (DWARF 5, section 2.5).
+-- The state of an evaluation that is held between the calls of a caller in C (DWARF 5, section 2.5).
 use Rattle.std.specs.Prelude.{◌≡◌, false, List, [], Option, None, Some, IsSomeAnd}
 use Rattle.dwarf_base.specs.declared.common.Encoding.{Encoding}
 use Rattle.dwarf_base.specs.declared.common.Format.TheVariants.{Dwarf32}
@@ -27,7 +27,7 @@ IsBegun handle = IsSomeAnd handle (λ held. HasCapacities held.evaluation)
 abbrev pub first_encoding : Encoding
 first_encoding = record { address_size = 8; format = Dwarf32; version = 5 }
 
--- it has no bytes, in the little byte order, and nothing was set or done
+-- it has no bytes and is little-endian, and nothing was set or done
 pub record IsUnstarted (held : Held) : Type 0 where
   pub status : held.evaluation.status ≡ Start None
   pub setup : held.evaluation.setup ≡ limited_setup first_encoding
@@ -38,9 +38,8 @@ pub record IsUnstarted (held : Held) : Type 0 where
 
 -- ---- the steps so far
 
--- These steps were done, each allowed when it came, and led here, as `replay` does them. It stands where they lead,
--- with the last settings unless it met a fault; and what is left gives, for all answers to come, what the meaning
--- gives.
+-- These steps were done, each allowed in its turn, and led to the new state, as `replay` does them. The state is where
+-- they lead, and has the last settings unless it met a fault. For all answers to come, it goes on as the meaning says.
 pub record HasDone (first : State) (steps : List Step) (new : State) : Type 0 where
   pub replies : List Reply
   pub log : Log
@@ -51,7 +50,7 @@ pub record HasDone (first : State) (steps : List Step) (new : State) : Type 0 wh
   pub settings : faults_in new.status ≡ 0 → new.store.settings ≡ log.now.settings
   pub spends : Spends (initial_items steps) first new
 
--- it stands where the steps of the first of the texts lead; without a text it is as it was
+-- it is where the steps lead for the first of the texts; without a text it is unchanged
 abbrev pub StandsAfterFirst : Encoding → (first : Option Text) → List Step → (before after : Held) → Type 0
 StandsAfterFirst encoding None steps before after = after ≡ before
 StandsAfterFirst encoding (Some text) steps before after =

@@ -1,4 +1,4 @@
--- Requests, their answers, and what comes out, in the numbers of a caller in C (DWARF 5, sections 2.5 and 2.6).
+-- Requests, answers and results, in the numbers of a caller in C (DWARF 5, sections 2.5 and 2.6).
 use Rattle.std.specs.Prelude.{ℕ, ◌≡◌, List, Option, Some, None, length, ◌≤◌, pos, IfSome, is_some, slice_get, unwrap_or, ◌==◌, Bool, Result, Ok, Err, if◌then◌else◌}
 use Rattle.dwarf_value.specs.declared.types.Value.{Value}
 use Rattle.dwarf_meaning.specs.Operations as operations
@@ -48,7 +48,7 @@ request_outcome request number = record blank_outcome { request = request; numbe
 abbrev pub ended_outcome : (code number : ℕ) → DwexprOutcome
 ended_outcome code number = record blank_outcome { code = code; detail = number }
 
--- a request and what it names, but for a block
+-- a request and its fields, without its block
 abbrev pub shown_request : Request → DwexprOutcome
 shown_request (requests.RequiresMemory address size None base_type) =
     record (request_outcome shown.WANTS_MEMORY address) { size = size; base_type = base_type }
@@ -101,12 +101,12 @@ complete_outcome pieces (Some value) =
 
 -- ---- answers
 
--- an answer with what the numbers say, or the code if they say nothing
+-- an answer with what the numbers stand for, or the code if they stand for nothing
 abbrev pub answer_or : {X : Type 0} → (X → requests.Answer) → Option X → (code : ℕ) → Result requests.Answer ℕ
 answer_or answer None code = Err code
 answer_or answer (Some x) code = Ok (answer x)
 
--- the answer that the numbers say, or the code if they say none
+-- the answer that the numbers stand for, or the code if they stand for none
 abbrev pub answer_coded : (big : Bool) → List DwexprText → DwexprAnswer → Result requests.Answer ℕ
 answer_coded big texts answer =
     let value = value_coded answer.value_type answer.number in

@@ -7,7 +7,7 @@ use denote.RattleType.{RattleType}
 use denote.Signature.{static_lft}
 use Rattle.dwexpr_c.specs.contracts.held.Held.{the_row}
 
--- an evaluation of texts that stay until the end
+-- an evaluation of texts that stay until the program ends
 abbrev pub held_row : RattleType
 held_row = the_row static_lft
 

@@ -1,4 +1,4 @@
--- The settings of a start as the steps that they stand for.
+-- The steps that a caller's settings stand for.
 use Rattle.std.specs.Prelude.{ℕ, ◌==◌, List, [], ◌∷◌, ◌++◌, if◌then◌else◌}
 use Rattle.dwarf_meaning.specs.Steps.{Evaluate, InitialValue, MaxIterations, ObjectAddress, Step}
 use Rattle.dwexpr_c.specs.declared.settings.DwexprSettings.{DwexprSettings}

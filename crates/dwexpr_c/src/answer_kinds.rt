@@ -1,4 +1,4 @@
-//! The kinds of answers, by the numbers that C has for them.
+//! The kinds of answers, by their numbers in C.
 
 pub(crate) const ANSWER_MEMORY: u32 = 1;
 

@@ -1,4 +1,4 @@
-//! Answers in numbers, and the resumes that take them.
+//! Answers as numbers, and the resumes that take them.
 
 ghost use Rattle.std.specs.Prelude.{◌≡◌, IfErr, IfOk, IsOkAnd, ok_or};
 ghost use Rattle.dwarf_base.specs.ByteOrder.{is_big_of};
@@ -23,7 +23,7 @@ use dwarf_eval::op::EvaluationResult;
 use dwarf_eval::store::EvaluationStorage;
 use dwarf_value::{Value, ValueType};
 
-/// The answer to a request, in the numbers of a caller, of which any may be wrong.
+/// The answer to a request, as a caller's numbers. Any of them may be wrong.
 #[repr(C)]
 #[derive(Clone, Copy)]
 pub struct DwexprAnswer {
@@ -37,10 +37,10 @@ pub struct DwexprAnswer {
     pub text: usize,
 }
 
-/// What a call of an evaluation replies.
+/// The reply of a call of an evaluation.
 pub(crate) type Reply<'a> = Result<EvaluationResult<Placed<'a>>, Error>;
 
-/// The value of an answer, or the code if its numbers say none.
+/// The value of an answer, or `BAD_ANSWER` if its numbers stand for no value.
 #[inline(always)]
 fn value_in(answer: &DwexprAnswer) -> Result<Value, u32>
     ensures { result ≡ ok_or (value_coded answer.now.value_type answer.now.number) codes.BAD_ANSWER }
@@ -48,7 +48,7 @@ fn value_in(answer: &DwexprAnswer) -> Result<Value, u32>
     value_of(answer.value_type, answer.number).ok_or(BAD_ANSWER)
 }
 
-/// The type of an answer, or the code if its number says none.
+/// The type of an answer, or `BAD_ANSWER` if its number stands for no type.
 #[inline(always)]
 fn type_in(answer: &DwexprAnswer) -> Result<ValueType, u32>
     ensures { result ≡ ok_or (type_coded answer.now.value_type) codes.BAD_ANSWER }
@@ -56,7 +56,7 @@ fn type_in(answer: &DwexprAnswer) -> Result<ValueType, u32>
     type_of_code(answer.value_type).ok_or(BAD_ANSWER)
 }
 
-/// The text of an answer, or the code if there is none at its index.
+/// The text of an answer, or `BAD_TEXT` if there is no text at its index.
 #[inline(always)]
 fn text_in<'a>(
     texts: &[DwexprText<'a>],
@@ -71,7 +71,7 @@ fn text_in<'a>(
     text_at(texts, order, answer.text).ok_or(BAD_TEXT)
 }
 
-/// Whether the evaluation takes an answer of a kind, or the code if it doesn't.
+/// `Ok` if the evaluation takes an answer of this kind, or `MISPLACED` if it doesn't.
 #[inline(always)]
 fn allow<'a, S: EvaluationStorage<Placed<'a>>>(
     evaluation: &Evaluation<Placed<'a>, S>,
@@ -88,7 +88,8 @@ fn allow<'a, S: EvaluationStorage<Placed<'a>>>(
     }
 }
 
-/// Goes on with an answer; or the code if its numbers say none or it isn't allowed, which changes nothing.
+/// Goes on with an answer, and returns the reply. If the numbers stand for no answer, or the answer isn't allowed, it
+/// changes nothing and returns a code.
 #[inline(always)]
 pub(crate) fn resume_with<'a, S: EvaluationStorage<Placed<'a>>>(
     evaluation: &mut Evaluation<Placed<'a>, S>,

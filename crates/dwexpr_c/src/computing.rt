@@ -15,14 +15,14 @@ use crate::values::{
 use dwarf_base::{DwAte, EndianSlice, Result, RunTimeEndian};
 use dwarf_value::{Value, ValueType, is_addr_mask};
 
-/// The value that these numbers stand for.
+/// The value that these numbers stand for, if they stand for one.
 fn value_in(numbers: DwexprValue) -> Option<Value>
     ensures { result ≡ calls.value_in numbers }
 {
     value_of(numbers.value_type, numbers.content)
 }
 
-/// Shows the result of a call: its code, and its value.
+/// Writes the value of a call to `shown`, and returns the call's code.
 fn show(computed: Option<Result<Value>>, shown: &mut DwexprValue) -> u32
     ensures { calls.Answers computed result shown.new }
 {
@@ -206,7 +206,7 @@ pub extern "C" fn dwexpr_type_bit_size(value_type: u32, addr_mask: u64) -> u32
     }
 }
 
-/// The type of the values of a base type, by its `DW_AT_encoding` and its size in bytes; 0 if there is none (DWARF 5,
+/// The type of values for a base type with this `DW_AT_encoding` and this size in bytes; 0 if there is none (DWARF 5,
 /// section 5.1).
 #[unsafe(no_mangle)]
 pub extern "C" fn dwexpr_type_from_encoding(encoding: u8, byte_size: u64) -> u32

@@ -37,8 +37,8 @@ fn decode_at(
 
 /// Decodes the operation that begins at an offset of the bytes (DWARF 5, sections 2.5 and 7.7.1).
 ///
-/// It returns 0 or a code. A fault of the bytes has a code from 1 to 21. An encoding that isn't allowed is 64; else an
-/// offset that has no byte is 65. `operation` is always written; its `fault` is the code.
+/// It returns 0 or a code. A fault of the bytes has a code from 1 to 21. The code is 64 if the encoding isn't allowed;
+/// else 65 if there is no byte at the offset. `operation` is always written; its `fault` is the code.
 #[tactic(auto, using(crate::proofs::DecodedBlocks::block_shown))]
 #[unsafe(no_mangle)]
 pub extern "C" fn dwexpr_decode(

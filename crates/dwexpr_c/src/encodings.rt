@@ -14,7 +14,7 @@ pub struct DwexprEncoding {
     pub address_size: u8,
     /// The size of an offset in bytes, 4 or 8.
     pub offset_size: u8,
-    /// 0 if the lowest byte of a number comes first, 1 if the highest does.
+    /// 0 if the least significant byte of a number comes first, 1 if the most significant byte does.
     pub big_endian: u8,
     /// The version of DWARF, 2 to 5.
     pub version: u8,

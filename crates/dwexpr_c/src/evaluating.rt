@@ -1,4 +1,4 @@
-//! An evaluation with a caller's settings, and what is shown of a reply.
+//! Evaluates with a caller's settings, and shows the replies.
 
 ghost use Rattle.std.specs.Prelude.{◌≡◌, None};
 ghost use Rattle.dwarf_eval.specs.Evaluation.{IsComplete, IsReplied, reply_of};
@@ -30,7 +30,8 @@ pub(crate) fn end(fault: FaultNumbers, outcome: &mut DwexprOutcome)
     *outcome = show_end(fault);
 }
 
-/// Shows the value and the pieces of a complete evaluation, or that bytes of a piece are in none of the texts.
+/// Shows the value and the pieces of a complete evaluation. If none of the texts has the bytes of a piece, it shows
+/// that.
 #[inline(always)]
 fn show_results<'a, S: EvaluationStorage<Placed<'a>>>(
     evaluation: &Evaluation<Placed<'a>, S>,
@@ -71,7 +72,7 @@ pub(crate) fn show_reply<'a, S: EvaluationStorage<Placed<'a>>>(
     }
 }
 
-/// Sets what the settings of a fresh evaluation say, and starts it.
+/// Applies the settings to a fresh evaluation, and starts it.
 #[inline(always)]
 fn start<'a, S: EvaluationStorage<Placed<'a>>>(
     evaluation: &mut Evaluation<Placed<'a>, S>,
@@ -92,7 +93,7 @@ fn start<'a, S: EvaluationStorage<Placed<'a>>>(
     evaluation.evaluate()
 }
 
-/// Shows what a fresh evaluation with settings comes to.
+/// Starts a fresh evaluation with the settings, and shows its reply.
 #[inline(always)]
 pub(crate) fn evaluate<'a, S: EvaluationStorage<Placed<'a>>>(
     evaluation: &mut Evaluation<Placed<'a>, S>,

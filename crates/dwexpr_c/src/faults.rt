@@ -56,20 +56,20 @@ pub(crate) const STACK_FULL: u32 = 21;
 /// The code for an encoding that isn't allowed.
 pub(crate) const BAD_ENCODING: u32 = 64;
 
-/// The code of an offset at which there is no byte.
+/// The code for an offset at which there is no byte.
 pub(crate) const BAD_OFFSET: u32 = 65;
 
-/// The code of a text that isn't there.
+/// The code for an index at which there is no text.
 pub(crate) const BAD_TEXT: u32 = 66;
 
-/// The code of an answer whose numbers say none.
+/// The code for numbers that stand for no answer.
 pub(crate) const BAD_ANSWER: u32 = 67;
 
-/// The code of an answer that isn't allowed: no request of its kind is open.
+/// The code for an answer that isn't allowed: no request of its kind is open.
 pub(crate) const MISPLACED: u32 = 68;
 
-/// The code of bytes that are in none of the texts. Only an evaluation that is held and is given other texts answers
-/// it.
+/// The code for bytes that are in none of the texts. It is only returned if the caller passes other texts to a held
+/// evaluation than before.
 pub(crate) const LOST_TEXT: u32 = 69;
 
 /// The code for numbers that stand for no value, no operation on values or no mask; 70 is a code of the driver in C.

@@ -31,7 +31,7 @@ pub struct Held<'a> {
     pub(crate) order: RunTimeEndian,
 }
 
-/// An evaluation of no bytes, as it is before its first start.
+/// An evaluation of no bytes, for the time before the first start.
 pub(crate) fn fresh_held<'a>() -> Held<'a>
     ensures { IsUnstarted result }
 {
@@ -60,7 +60,7 @@ pub struct DwexprMemory {
     byte: u8,
 }
 
-/// A caller's handle of an evaluation: the address of its memory. Only contracts see the evaluation.
+/// A caller's handle of an evaluation: the address of its memory. The field `held` exists only for contracts.
 #[repr(C)]
 #[derive(Drop)]
 pub struct DwexprEvaluation {

@@ -1,4 +1,4 @@
-//! The calls on an evaluation that is held.
+//! The calls on a held evaluation.
 
 ghost use Rattle.std.specs.Mem.{type_size};
 ghost use Rattle.std.specs.Prelude.{◌≡◌, IsSomeAnd, None};
@@ -23,7 +23,7 @@ use crate::settings::DwexprSettings;
 use crate::starting::evaluate_first;
 use crate::texts::DwexprText;
 
-/// Goes on with an answer, and shows what that came to.
+/// Goes on with an answer, and shows the reply.
 #[inline(always)]
 fn resume(
     held: &mut Held<'static>,
@@ -60,12 +60,11 @@ pub extern "C" fn dwexpr_evaluation_begin(evaluation: &mut DwexprEvaluation)
     evaluation.fill(fresh_held());
 }
 
-/// Evaluates an expression, the first of the texts, with settings, to a request or to the end (DWARF 5, sections 2.5 and
-/// 2.6). The evaluation then stands where that leads.
+/// Evaluates the first of the texts, with settings, to a request or to the end (DWARF 5, sections 2.5 and 2.6).
 ///
-/// It answers 0, the code of a fault of the expression, 1 to 21, or of an argument, 64 and above. `outcome` is written
-/// in each case, and its `code` is that. If it is 0, it shows a request, or completion with the value and the pieces,
-/// of which as many are written as there is room for.
+/// It returns 0, the code of a fault of the expression, 1 to 21, or of an argument, 64 and above. `outcome` is always
+/// written, and its `code` is the code that is returned. If the code is 0, `outcome` shows a request, or completion
+/// with the value; then as many pieces are written as there is room for.
 #[unsafe(no_mangle)]
 pub extern "C" fn dwexpr_evaluation_evaluate(
     evaluation: &mut DwexprEvaluation,
@@ -96,9 +95,9 @@ pub extern "C" fn dwexpr_evaluation_evaluate(
 
 /// Goes on with the answer to what an evaluation asked (DWARF 5, section 2.5).
 ///
-/// It answers 0, or the code of a fault of the expression or of an argument. `outcome` is written in each case. If the
-/// code is 0, it shows the next request, or completion, and of the pieces as many are written as there is room for. If
-/// bytes of a request or of a piece are in none of the texts, the code is 69, and the pieces before it may be written.
+/// It returns 0, or the code of a fault of the expression or of an argument. `outcome` is always written. If the code
+/// is 0, it shows the next request, or completion; then as many pieces are written as there is room for. If bytes of a
+/// request or of a piece are in none of the texts, the code is 69, and the pieces before it may be written.
 #[unsafe(no_mangle)]
 pub extern "C" fn dwexpr_evaluation_resume(
     evaluation: &mut DwexprEvaluation,

@@ -1,7 +1,7 @@
 //! DWARF expressions, decoded and evaluated, for callers in C. `include/dwexpr.h` declares what is exported.
 //!
-//! No call takes memory or calls anything back. `dwexpr_decode` and the calls on values and types are given everything
-//! and keep nothing; the calls `dwexpr_evaluation_..` keep an evaluation in memory of the caller's.
+//! No call allocates memory or calls back. `dwexpr_decode` and the calls on values and types keep no state; the calls
+//! `dwexpr_evaluation_..` keep an evaluation in the caller's memory.
 #![tactic(auto)]
 
 mod answer_kinds;

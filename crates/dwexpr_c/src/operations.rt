@@ -35,7 +35,8 @@ pub struct DwexprOperation {
     pub register_number: u32,
     /// The number of bytes that are read from memory.
     pub deref_size: u32,
-    /// 1 if an address space is popped too, a bit offset is given, or a call is into `.debug_info`.
+    /// 1 if an address space is popped too, a bit offset is given, or the called entry is given by its offset in
+    /// `.debug_info`.
     pub flag: u32,
     /// The code that the call returns.
     pub fault: u32,
@@ -136,7 +137,7 @@ fn with_block(shown: DwexprOperation, length: usize, end: usize) -> DwexprOperat
 }
 
 /// Shows the kind and the operands of an operation that ends at `end`.
-// Each arm writes to the caller's struct. A value that all arms return would be copied there field by field.
+// Each arm writes to the caller's struct. If all arms returned a value, it would be copied there field by field.
 fn show_operands(operation: Operation<Bytes<'_>>, end: usize, shown: &mut DwexprOperation)
     ensures { let op = operation_of slice_text (λ x. x) operation.entry in shown.new
         ≡ with_block end (block_in op) (operands_of op) }

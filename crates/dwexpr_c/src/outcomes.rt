@@ -22,13 +22,13 @@ use dwarf_value::Value;
 pub struct DwexprOutcome {
     /// The code that the call returns.
     pub code: u32,
-    /// What is asked for, or that the evaluation is complete; 0 if nothing was evaluated, or the code isn't 0.
+    /// The request's kind, or the kind for completion; 0 if nothing was evaluated, or if the code isn't 0.
     pub request: u32,
     /// The number that a fault carries.
     pub detail: u64,
     /// An address, an index or an offset of an entry.
     pub number: u64,
-    /// The offset in the unit of the type that the answer is to have; 0 for the generic type.
+    /// The type that the answer should have, as its offset in the unit; 0 for the generic type.
     pub base_type: u64,
     /// The address space.
     pub space: u64,
@@ -36,7 +36,8 @@ pub struct DwexprOutcome {
     pub register_number: u32,
     /// How many bytes are read from memory.
     pub size: u32,
-    /// 1 if there is an address space, an offset is in `.debug_info`, or an address is to be relocated.
+    /// 1 if there is an address space, an entry is given by its offset in `.debug_info`, or an address has to be
+    /// relocated.
     pub flag: u32,
     /// The type of the value of a complete evaluation; 0 if it has none.
     pub value_type: u32,
@@ -70,7 +71,7 @@ pub(crate) const BLANK: DwexprOutcome = DwexprOutcome {
     pieces: 0,
 };
 
-/// What is shown of a fault, or of an argument that isn't allowed.
+/// Shows a fault, or an argument that isn't allowed.
 pub(crate) fn show_end(fault: FaultNumbers) -> DwexprOutcome
     ensures { result ≡ ended_outcome fault.code fault.number }
 {
@@ -91,7 +92,7 @@ fn request_outcome(request: u32, number: u64) -> DwexprOutcome
     }
 }
 
-/// A request of memory.
+/// A request for memory.
 fn memory_outcome(address: u64, size: u8, base_type: usize) -> DwexprOutcome
     ensures { result ≡ record (request_outcome requests.WANTS_MEMORY address) { size = size; base_type = base_type } }
 {

@@ -25,7 +25,7 @@ pub struct DwexprPiece {
     pub has_size: u32,
     /// Its size in bits.
     pub size_in_bits: u64,
-    /// The bit of its location at which it begins.
+    /// The offset of its first bit in its location.
     pub bit_offset: u64,
     /// 1 if the bit offset is given.
     pub has_bit_offset: u32,
@@ -33,7 +33,7 @@ pub struct DwexprPiece {
     pub value_type: u32,
     /// A register, an address, a value or an offset of an entry.
     pub number: u64,
-    /// The offset in the object to which it points, in bytes.
+    /// The offset into the object to which it points, in bytes.
     pub byte_offset: i64,
     /// The index of the text in which its bytes are.
     pub block_text: usize,
@@ -134,7 +134,7 @@ fn piece_at<'a, 'b>(pieces: &'b [Piece<Placed<'a>>], index: usize) -> Option<&'b
     pieces.get(index)
 }
 
-/// Writes the pieces for which there is room; `false` if one of these has bytes that are nowhere in the texts.
+/// Writes as many pieces as there is room for; `false` if one of these has bytes that are nowhere in the texts.
 #[inline(always)]
 pub(crate) fn write_pieces(
     texts: &[DwexprText<'_>],

@@ -1,4 +1,4 @@
-//! What an outcome shows, by its number in C.
+//! What an outcome shows, a kind of request, nothing or completion, by its number in C.
 
 pub(crate) const NOTHING: u32 = 0;
 

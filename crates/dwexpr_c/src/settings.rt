@@ -1,10 +1,10 @@
 //! The settings at a start.
 
-/// The settings at the start of an evaluation. Each field may have any bits.
+/// The settings at the start of an evaluation. Each field may have any value.
 #[repr(C)]
 #[derive(Clone, Copy)]
 pub struct DwexprSettings {
-    /// The maximum of operations.
+    /// The maximum number of operations.
     pub max_iterations: u32,
     /// 0 if the object's address isn't known.
     pub has_object_address: u16,

@@ -21,7 +21,7 @@ use crate::settings::DwexprSettings;
 use crate::texts::{DwexprText, text_at};
 use dwarf_base::{Encoding, RunTimeEndian};
 
-/// Has an evaluation stand at the beginning of a text in a byte order.
+/// Makes the held evaluation a fresh one of this text.
 #[inline(always)]
 fn restart<'a>(held: &mut Held<'a>, text: Placed<'a>, encoding: Encoding, order: RunTimeEndian)
     requires capacities { HasCapacities held.old.evaluation }
@@ -35,7 +35,7 @@ fn restart<'a>(held: &mut Held<'a>, text: Placed<'a>, encoding: Encoding, order:
     held.evaluation.restart(text, encoding);
 }
 
-/// Shows what the first of the texts comes to with the settings; the evaluation then stands where that leads.
+/// Restarts the held evaluation with the first of the texts and the settings, and shows the reply.
 pub(crate) fn evaluate_first<'a>(
     held: &mut Held<'a>,
     texts: &[DwexprText<'a>],

@@ -11,7 +11,7 @@ use dwarf_base::RunTimeEndian;
 #[repr(C)]
 #[derive(Clone, Copy)]
 pub struct DwexprText<'a> {
-    /// A pointer, and how many.
+    /// A pointer and a length.
     pub bytes: &'a [u8],
 }
 
@@ -49,7 +49,7 @@ pub(crate) fn text_at<'a>(
     Some(Placed::new(bytes_of(text), order, index))
 }
 
-/// Whether the bytes at a place of a text are these.
+/// Whether the text has the block at this place.
 fn is_there(text: &[u8], place: usize, block: &[u8]) -> bool
     ensures yes { result ≡ true → IsAt text.now place block.now }
     ensures no { result ≡ false → IsAt text.now place block.now → ⊥ }
@@ -70,7 +70,7 @@ fn expected_place(texts: &[DwexprText<'_>], block: Placed<'_>) -> Option<Place>
     }
 }
 
-/// The first place of a text at which the bytes are.
+/// The first place at which the text has the block.
 fn find_in(text: &[u8], block: &[u8]) -> Option<usize>
     ensures some { IfSome result (λ place. IsAt text.now place block.now) }
     ensures first { IfSome result
@@ -88,7 +88,7 @@ fn find_in(text: &[u8], block: &[u8]) -> Option<usize>
     None
 }
 
-/// The first place of the text at an index at which the bytes are.
+/// The first place at which the text with this index has the block.
 fn find_at(texts: &[DwexprText<'_>], text: usize, block: &[u8]) -> Option<Place>
     ensures some { IfSome result
         (λ place. (place.text ≡ text) × IsPlaced texts.now text place.offset block.now) }
@@ -101,7 +101,7 @@ fn find_at(texts: &[DwexprText<'_>], text: usize, block: &[u8]) -> Option<Place>
     Some(Place { text, offset })
 }
 
-/// The first place of the texts at which the bytes are.
+/// The first place at which one of the texts has the block.
 fn find(texts: &[DwexprText<'_>], block: &[u8]) -> Option<Place>
     ensures some { IfSome result
         (λ place. IsPlaced texts.now place.text place.offset block.now) }
@@ -121,8 +121,8 @@ fn find(texts: &[DwexprText<'_>], block: &[u8]) -> Option<Place>
     None
 }
 
-/// Where the bytes are: where they should be, which no contract of a reader tells; else at the first place that has the
-/// same.
+/// The place of the block. It is the one that the reader names, if the bytes are there, which no contract promises;
+/// else it is the first place that has them.
 #[inline(never)]
 pub(crate) fn place_of(texts: &[DwexprText<'_>], block: Placed<'_>) -> Option<Place>
     ensures some { IfSome result

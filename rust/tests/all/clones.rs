@@ -11,7 +11,7 @@ thread_local! {
     static CLONES: Cell<u32> = const { Cell::new(0) };
 }
 
-/// A reader that counts its clones. Taking a part of it counts as none.
+/// A reader that counts its clones. Splitting off a part of it doesn't count.
 #[derive(Debug)]
 struct Counting<'a>(gimli::EndianSlice<'a, gimli::LittleEndian>);
 
@@ -119,7 +119,7 @@ fn an_operation_is_read_with_a_clone_for_each_long_number() {
     }
 }
 
-/// At whatever point an evaluation is restarted, it drops every reader but the new one.
+/// Wherever an evaluation is restarted, it drops every reader except the new one.
 #[test]
 fn a_restart_lets_go_of_each_reader() {
     let reader = |bytes: &Arc<[u8]>| GimliReader(EndianArcSlice::new(bytes.clone(), LittleEndian));

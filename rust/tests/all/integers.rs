@@ -1,5 +1,5 @@
-//! Operations on integers at each size of an address, beside a table that computes with 128 bits and shares nothing with
-//! the code. It follows DWARF 5, section 2.5.1; above the bits of an address a generic result is gimli's.
+//! Compares operations on integers, for each address size, with a table that computes in 128 bits and shares no code
+//! with the crate. The table follows DWARF 5, section 2.5.1. Above the address size a generic result is gimli's.
 
 // The names of opcodes are the standard's.
 #![allow(non_upper_case_globals)]
@@ -28,26 +28,26 @@ const BINARY: [DwOp; 14] = [
     DW_OP_ne,
 ];
 
-/// What there is of each type, by the integers of Rust.
+/// Functions over all types, by Rust's type of integers for each.
 macro_rules! types {
     ($($type:ident $integer:ident,)+) => {
         const TYPES: [ValueType; 9] = [$(ValueType::$type),+];
 
-        /// The number of a value; a generic one has 64 bits, of which an address has the low ones.
+        /// The number in a value; of a generic value, all 64 bits.
         fn number_of(value: Value) -> i128 {
             match value {
                 $(Value::$type(number) => number.into(),)+
             }
         }
 
-        /// The value of a type that is this number, up to the bits of the type.
+        /// The number, wrapped to a value of a type.
         fn value_of(value_type: ValueType, number: i128) -> Value {
             match value_type {
                 $(ValueType::$type => Value::$type(number as $integer),)+
             }
         }
 
-        /// The bits of a type if an address has so many, and whether it is a signed integer.
+        /// How many bits a type has if an address has `width`, and whether it is signed.
         fn bits_of(value_type: ValueType, width: u32) -> (u32, bool) {
             let bits = match value_type {
                 $(ValueType::$type => ($integer::BITS, $integer::MIN != 0),)+
@@ -132,7 +132,7 @@ fn binary(operation: DwOp, left: Value, right: Value, width: u32) -> Result<Valu
         DW_OP_plus => wrapped(one + other),
         DW_OP_minus => wrapped(one - other),
         DW_OP_mul => wrapped(unsigned(one, 64).wrapping_mul(unsigned(other, 64))),
-        // All 64 bits of a quotient stay.
+        // A quotient keeps all 64 bits.
         DW_OP_div => Ok(value_of(value_type, one / other)),
         DW_OP_mod => wrapped(one % other),
         DW_OP_eq => holds(one == other),
@@ -144,7 +144,7 @@ fn binary(operation: DwOp, left: Value, right: Value, width: u32) -> Result<Valu
     }
 }
 
-/// A value as an address or a truth, or in another type.
+/// A value converted to another type. A generic value is cut to the address size first.
 fn converted(value: Value, value_type: ValueType, width: u32) -> Value {
     match value {
         Value::Generic(number) => value_of(value_type, unsigned(number.into(), width)),
@@ -160,7 +160,7 @@ fn reinterpreted(value: Value, value_type: ValueType, width: u32) -> Result<Valu
     }
 }
 
-/// Values at the ends of each type, and for each shift.
+/// Values near the ends of each type, and lengths for shifts.
 fn values(width: u32) -> Vec<Value> {
     let mut values = Vec::new();
     for value_type in TYPES {
@@ -173,21 +173,21 @@ fn values(width: u32) -> Vec<Value> {
                 .map(|it| value_of(value_type, it)),
         );
     }
-    // Bits above those of an address.
+    // Bits above the address size.
     values.extend(
         [3 << (width - 1), (1 << width) + 5, 1 << width, -(1 << width) + 2].map(|it| value_of(ValueType::Generic, it)),
     );
     values
 }
 
-/// A number as signed LEB128, or as an unsigned one if it isn't negative and as large as that.
+/// A number as LEB128. It is signed, and unsigned too if the number isn't negative.
 fn leb128(number: i128) -> Vec<u8> {
     let last = (128 - number.max(!number).leading_zeros()) / 7;
     (0..=last).map(|at| (number >> (7 * at)) as u8 & 0x7f | if at < last { 0x80 } else { 0 }).collect()
 }
 
-/// Evaluates an operation over operands, each the answer to a DW_OP_entry_value of no bytes, up to its own request or
-/// the end.
+/// Evaluates an operation up to its own request or the end. Each operand is the answer to a DW_OP_entry_value of no
+/// bytes.
 fn evaluated<'a>(
     text: &'a mut Vec<u8>,
     width: u32,
@@ -221,7 +221,7 @@ fn result(width: u32, operands: &[Value], operation: &[u8], answer: Value) -> Re
     }
 }
 
-/// Has a check done at each size of an address, with the values there.
+/// Runs a check for each address size, with the values for it.
 fn at_each_size(check: impl Fn(u32, &[Value])) {
     for size in 1..=8 {
         check(8 * size, &values(8 * size));
@@ -233,7 +233,7 @@ fn operations_on_two_values() {
     at_each_size(|width, values| {
         let of_type = |value_type| values.iter().copied().filter(move |it| it.value_type() == value_type);
         for left in values.iter().copied() {
-            // Of other types than these two, one value is enough.
+            // For types other than these two, one value is enough.
             let others = TYPES.map(|it| of_type(it).next().expect("each type has values"));
             let rights = of_type(left.value_type()).chain(of_type(ValueType::Generic)).chain(others);
             for (right, operation) in rights.flat_map(|it| BINARY.into_iter().chain(SHIFTS).map(move |of| (it, of))) {

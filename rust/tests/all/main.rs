@@ -1,6 +1,6 @@
 //! What gimli's own tests don't show: calls out of turn, storages, a user's readers, errors.
 
-/// Makes a type over a slice a reader of gimli's, which does what the slice does but for its own calls.
+/// Implements gimli's `Reader` for a type over a slice: like the slice, except for the calls that are given.
 #[cfg(feature = "gimli")]
 macro_rules! over_slice {
     ($name:ident: $($own:tt)+) => {

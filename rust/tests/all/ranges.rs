@@ -129,7 +129,7 @@ fn a_maximum_is_exact() {
 fn a_list_holds_what_was_put_there_until_a_restart() {
     let mut kept = evaluation(&[]);
     for count in about_powers(16) {
-        // `count` times DW_OP_lit1, and one DW_OP_plus less.
+        // `count` times DW_OP_lit1, and then DW_OP_plus one time less.
         kept.restart(text([vec![0x31; count], vec![0x22; count.saturating_sub(1)]].concat()), ENCODING);
         let sum = (count > 0).then_some(Value::Generic(count as u64));
         assert_eq!(kept.evaluate().is_ok(), count > 0);

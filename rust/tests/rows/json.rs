@@ -35,7 +35,7 @@ impl Json {
     }
 }
 
-/// The next sign that isn't white space. It isn't taken.
+/// The next character that isn't white space. It isn't consumed.
 fn peek(signs: &mut Peekable<Chars>) -> char {
     while signs.next_if(|it| it.is_whitespace()).is_some() {}
     *signs.peek().expect("the text ends too early")

@@ -1,5 +1,4 @@
-//! The rows and vectors of the program `dwexpr`, over each reader. What the program decodes or evaluates has to come
-//! out the same.
+//! Runs the rows and vectors of the program `dwexpr` over each reader. They have to give what the program gives.
 
 mod json;
 mod packages;
@@ -135,7 +134,7 @@ fn cases() -> Vec<(String, Case)> {
         (0..).zip(vectors.items()).map(|(at, it)| (format!("vector {at}"), case_of_vector(it))).collect();
     for file in fs::read_dir(tests.join("rows")).unwrap() {
         let path = file.unwrap().path();
-        // An editor's file is none.
+        // An editor's file is left out.
         let name = path.file_name().unwrap().to_str().unwrap();
         if name.starts_with('.') || !name.ends_with(".json") {
             continue;
@@ -176,7 +175,7 @@ fn rows_and_vectors_are_as_they_say() {
     }
 }
 
-/// The rows and vectors, a million made-up cases of each kind, and as many values.
+/// Compares the rows and vectors, a million made-up cases of each kind, and as many values.
 #[test]
 #[cfg_attr(not(archive), ignore = "the variable DWEXPR_ARCHIVE has to name the archive for C, libdwexpr_c.a")]
 fn the_archive_gives_the_same() {

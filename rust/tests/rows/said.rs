@@ -1,4 +1,4 @@
-//! Decoding and evaluating, as the lines of the program `dwexpr`.
+//! Decodes and evaluates, and gives the lines that the program `dwexpr` prints.
 
 use dwexpr::{
     DieReference, Encoding, Error, Evaluation, EvaluationResult, Location, Operation, Piece, Reader, ReaderOffset,
@@ -20,7 +20,7 @@ const TYPES: [(&str, ValueType); 9] = [
     ("i64", ValueType::I64),
     ("u64", ValueType::U64),
 ];
-/// The maximum of operations, if no step sets it.
+/// The maximum number of operations, if no step sets it.
 const MAXIMUM: u32 = 1_000_000;
 
 pub fn bytes_in(digits: &str) -> Vec<u8> {
@@ -58,7 +58,7 @@ pub fn value_word(value: Value) -> String {
     }
 }
 
-/// The word for the bytes that are left in a reader.
+/// The word for a reader's remaining bytes.
 fn block_word<R: Reader>(mut reader: R) -> String {
     let bytes: Vec<u8> = std::iter::from_fn(|| reader.read_u8().ok()).collect();
     digits_of(&bytes)

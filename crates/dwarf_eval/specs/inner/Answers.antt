@@ -13,7 +13,7 @@ use Rattle.dwarf_eval.specs.declared.op.results.EvaluationResult.TheVariants as 
 use Rattle.dwarf_eval.specs.declared.run.states.Given.{Given}
 use Rattle.dwarf_eval.specs.declared.run.states.Given.TheVariants as given
 
--- what a machine is given, as an answer; a value or a number answers a request of this kind
+-- what a machine is given, as an answer; `kind` is the kind of a value or a number
 abbrev pub answer_of : {R : Type 0} → (R → Text) → WaitingKind → Given R → requests.Answer
 answer_of text kind (given.Value value) = requests.ValueAnswer kind value
 answer_of text kind (given.Number number) = requests.NumberAnswer kind number
@@ -30,7 +30,7 @@ abbrev pub open_kind : rest.Status → Option WaitingKind
 open_kind (RequestStatus request on_answer) = Some (kind_of_request request)
 open_kind _ = None
 
--- by the status: at the start the machine is fresh, except for its settings; it doesn't run
+-- by the status: the machine doesn't run; at the start it is fresh, except for its settings
 abbrev pub IsAtRestBy : rest.State → rest.Status → Type 0
 IsAtRestBy x (Start initial_value) =
     x ≡ with_status (Start initial_value) (with_settings x.store.settings (fresh_state x.setup x.text))

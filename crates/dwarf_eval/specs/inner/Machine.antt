@@ -27,7 +27,7 @@ use Rattle.dwarf_eval.specs.declared.run.states.OnAnswer.TheVariants as on
 use Rattle.dwarf_eval.specs.declared.run.states.EvaluationState.{EvaluationState}
 use Rattle.dwarf_eval.specs.declared.run.states.EvaluationState.TheVariants as state
 
--- the kind of the last operation, as the definitions have it; `Located` has the location that waits
+-- maps the kind of the last operation in the code to the definitions; `Located` gets the location that waits
 abbrev pub last_of : LastOperation → meant.Location → Last
 last_of last.Nothing location = Nothing
 last_of last.Plain location = Plain
@@ -36,7 +36,7 @@ last_of last.Pushed location = Pushed
 last_of last.Called location = Called
 last_of last.Located location = Located location
 
--- how an answer is used, as the definitions have it
+-- maps the use of an answer in the code to the definitions
 abbrev pub on_answer_of : {R : Type 0} → (R → Text) → OnAnswer R → requests.OnAnswer
 on_answer_of text on.Push = requests.Push
 on_answer_of text (on.Add offset) = requests.Add offset
@@ -49,7 +49,7 @@ abbrev pub replied_status : Option requests.Request → requests.OnAnswer → St
 replied_status None on_answer = CompleteStatus None
 replied_status (Some request) on_answer = RequestStatus request on_answer
 
--- the status of the code's state, as the definitions have it
+-- maps a state of the code to a status of the definitions
 abbrev pub status_of : {R O P : Type 0} → (R → Text) → (O → ℕ) → EvaluationState R O P → requests.OnAnswer → Status
 status_of text number (state.Start initial_value) on_answer = Start initial_value
 status_of text number state.Running on_answer = Running
@@ -62,7 +62,7 @@ abbrev pub left_of : {R : Type 0} → Option R → R → R
 left_of None whole = whole
 left_of (Some rest) whole = rest
 
--- how many bytes of a text come before the rest of it
+-- the place in a text at which this rest of it begins
 abbrev pub place_of : (whole left : Text) → ℕ
 place_of whole left = length whole.bytes - length left.bytes
 
@@ -86,7 +86,7 @@ store_of text number values pieces count object_address maximum last location = 
   refusal = Never;
 }
 
--- the mask is that of the encoding's addresses, and each rest is a suffix of its text
+-- the mask has the encoding's address size, and each rest is a suffix of its text
 pub record IsSound {R : Type 0} (text : R → Text) (encoding : Encoding) (addr_mask : ℕ) (whole left : R)
     (readers : List (R × R)) : Type 0 where
   pub mask : IsAddressMask addr_mask
@@ -94,13 +94,13 @@ pub record IsSound {R : Type 0} (text : R → Text) (encoding : Encoding) (addr_
   pub here : IsRestOf (text left) (text whole)
   pub callers : AllByRecursion (λ (f : R × R). IsRestOf (text f.0) (text f.1)) readers
 
--- an operator on one value, as the definitions have it
+-- maps an operator on one value in the code to the definitions
 abbrev pub operator_of : UnaryOperator → meant_value.UnaryOperator
 operator_of one.Abs = meant_value.Abs
 operator_of one.Neg = meant_value.Neg
 operator_of one.Not = meant_value.Not
 
--- an operator on two values, as the definitions have it
+-- maps an operator on two values in the code to the definitions
 abbrev pub binary_operator_of : BinaryOperator → meant_value.BinaryOperator
 binary_operator_of two.And = meant_value.And
 binary_operator_of two.Div = meant_value.Div

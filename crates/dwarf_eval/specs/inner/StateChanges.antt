@@ -1,5 +1,4 @@
--- What the parts of an evaluation do to its state. Only contracts of this crate cite this file, and private ones above
--- it.
+-- What the functions inside an evaluation do to its state. Only contracts of private functions cite this file.
 use Rattle.std.specs.Prelude.{ℕ, zero, suc, ◌+◌, ◌-◌, ◌*◌, ◌<◌, ◌≤◌, ◌≡◌, ◌&&◌, nat_lt, Bool, true, false, List, [], ◌∷◌, Option, Some, None, Result, Ok, Err, length}
 use Rattle.dwarf_base.specs.declared.errors.Error.{Error}
 use Rattle.dwarf_base.specs.declared.errors.Error.TheVariants.{BadBranchTarget, InvalidExpressionTerminator, NotEnoughStackItems, TooManyIterations}
@@ -35,7 +34,7 @@ abbrev pub before_pushes : ℕ → Refusal → Refusal
 before_pushes zero refusal = refusal
 before_pushes (suc pushes) refusal = before_push (before_pushes pushes refusal)
 
--- f of the store before some pushes is g of the store after them
+-- f of the old store is g of the new one, which some pushes led to
 pub record StoreSteps {A : Type 0} (f : Store → A) (old : Store) (g : Store → A) (new : Store) : Type 0 where
   pub pushes : ℕ
   pub same : (r : Refusal) → f (with_refusal (before_pushes pushes r) old) ≡ g (with_refusal r new)
@@ -126,12 +125,12 @@ abbrev pub TriesToPopNumber : Option ℕ → State → State → Type 0
 TriesToPopNumber (Some number) old new = PopsTo number old new
 TriesToPopNumber None old new = TriesToPop None old new
 
--- one more operation is counted, or the maximum doesn't allow it
+-- one more operation was counted, or the state keeps the fault that the maximum is reached
 abbrev pub CountsOne : State → State → Bool → Type 0
 CountsOne old new true = (can_count old.store ≡ true) × (new ≡ with_store (count_one old.store) old)
 CountsOne old new false = (can_count old.store ≡ false) × (new ≡ with_status (FaultStatus TooManyIterations) old)
 
--- the run went to this place of the text, or there is no such place
+-- the run went to this place of the text, or the state keeps the fault that there is no such place
 abbrev pub Jumps : ℕ → State → State → Bool → Type 0
 Jumps place old new true = (place ≤ length old.text.bytes) × (new ≡ with_place place old)
 Jumps place old new false =
@@ -215,7 +214,7 @@ replies_by _ = 0
 abbrev pub NearsItsEnd : State → State → Type 0
 NearsItsEnd old new = calls_left new + replies_by new.status ≤ calls_left old
 
--- the old state has the outcome of the new one, which it reached by this many pushes
+-- the old state reached the new one by this many pushes, and both have the same outcome
 pub record Reaches (old : State) (totals : Refusal → List Input → Total) (new : State) : Type 0 where
   pub pushes : ℕ
   pub same : (r : Refusal) (inputs : List Input) → totals (before_pushes pushes r) inputs ≡ total new r inputs
@@ -223,7 +222,7 @@ pub record Reaches (old : State) (totals : Refusal → List Input → Total) (ne
   pub spends : Spends 0 old new
   pub nears : NearsItsEnd old new
 
--- for some refusal the old state ends in the fault, and counts what the new one has
+-- for some refusal the old state ends in the fault, with the new state's count
 pub record Falls (old : State) (totals : Refusal → List Input → Total) (fault : Fault) (new : State) : Type 0 where
   pub refusal : Refusal
   pub may : MayPick old.setup.limits refusal
@@ -265,7 +264,7 @@ GoesBack true old new =
     × (new ≡ record old { text = f.text; place = f.place; callers = fs })
 GoesBack false old new = (old.callers ≡ []) × (new ≡ old)
 
--- the run is over as f says, with this value and at most this many more items
+-- the run is complete with this value, which f gives, and has at most this many more items
 pub record ClosesComplete (more : ℕ) (f : Store → Outcome) (value : Option Value) (old new : State) : Type 0 where
   pub steps : StoreSteps f old.store (λ s. CompleteOutcome s.pieces value) new.store
   pub alone : new ≡ with_store new.store (with_status (CompleteStatus value) old)
@@ -284,12 +283,12 @@ ClosesBy more f old new (CompleteStatus value) = ClosesComplete more f value old
 ClosesBy more f old new (FaultStatus error) = ClosesInFault f error old new
 ClosesBy more f old new _ = ⊥
 
--- the run is over as f says, with at most this many more items; or for some refusal it is in a fault, which the state
--- keeps
+-- The run ends with the outcome that f gives. Either it is complete, with at most this many more items; or f gives a
+-- fault for some refusal, and the state keeps it.
 abbrev pub Closes : ℕ → (Store → Outcome) → State → State → Type 0
 Closes more f old new = ClosesBy more f old new new.status
 
--- the run is over with one more piece and this value, or the state keeps the fault
+-- the run is complete with one more piece and this value, or the state keeps the fault
 abbrev pub CompletesWith : Piece → Option Value → State → State → Type 0
 CompletesWith piece value old new = Closes 1 (λ s. completion_of value (push_piece old.setup piece s)) old new
 
@@ -297,7 +296,7 @@ abbrev pub effort_by : State → Status → ℕ
 effort_by x Running = 3 * (most_operations - x.store.count) + length x.callers + waits_of x.store.last + 1
 effort_by x _ = 0
 
--- a number that gets less with each turn
+-- a number that falls with each turn
 abbrev pub effort : State → ℕ
 effort x = effort_by x x.status
 
@@ -336,7 +335,7 @@ PushesAsAnswer (Ok value) old new =
     HasTriedChange 0 (push_value old.setup value) (with_status Running (with_last Pushed old)) new
 PushesAsAnswer (Err error) old new = new ≡ with_status (FaultStatus error) old
 
--- the total of a state in a request, if its answer is used in this way
+-- the total of a state in a request, given the use of the answer
 abbrev pub total_used : State → Use → Refusal → List Input → Total
 total_used x used refusal inputs =
     total_of_course x.store.count x.setup x.callers

@@ -25,8 +25,8 @@ use std::marker::Model;
 
 /// An evaluation of an expression (DWARF 5, section 2.5).
 ///
-/// `evaluate` starts it. The reply is a request or completion. The caller answers a request by the resume that it
-/// names, which gives the next reply; `status` also tells which call comes next. A fault is kept: every later
+/// `evaluate` starts it. The reply is a request or completion. The caller answers a request by the `resume_with_` call
+/// of its name, which gives the next reply; `status` also tells which call comes next. A fault is kept: every later
 /// `evaluate` and resume gives it again, and changes nothing.
 #[derive(Drop)]
 pub struct Evaluation<R: Reader + Copy, S: EvaluationStorage<R>> {
@@ -48,7 +48,7 @@ impl<R: Reader + Copy, S: EvaluationStorage<R>> Model for Evaluation<R, S> {
 impl<R: Reader + Copy, S: EvaluationStorage<R>> Evaluation<R, S> {
     /// A fresh evaluation of `bytecode`, over three empty lists. It allocates nothing.
     ///
-    /// The encoding's addresses have from 1 to 8 bytes.
+    /// The encoding's address size has to be from 1 to 8 bytes.
     pub fn new_in(
         bytecode: R,
         encoding: Encoding,
@@ -73,7 +73,7 @@ impl<R: Reader + Copy, S: EvaluationStorage<R>> Evaluation<R, S> {
     /// in any status, also after a fault. Every setting is unset. The lists are emptied and keep their memory, so
     /// nothing is allocated or freed.
     ///
-    /// The encoding's addresses have from 1 to 8 bytes.
+    /// The encoding's address size has to be from 1 to 8 bytes.
     #[inline(always)]
     pub fn restart(&mut self, bytecode: R, encoding: Encoding)
         requires some { 0 < encoding.address_size }
@@ -144,7 +144,7 @@ impl<R: Reader + Copy, S: EvaluationStorage<R>> Evaluation<R, S> {
         self.machine.set_object_address(value);
     }
 
-    /// Sets the maximum of operations, over the whole evaluation; one more fails with `TooManyIterations`. It holds
+    /// Sets the maximum number of operations in the whole evaluation; one more fails with `TooManyIterations`. It holds
     /// from now on, and can't be unset. If it was never set, the maximum is 4294967295. A location and the piece after
     /// it count as one operation. The maximum bounds what broken or hostile bytes can cost.
     pub fn set_max_iterations(&mut self, value: u32)
@@ -160,16 +160,16 @@ impl<R: Reader + Copy, S: EvaluationStorage<R>> Evaluation<R, S> {
     /// # Errors
     ///
     /// - Those of `Operation::parse`, if the next operation is malformed.
-    /// - Those of the calls of [`Value`] that it makes: `UnsupportedTypeOperation`, `TypeMismatch`, `DivisionByZero`,
+    /// - Those of the methods of [`Value`] that it calls: `UnsupportedTypeOperation`, `TypeMismatch`, `DivisionByZero`,
     ///   `InvalidShiftExpression`.
     /// - `NotEnoughStackItems`, if the stack has too few values; also at the end, if there is neither a
     ///   value nor a location or piece.
     /// - `InvalidDerefSize`, if a dereference is wider than an address.
     /// - `InvalidPushObjectAddress`, if no object address is set.
     /// - `UnsupportedEvaluation`, at an operation that can't be evaluated.
-    /// - `BadBranchTarget`, if a branch leaves its text.
-    /// - `TooManyIterations`, if one more operation is left after the maximum.
-    /// - `InvalidPiece`, if a value or a location that is no piece is left after pieces at the end.
+    /// - `BadBranchTarget`, if a branch leaves its expression.
+    /// - `TooManyIterations`, if another operation follows after the maximum number of them.
+    /// - `InvalidPiece`, if the last operation after pieces gives a value or a location that belongs to no piece.
     /// - `InvalidExpressionTerminator`, if an operation other than a piece follows a location.
     /// - `StackFull`, if a list has no room or there is no memory.
     #[inline(always)]
@@ -234,8 +234,7 @@ impl<R: Reader + Copy, S: EvaluationStorage<R>> Evaluation<R, S> {
         self.resume(Given::Value(value))
     }
 
-    /// Goes on with a value of WebAssembly, after `RequiresWasmLocal`, `RequiresWasmGlobal` or
-    /// `RequiresWasmStack`.
+    /// Goes on with a WebAssembly value, after `RequiresWasmLocal`, `RequiresWasmGlobal` or `RequiresWasmStack`.
     ///
     /// # Errors
     ///
@@ -375,7 +374,7 @@ impl<R: Reader + Copy, S: EvaluationStorage<R>> Evaluation<R, S> {
     ///
     /// # Errors
     ///
-    /// `UnexpectedEof` or `UnsupportedTypeOperation`, if a literal's bytes give no value of the type;
+    /// `UnexpectedEof` or `UnsupportedTypeOperation`, if a literal's bytes aren't a value of the type;
     /// `NotEnoughStackItems`, if there is no value to convert; `TypeMismatch`, if a value of another size is to be
     /// reinterpreted; `StackFull`, if there is no room for the value; then those of [`evaluate`](Self::evaluate). It
     /// may be called after a fault too, and gives that fault.

@@ -14,7 +14,7 @@ use std::alloc::Allocator;
 impl<R: Reader + Copy> Expression<R> {
     /// A fresh evaluation of the expression, on the heap. It allocates nothing yet.
     ///
-    /// The encoding's addresses have from 1 to 8 bytes.
+    /// The encoding's address size has to be from 1 to 8 bytes.
     pub fn evaluation<A: Allocator + Copy>(
         self,
         alloc: A,
@@ -32,7 +32,7 @@ impl<R: Reader + Copy> Expression<R> {
 impl<R: Reader + Copy, A: Allocator + Copy> Evaluation<R, StoreOnHeap<A>> {
     /// A fresh evaluation of `bytecode`, on the heap. It allocates nothing yet.
     ///
-    /// The encoding's addresses have from 1 to 8 bytes.
+    /// The encoding's address size has to be from 1 to 8 bytes.
     pub fn new(alloc: A, bytecode: R, encoding: Encoding) -> Self
         requires some { 0 < encoding.address_size }
         requires fits { encoding.address_size ≤ 8 }

@@ -25,17 +25,17 @@ pub enum EvaluationResult<R: Reader, O = <R as Reader>::Offset> {
         /// The type of the value; offset 0 is the generic type.
         base_type: UnitOffset<O>,
     },
-    /// A local of WebAssembly is wanted; go on with `resume_with_wasm_value`.
+    /// A WebAssembly local is wanted; go on with `resume_with_wasm_value`.
     RequiresWasmLocal {
         /// Its index.
         index: u32,
     },
-    /// A global of WebAssembly is wanted; go on with `resume_with_wasm_value`.
+    /// A WebAssembly global is wanted; go on with `resume_with_wasm_value`.
     RequiresWasmGlobal {
         /// Its index.
         index: u32,
     },
-    /// An item of WebAssembly's operand stack is wanted; go on with `resume_with_wasm_value`.
+    /// An item of the WebAssembly operand stack is wanted; go on with `resume_with_wasm_value`.
     RequiresWasmStack {
         /// Its index; 0 is the bottom.
         index: u32,

@@ -3,8 +3,8 @@ ghost use Rattle.std.specs.Prelude.{Some};
 use super::lists::ArrayLike;
 use arrayvec::ArrayVec;
 
-/// A list of a fixed capacity. In Rattle it is set to zero when it is made, which takes longer than to evaluate a short
-/// expression. A `SliceVec` isn't, and several evaluations can use its slice in turn.
+/// A list of fixed capacity. In Rattle its memory is zeroed when it is made, which takes longer than evaluating a short
+/// expression. A `SliceVec` zeroes nothing, and several evaluations can use its slice one after another.
 impl<T: Copy + Default, const CAP: usize> ArrayLike for ArrayVec<T, CAP> {
     type Item = T;
 

@@ -4,9 +4,9 @@ ghost use Rattle.dwarf_eval.specs.Lists.{MayRefuse, at_least_one, one_of};
 use super::lists::ArrayLike;
 use std::marker::Model;
 
-/// A list that keeps a single item in line, and moves it to another list when a second item comes. Most expressions
-/// have one piece, which takes no memory this way if the other list is on the heap. The limit is the other list's, or 1
-/// if that is 0.
+/// A list that keeps a single item inline, and moves it to another list when a second item comes. Most expressions have
+/// one piece, so if the other list is on the heap, they allocate nothing for it. The limit is the other list's, or 1 if
+/// that is 0.
 #[derive(Drop)]
 pub struct OneInLine<T: Copy, L: ArrayLike<Item = T>> {
     // The single item. If there are more items, all of them are in the other list.

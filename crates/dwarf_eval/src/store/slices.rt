@@ -9,8 +9,8 @@ use std::marker::Model;
 /// A list over a slice that its caller lends. Its capacity is the length of the slice, so it is chosen at run time.
 /// Nothing is allocated or set to zero.
 ///
-/// A popped item stays in its slot until another item overwrites it. So in Rust a popped reader keeps what it owns,
-/// such as its count in an `Arc`. The owner of the slice lets go of it by overwriting the slots.
+/// A popped item stays in its slot until another item overwrites it. So in Rust a popped reader isn't dropped: one that
+/// has an `Arc` still counts as its owner. To drop such readers, the owner of the slice overwrites the slots.
 #[derive(Drop)]
 pub struct SliceVec<'a, T> {
     slots: &'a mut [T],

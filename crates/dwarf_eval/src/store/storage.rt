@@ -12,7 +12,7 @@ pub trait EvaluationStorage<R: Reader + Copy> {
     /// The values on the stack.
     type Stack: ArrayLike<Item = Value>;
 
-    /// The callers of the running expression, each as the bytes that are left of it and all of its bytes.
+    /// The callers of the running expression. Each is a pair: its remaining bytes, and all of its bytes.
     type ExpressionStack: ArrayLike<Item = (R, R)>;
 
     /// The pieces.

@@ -6,7 +6,7 @@ use std::cell::Cell;
 /// More growths than any of these evaluations needs.
 pub(crate) const NEVER: u64 = u64::MAX / 2;
 
-/// Passes each call on to another allocator, except for one growth, which it refuses.
+/// Passes each call on to another allocator, but refuses one growth.
 #[derive(Drop)]
 pub(crate) struct RefusesGrowth<B: Allocator> {
     inner: B,
@@ -39,7 +39,7 @@ impl<B: Allocator> RefusesGrowth<B> {
     }
 }
 
-// Whether this growth is the refused one. No later growth is.
+// Whether this growth is the one to refuse.
 fn is_due(before: &Cell<u64>) -> bool {
     let growths = before.get();
     before.set(growths.wrapping_sub(1));

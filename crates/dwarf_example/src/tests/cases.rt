@@ -18,7 +18,8 @@ use std::process::Abort;
 /// More values, callers, pieces and answers than any case has.
 pub(crate) const MANY: usize = 16;
 
-/// A text and steps, the results of the calls, the end of a replay, and where the evaluation stands after it.
+/// A text and steps, and what is expected: the results of the calls, the end of the replay, and the evaluation's status
+/// and results after it.
 #[derive(Clone, Copy)]
 pub(crate) struct Case<'a> {
     pub(crate) text: &'a [u8],
@@ -68,7 +69,7 @@ impl<
     type Result = ArrayVec<Piece<R>, PIECES>;
 }
 
-// Storage on the heap; the list of pieces keeps a single piece in line.
+// Storage on the heap; the list of pieces keeps a single piece inline.
 struct PieceInLine;
 
 impl<R: Reader + Copy> EvaluationStorage<R> for PieceInLine {
@@ -110,7 +111,7 @@ fn steps_of<'a>(alloc: Global, case: &Case<'a>) -> Result<Vec<Step<Bytes<'a>>>, 
     Ok(steps)
 }
 
-// Expects the evaluation to stand where the case says.
+// Expects the status and the results of the case.
 fn expect_rest<'a, S: EvaluationStorage<Bytes<'a>>>(
     rt: &impl Abort,
     eval: &Evaluation<Bytes<'a>, S>,
@@ -125,7 +126,7 @@ fn expect_rest<'a, S: EvaluationStorage<Bytes<'a>>>(
     }
 }
 
-// Takes the steps of the case one by one, up to the one at which a replay of them ends.
+// Takes the steps of the case one by one, up to the step at which a replay ends.
 fn expect_steps<'a, S: EvaluationStorage<Bytes<'a>>>(
     rt: &impl Abort,
     eval: &mut Evaluation<Bytes<'a>, S>,
@@ -187,7 +188,7 @@ fn expect<'a, S: EvaluationStorage<Bytes<'a>>, L: ArrayLike<Item = Answer<Bytes<
     expect_replay(rt, &mut eval, answers, steps, case, row);
 }
 
-// Runs the case over lists of these capacities.
+// Runs the case over arrays of these capacities.
 fn expect_over_arrays<
     'a,
     const STACK: usize,
@@ -213,7 +214,7 @@ fn expect_over_arrays<
     expect(rt, eval, answers, steps, case, row);
 }
 
-// Runs the case over arrays. Their capacities are constants.
+// Runs the case over arrays. Capacities are constants, so each set of limits has a branch.
 fn expect_over_fixed<'a>(rt: &impl Abort, steps: &[Step<Bytes<'a>>], case: &Case<'a>, row: usize)
     requires some { 0 < case.now.encoding.address_size }
     requires fits { case.now.encoding.address_size ≤ 8 }

@@ -1,4 +1,4 @@
-//! Lists without a limit: one that refuses a push of an evaluation, and those on the heap.
+//! Lists without a limit: a list that refuses one push, and tests of the lists on the heap.
 
 ghost use Rattle.std.specs.Prelude.{◌≡◌, [], None};
 
@@ -111,7 +111,7 @@ fn lists_on_the_heap(rt: HostRuntime) {
     assert!(rt; 8 < refused && refused < 18);
 }
 
-// The only item takes no memory until the list is handed over. If that is refused, the item is still there.
+// A single item allocates nothing until the list is handed over. If that allocation is refused, the item is kept.
 #[test]
 fn one_item_in_line(rt: HostRuntime) {
     let memory = RefusesGrowth::new(rt.alloc(), 0);

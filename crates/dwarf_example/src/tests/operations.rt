@@ -10,7 +10,7 @@ use dwarf_expr::base::{
 use dwarf_expr::op::{Expression, Operation};
 use std::process::Abort;
 
-// A literal of two bytes, and a third byte after it.
+// A literal of two bytes, and a third byte that must not be read.
 #[test]
 fn operation_with_a_byte_to_spare(rt: HostRuntime) {
     let mut bytes = little(&[0xa4, 0x07, 0x02, 0xff, 0x7f, 0x9f]);
@@ -22,7 +22,7 @@ fn operation_with_a_byte_to_spare(rt: HostRuntime) {
     assert!(rt; bytes == little(&[0x9f]));
 }
 
-// The refusals that the vectors don't have.
+// Faults that the test vectors don't have.
 #[test]
 fn refused_operations(rt: HostRuntime) {
     let cut_off = Operation::parse(&mut little(&[]), SMALL);
@@ -36,7 +36,7 @@ fn refused_operations(rt: HostRuntime) {
     );
 }
 
-// An operation, one that is cut off, and the end; and the iterator's offset after each.
+// The iterator gives an operation, the fault of one that is cut off, and the end. Its offset is checked after each.
 #[test]
 fn iteration(rt: HostRuntime) {
     let expression = Expression(little(&[0x31, 0x93]));
@@ -50,7 +50,7 @@ fn iteration(rt: HostRuntime) {
     assert!(rt; operations.offset_from(&expression) == 2);
 }
 
-// An expression has at most as many items as bytes, and only the last may be a fault.
+// Expects at most as many items as bytes, and no item after a fault.
 fn expect_items(rt: &impl Abort, text: &[u8]) {
     let mut count = 0;
     let mut failed = false;
@@ -83,7 +83,7 @@ fn iteration_of_cut_expressions(rt: HostRuntime) {
     }
 }
 
-// Little-endian bytes, counted in 32 bits.
+// A reader of little-endian bytes whose offsets have 32 bits.
 #[derive(Clone, Copy, Debug)]
 struct ShortSlice<'a> {
     slice: EndianSlice<'a, LittleEndian>,
@@ -132,7 +132,7 @@ fn short_fault(rt: &impl Abort, text: &[u8], encoding: Encoding) -> Option<Error
     Operation::parse(&mut ShortSlice { slice }, encoding).err()
 }
 
-// Texts with a number of 33 bits in place of an offset, and one with an offset that fits.
+// Texts whose offset has 33 bits, and one whose offset fits.
 #[test]
 fn offsets_of_32_bits(rt: HostRuntime) {
     let wide = Encoding {

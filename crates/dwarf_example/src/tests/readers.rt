@@ -6,7 +6,7 @@ ghost use Rattle.dwarf_expr.specs.EndianSlice.{text_of};
 use dwarf_expr::base::{EndianSlice, LittleEndian, Reader, Result};
 use std::cell::Cell;
 
-/// Bytes. It counts how many are read, and drops all of them when a read is refused.
+/// A reader that counts how many bytes are read, and that drops all of them when a read fails.
 #[derive(Clone, Copy, Debug)]
 pub(crate) struct Watched<'a> {
     slice: EndianSlice<'a, LittleEndian>,

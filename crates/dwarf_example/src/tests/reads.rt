@@ -1,4 +1,4 @@
-//! Each byte of a decoded operation is read once, and no other byte is read.
+//! Tests that each byte of a decoded operation is read once, and that no other byte is read.
 
 use crate::tests::evaluation::{SMALL, little, replayed_on_heap};
 use crate::tests::readers::Watched;
@@ -9,7 +9,7 @@ use std::alloc::{AllocError, Global};
 use std::cell::Cell;
 use std::process::Abort;
 
-// The operation with this opcode, if there is one; each byte of its operands is 01. No operation has the opcode 01.
+// An operation with this opcode, each byte of whose operands is 01. No operation has the opcode 01.
 fn text_of(opcode: u8) -> [u8; 10] {
     [opcode, 1, 1, 1, 1, 1, 1, 1, 1, 1]
 }
@@ -72,8 +72,8 @@ fn measured(opcode: u8) -> (usize, bool) {
     (text.len().saturating_sub(rest.len()), is_location)
 }
 
-// Evaluates three literals and an operation with this opcode, the last that the maximum allows. The operation after a
-// location is read too.
+// Evaluates three literals and an operation with this opcode, which is the last one that the maximum allows. If it
+// gives a location, the operation after it is read too.
 fn expect_evaluation(rt: &impl Abort, alloc: Global, opcode: u8) {
     let text = [0x31, 0x31, 0x31, opcode, 1, 1, 1, 1, 1, 1, 1, 1, 1];
     let read = Cell::new(0);
@@ -106,7 +106,7 @@ static LOOP: &[u8] = &[
     0x93, 0x04, // piece 4
 ];
 
-// The steps of the loop's 302 operations, which the maximum allows.
+// The steps that run the loop to its end. The maximum is exactly its 302 operations.
 fn turns<R: Copy>(alloc: Global, callee: R) -> Result<Vec<Step<R>>, AllocError> {
     let mut steps = Vec::new(alloc);
     steps.push(Step::MaxIterations(302))?;

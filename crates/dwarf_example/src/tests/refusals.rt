@@ -1,4 +1,4 @@
-//! Refuses each push of an evaluation in turn, and each growth of its lists and of the answers.
+//! Tests that refuse each push of an evaluation in turn, and each growth of its lists and of the list of answers.
 
 ghost use Rattle.std.specs.Prelude.{◌≡◌, ◌<◌, ◌≤◌, [], None};
 ghost use Rattle.dwarf_expr.specs.Rest.{Start};
@@ -16,8 +16,8 @@ use dwarf_expr::value::Value::{self, Generic};
 use std::alloc::{AllocError, Allocator, Global};
 use std::process::Abort;
 
-// A value, the frame's address, a piece in a register, and a call of this same text. The calls nest, and a piece ends
-// the innermost text.
+// A value, the frame's address, a piece in a register, and a call of this same text. The calls nest; the innermost text
+// ends with the piece.
 static TURN: &[u8] = &[0x31, 0x9c, 0x50, 0x93, 0x01, 0x98, 0x01, 0x00];
 
 const TURNS: u64 = 60;
@@ -25,7 +25,7 @@ const TURNS: u64 = 60;
 // A call of this text.
 const AGAIN: &[u8] = &[0x98, 0x01, 0x00];
 
-// The number of lists: of values, callers, pieces and answers.
+// The number of lists: the values, the callers, the pieces and the answers.
 const LISTS: usize = 4;
 
 // Forty ones, and their sum.
@@ -69,7 +69,7 @@ fn push_later(steps: &mut Vec<Step<Bytes<'static>>>) -> Result<(), AllocError> {
     Ok(())
 }
 
-// Nested calls of `TURN`. Every other answer with the frame's address has bits above an address.
+// Nested calls of `TURN`. Every second frame address has bits above the address size.
 fn nested_turns(alloc: Global) -> Result<Case, AllocError> {
     let cfa = Answer(Ok(EvaluationResult::RequiresCallFrameCfa));
     let mut steps = Vec::new(alloc);
@@ -143,8 +143,8 @@ fn calls(alloc: Global, row: Calls) -> Result<Case, AllocError> {
     })
 }
 
-// Expects the answers of a replay in which one push or growth may be refused. Up to the refusal they are those with
-// ample memory; from then on each call gives the fault.
+// Expects the answers of a replay in which one push or growth may be refused. Up to the refusal they are those of a
+// replay with ample memory; from then on each call gives the fault.
 fn expect_answers(
     rt: &impl Abort,
     case: &Case,
@@ -191,7 +191,7 @@ fn evaluation<'a>(
     )
 }
 
-// Expects the evaluation to be complete, with the value and the number of pieces of the case, or to have met a refusal.
+// Expects the evaluation to be complete with the case's value and number of pieces, or to have met a refusal.
 fn expect_end<R: Reader + Copy, S: EvaluationStorage<R>>(
     rt: &impl Abort,
     eval: &Evaluation<R, S>,
@@ -207,7 +207,7 @@ fn expect_end<R: Reader + Copy, S: EvaluationStorage<R>>(
     }
 }
 
-// Replays the case. The given list refuses the push after this many others, if there is one.
+// Replays the case. The list at this index refuses one push, after this many others, if there is one.
 fn expect_push(rt: &impl Abort, alloc: Global, case: &Case, list: usize, before: u64)
     requires { list < 4 }
 {
@@ -263,7 +263,8 @@ fn expect_growth<A: Allocator + Copy, B: Allocator>(
     end
 }
 
-// Refuses each growth of the lists on the heap in turn, and each of the answers. No growth follows a refused one.
+// Refuses each growth of the lists on the heap in turn, and each growth of the answers. No growth may follow a refused
+// one.
 fn expect_growths(rt: &impl Abort, alloc: Global, case: &Case) {
     for before in 0..40 {
         let lists = RefusesGrowth::new(alloc, before);
@@ -285,7 +286,7 @@ fn refused_growths(rt: HostRuntime) -> Result<(), AllocError> {
     Ok(())
 }
 
-// Expects the evaluation's first push to be refused after a restart, so that there was none before it.
+// Expects the first push after a restart to be refused, which shows that the restart pushed nothing.
 fn expect_first_push<R: Reader + Copy, S: EvaluationStorage<R>>(
     rt: &impl Abort,
     mut eval: Evaluation<R, S>,
@@ -317,7 +318,7 @@ fn expect_first_growth<A: Allocator + Copy>(
     expect_first_push(rt, eval, text, encoding);
 }
 
-// Expects an evaluation to take no memory when it is made and when it is restarted.
+// Expects that making and restarting an evaluation allocates nothing.
 fn expect_beginning(rt: &impl Abort, alloc: Global, text: &[u8], encoding: Encoding) {
     assert!(rt; 0 < encoding.address_size && encoding.address_size <= 8);
     let eval = evaluation(alloc, text, encoding, [0; LISTS]);

@@ -1,4 +1,4 @@
-//! A test of going on by hand after a replay.
+//! A test of calls after a replay.
 
 ghost use Rattle.std.specs.Prelude.{◌≡◌, None};
 ghost use Rattle.dwarf_expr.specs.Rest.{Start};
@@ -13,7 +13,7 @@ use dwarf_expr::value::Value::Generic;
 use std::alloc::Global;
 use std::process::Abort;
 
-// Settings from before a replay hold, and a step that isn't allowed changes nothing.
+// Expects settings from before a replay to hold, and a step that isn't allowed to change nothing.
 fn expect_misplaced<R: Reader + Copy, S: EvaluationStorage<R>>(
     rt: &impl Abort,
     alloc: Global,

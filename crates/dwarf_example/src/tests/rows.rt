@@ -29,7 +29,7 @@ const REFUSED: Case<'static> = Case {
     ..FRESH
 };
 
-// A case that ends with no value where one is needed.
+// A case that ends because a value is missing.
 const WITHOUT_VALUE: Case<'static> = Case {
     status: Status::Failed(Error::NotEnoughStackItems),
     ..FRESH
@@ -60,7 +60,7 @@ const AGAIN: &[u8] = &[0x98, 0x01, 0x00];
 // A call, and a piece of four bytes at the place that it gives.
 const CALLED_PIECE: &[u8] = &[0x98, 0x05, 0x00, 0x93, 0x04];
 
-// As many operations as the maximum.
+// Steps for exactly as many operations as the maximum.
 const CALLED_REGISTER: &[Step<&[u8]>] = &[
     Step::MaxIterations(2),
     Step::Evaluate,
@@ -239,7 +239,7 @@ static ROWS: [Case<'static>; 29] = [
         status: Status::Start { initial: true },
         ..FRESH
     },
-    // The maximum is met before or after the stack is full.
+    // The maximum is reached before or after the stack is full.
     Case {
         text: ENDLESS,
         limits: [Some(3), None, None, None],
@@ -255,7 +255,7 @@ static ROWS: [Case<'static>; 29] = [
         status: Status::Failed(Error::TooManyIterations),
         ..FRESH
     },
-    // One value, one caller and two pieces. In each case another list is too short.
+    // An evaluation needs one value, one caller and two pieces. In each case another list is too short.
     Case {
         text: PIECES,
         limits: [Some(0), Some(1), Some(2), None],
@@ -292,7 +292,7 @@ static ROWS: [Case<'static>; 29] = [
         pieces: &[AT_ADDRESS_1, IN_REGISTER_0],
         ..DONE
     },
-    // Answers that agree up to the size of an address fill the stack alike.
+    // Answers that differ only above the address size fill the stack in the same way.
     Case {
         text: &[0x9c, 0x31],
         limits: [Some(1), None, None, None],
@@ -311,7 +311,7 @@ static ROWS: [Case<'static>; 29] = [
         answers: &[WANTS_CFA, FULL, FULL],
         ..REFUSED
     },
-    // Whatever is called after a refused push gives its fault.
+    // After a refused push every call gives its fault.
     Case {
         text: &[0x31],
         limits: [Some(0), None, None, None],
@@ -326,8 +326,8 @@ static ROWS: [Case<'static>; 29] = [
         answers: &[FULL; 15],
         ..REFUSED
     },
-    // Asks for an answer of each kind, except for an expression's value at the function's entry, and adds the answers
-    // up. Each answer is a different power of two.
+    // Asks for an answer of each kind except an entry value, and adds the answers up. Each answer is a different power
+    // of two.
     Case {
         text: &[
             0x31, 0x06, 0x70, 0x00, 0x22, 0xed, 0x01, 0x01, 0x22, 0x91, 0x00, 0x22, 0x35, 0x9b,
@@ -390,7 +390,7 @@ fn evaluations(rt: HostRuntime) -> Result<(), AllocError> {
     Ok(())
 }
 
-// Only the location that is nowhere is empty.
+// Only `Location::Empty` makes a piece empty.
 #[test]
 fn empty_location(rt: HostRuntime) {
     assert!(rt; Location::<Bytes<'_>>::Empty.is_empty());

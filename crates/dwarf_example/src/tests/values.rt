@@ -1,4 +1,4 @@
-//! Tests of the calls on values that the archive doesn't export; tests/c/values.c has the others.
+//! Tests of the calls on values that the library for C doesn't export; c/tests/values.c has the others.
 
 use crate::tests::evaluation::little;
 use dwarf_expr::base::constants::{DW_ATE_float, DW_ATE_signed, DW_ATE_unsigned};
@@ -36,7 +36,7 @@ fn parsed(rt: HostRuntime) {
     assert!(rt; generic == Err(Error::UnsupportedTypeOperation));
 }
 
-// An encoding, a size in bytes, the type of both, and its size in bits.
+// An encoding, a size in bytes, the type that they give, and its size in bits.
 static TYPES: [(DwAte, u64, Option<ValueType>, u32); 11] = [
     (DW_ATE_signed, 1, Some(ValueType::I8), 8),
     (DW_ATE_signed, 2, Some(ValueType::I16), 16),
@@ -58,7 +58,7 @@ fn types_and_masks(rt: HostRuntime) {
         let (encoding, byte_size, wanted, bits) = *row;
         let value_type = ValueType::from_encoding(encoding, byte_size);
         assert!(rt; value_type == wanted, "row {i}");
-        // An encoding and size without a type count as the generic type here.
+        // If an encoding and size give no type, the size in bits is the generic type's.
         let value_type = value_type.unwrap_or(ValueType::Generic);
         assert!(rt; value_type.bit_size(MASK) == bits, "row {i}");
     }

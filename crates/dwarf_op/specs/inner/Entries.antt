@@ -1,4 +1,4 @@
--- The rows of the standard's table that the decoder's operands and makers stand for.
+-- The rows of the table of opcodes, as the decoder's shapes and makers give them.
 use Rattle.std.specs.Prelude.{ℕ, ◌≡◌, ◌*◌, pos, List, [], ◌∷◌, Some, None, Result, Ok, Err}
 use Rattle.dwarf_base.specs.declared.errors.Error.{Error}
 use Rattle.dwarf_base.specs.Faults.{Fault, fault_of}
@@ -20,7 +20,7 @@ use Rattle.dwarf_op.specs.declared.decoding.BlockMaker.TheVariants as block_make
 
 -- ---- operands
 
--- an operand of the code, as the definitions have it
+-- maps an operand in the code to one whose offset is a number
 abbrev pub operand_of : {O : Type 0} → (O → ℕ) → Operand O → Operand ℕ
 operand_of number operand = record {
   byte = operand.byte;
@@ -46,7 +46,7 @@ no_operand = record {
   index = 0;
 }
 
--- the row of a WebAssembly index of this kind, and then of what follows it
+-- the row of a WebAssembly index of this kind, and then of `next`
 abbrev pub wasm_index_row : (kind : ℕ) → (Operand ℕ → Row) → Row
 wasm_index_row kind next =
     row_among (Invalid 0xed) kind
@@ -55,7 +55,7 @@ wasm_index_row kind next =
     ∷ one 2 (Unsigned (Leb128, U32) (λ n. next (record no_operand { place = place.Stack; index = n })))
     ∷ one 3 (Unsigned (Bytes 4, Any) (λ n. next (record no_operand { place = place.Global; index = n }))) ∷ [])
 
--- the row of an operand in its shape, and then of what follows it; `before` is the operand before it
+-- the row of an operand in its shape, and then of `next`; `before` is the operand before it
 abbrev pub shape_row : Encoding → Shape → (before : Operand ℕ) → (Operand ℕ → Row) → Row
 shape_row encoding shape.Absent before next = next no_operand
 shape_row encoding shape.U8 before next =
@@ -84,7 +84,7 @@ shape_row encoding shape.Address before next =
     Unsigned (Bytes encoding.address_size, Any) (λ n. next (record no_operand { unsigned = n }))
 shape_row encoding shape.WasmIndex before next = wasm_index_row before.byte next
 
--- The result of reading one operand, by its row and any row that may follow: that row is read on, or there is the
+-- After one operand is read, reading its row and any row `next` comes to reading `next` from there on; or to the same
 -- fault.
 abbrev pub Leads : {X Y : Type 0} → (offset_bits : ℕ) → (X → Y) → (old new : Text) → Result X Error
     → ((Y → Row) → Row) → Type 0
@@ -164,7 +164,7 @@ row_of_block encoding size make before =
 abbrev pub operands_in : (offset_bits : ℕ) → Text → Row → Result (meaning.Operation × List ℕ) Fault
 operands_in offset_bits text row = operands_at offset_bits text.is_big row text.bytes
 
--- a second read after the read of an operand: together they read the first operand's row and the row that follows it
+-- after the first operand was read, a second read: together they read the first operand's row and the row `next`
 abbrev pub FollowsOn : {X Z : Type 0} → (offset_bits : ℕ) → (X → Operand ℕ) → (Z → meaning.Operation) → (mid new : Text)
     → (first : Result X Error) → Result Z Error → (next : Operand ℕ → Row) → Type 0
 FollowsOn offset_bits operand operation mid new first result next =

@@ -1,4 +1,5 @@
--- What the operators on two values of one type begin with. Private contracts alone cite this file.
+-- The operands of operators on two values of one type, or their fault. Only contracts of private functions cite this
+-- file.
 use Rattle.std.specs.Prelude.{◌≡◌, ◌≢◌, ◌⊎◌, ℕ, ◌^◌, ℤ, pos, neg_ℤ, ◌≤ℤ◌, ◌<ℤ◌, Bool, true, false, unsigned_abs}
 use Rattle.std.specs.Int.{is_negative}
 use Rattle.std.specs.Ordering.{int_eq}

@@ -9,7 +9,7 @@ use Rattle.dwexpr.specs.declared.steps.BadLine.{BadLine}
 use Rattle.dwexpr.specs.declared.words.Invocation.{Invocation}
 use Rattle.dwexpr.specs.declared.words.Words.{Words}
 
--- the result is what the input says, or bad if it says nothing; memory for it may be refused
+-- the result is what the input says, or `Bad` if that is nothing; memory for it may be refused
 abbrev pub ReadsInput : {X Y B : Type 0} → (X → Y) → (said : Option Y) → Result X (InputFault B) → Type 0
 ReadsInput view said (Ok x) = said ≡ Some (view x)
 ReadsInput view said (Err (input.Bad bad)) = said ≡ None
@@ -23,13 +23,13 @@ texts_of words =
     words.command.now ∷ words.address_size.now ∷ words.offset_size.now ∷ words.version.now ∷ words.order.now
     ∷ words.bytes.now ∷ []
 
--- what an invocation of the code asks for, as the definitions have it
+-- maps an invocation in the code to the definitions
 abbrev pub asked_by : {A : Type 0} → Invocation A → spec.Invocation
 asked_by x = record { command = x.command; context = x.context; bytes = x.bytes.items }
 
 -- ---- lines
 
--- the result is the steps that lines spell, or the line that spells none; memory for them may be refused
+-- the result is the steps that the lines spell, or the first line that spells none; memory for them may be refused
 abbrev pub ReadsSteps : {A B : Type 0} → (A → Step) → (said : Result (List Step) ℕ)
     → Result (Vec A B) (InputFault BadLine) → Type 0
 ReadsSteps view said (Ok steps) = said ≡ Ok (map view steps.items)

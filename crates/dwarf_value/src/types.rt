@@ -87,18 +87,13 @@ impl ValueType {
     }
 
     /// The size of the type's values in bytes, with addresses of 8 bytes.
-    #[tactic(auto, unfolding(crate::specs::Values::bit_size_of))]
+    #[tactic(auto, unfolding(crate::specs::Values::bit_size_of), using(crate::proofs::MaskBits::all_bits))]
     #[inline(always)]
     pub(crate) fn byte_size(self) -> u8
         ensures size { result ≡ bit_size_of 64 self / 8 }
         ensures fixed { IsTrue (is_fixed_size result) }
     {
-        match self {
-            ValueType::I8 | ValueType::U8 => 1,
-            ValueType::I16 | ValueType::U16 => 2,
-            ValueType::I32 | ValueType::U32 => 4,
-            ValueType::Generic | ValueType::I64 | ValueType::U64 => 8,
-        }
+        (self.bit_size(u64::MAX) / 8) as u8
     }
 
     /// The type of values for a base type with this encoding and this size in bytes (DWARF 5, sections 5.1 and 7.8).
@@ -106,45 +101,28 @@ impl ValueType {
     pub fn from_encoding(encoding: DwAte, byte_size: u64) -> Option<ValueType>
         ensures { result ≡ from_encoding_of encoding.0 byte_size }
     {
-        if encoding == DW_ATE_signed {
-            match byte_size {
-                1 => Some(ValueType::I8),
-                2 => Some(ValueType::I16),
-                4 => Some(ValueType::I32),
-                8 => Some(ValueType::I64),
-                _ => None,
-            }
-        } else if encoding == DW_ATE_unsigned {
-            match byte_size {
-                1 => Some(ValueType::U8),
-                2 => Some(ValueType::U16),
-                4 => Some(ValueType::U32),
-                8 => Some(ValueType::U64),
-                _ => None,
-            }
-        } else {
-            None
-        }
+        Some(match (encoding, byte_size) {
+            (DW_ATE_signed, 1) => ValueType::I8,
+            (DW_ATE_signed, 2) => ValueType::I16,
+            (DW_ATE_signed, 4) => ValueType::I32,
+            (DW_ATE_signed, 8) => ValueType::I64,
+            (DW_ATE_unsigned, 1) => ValueType::U8,
+            (DW_ATE_unsigned, 2) => ValueType::U16,
+            (DW_ATE_unsigned, 4) => ValueType::U32,
+            (DW_ATE_unsigned, 8) => ValueType::U64,
+            _ => return None,
+        })
     }
 }
 
 impl Value {
     /// The value's type.
-    #[tactic(auto, unfolding(crate::specs::Values::type_of))]
+    #[tactic(auto, using(crate::proofs::MaskBits::all_bits))]
     #[inline(always)]
     pub fn value_type(&self) -> ValueType
         ensures { result ≡ type_of self.now }
     {
-        match *self {
-            Value::Generic(_) => ValueType::Generic,
-            Value::I8(_) => ValueType::I8,
-            Value::U8(_) => ValueType::U8,
-            Value::I16(_) => ValueType::I16,
-            Value::U16(_) => ValueType::U16,
-            Value::I32(_) => ValueType::I32,
-            Value::U32(_) => ValueType::U32,
-            Value::I64(_) => ValueType::I64,
-            Value::U64(_) => ValueType::U64,
-        }
+        let (value_type, _) = self.parts(u64::MAX, false);
+        value_type
     }
 }

@@ -274,10 +274,10 @@ impl<R: Reader + Copy, S: EvaluationStorage<R>> Machine<R, S> {
         };
         let mut space = None;
         if has_space {
-            let Some(number) = self.pop_number() else {
+            let Some(named) = self.pop_number() else {
                 return;
             };
-            space = Some(number);
+            space = Some(named);
         }
         self.ask(
             EvaluationResult::RequiresMemory {

@@ -1,11 +1,8 @@
 //! Where an evaluation stands, and what is done with an answer.
 
-ghost use Rattle.std.specs.Prelude.{◌≡◌, ⊤};
-
 use crate::op::EvaluationResult;
 use dwarf_base::{Error, Reader};
 use dwarf_value::{Value, ValueType};
-use std::alloc::AllocError;
 
 /// Of what sort the last operation was.
 #[derive(Clone, Copy)]
@@ -23,7 +20,6 @@ pub(crate) enum LastOperation {
 }
 
 /// What is done with the answer to an open request.
-#[derive(Copy)]
 pub(crate) enum OnAnswer<R> {
     /// It is pushed as it is, or run.
     Push,
@@ -37,19 +33,7 @@ pub(crate) enum OnAnswer<R> {
     Reinterpret,
 }
 
-impl<R: Copy> Clone for OnAnswer<R> {
-    // A copy, and not a clone of each field, which takes long to prove.
-    ghost is_clone = { λ x y. y ≡ x };
-
-    ghost is_infallible = { λ _. ⊤ };
-
-    fn clone(&self) -> Result<Self, AllocError> {
-        Ok(*self)
-    }
-}
-
 /// Where an evaluation stands.
-#[derive(Copy)]
 pub(crate) enum EvaluationState<R: Reader, O = <R as Reader>::Offset> {
     /// Nothing was evaluated yet; the initial value, if one is set.
     Start(Option<u64>),
@@ -63,19 +47,7 @@ pub(crate) enum EvaluationState<R: Reader, O = <R as Reader>::Offset> {
     Waiting(EvaluationResult<R, O>),
 }
 
-impl<R: Reader + Copy, O: Copy> Clone for EvaluationState<R, O> {
-    // A copy, and not a clone of each field, which takes long to prove.
-    ghost is_clone = { λ x y. y ≡ x };
-
-    ghost is_infallible = { λ _. ⊤ };
-
-    fn clone(&self) -> Result<Self, AllocError> {
-        Ok(*self)
-    }
-}
-
 /// What a resume is given.
-#[derive(Copy)]
 pub(crate) enum Given<R> {
     /// A value.
     Value(Value),
@@ -85,15 +57,4 @@ pub(crate) enum Given<R> {
     Location(R),
     /// A type.
     BaseType(ValueType),
-}
-
-impl<R: Copy> Clone for Given<R> {
-    // A copy, and not a clone of each field, which takes long to prove.
-    ghost is_clone = { λ x y. y ≡ x };
-
-    ghost is_infallible = { λ _. ⊤ };
-
-    fn clone(&self) -> Result<Self, AllocError> {
-        Ok(*self)
-    }
 }

@@ -81,9 +81,9 @@ returns g c =
       | then-has_space+in-Some-pop_number w ↦
           let low : State = w.pop_number-then-has_space.new.self in
           subst (λ (space : Bool). Performs (at_address (address_bits old.setup) base_type c.args.size space c.in-Some.address mid.store.values) mid new) (sym w.if-has_space.true)
-          (performs_number (address_bits old.setup) (λ n rest. RequestAct rest (RequiresMemory c.in-Some.address c.args.size (Some n) base_type) Push) w.in-Some-pop_number.number mid low new
+          (performs_number (address_bits old.setup) (λ n rest. RequestAct rest (RequiresMemory c.in-Some.address c.args.size (Some n) base_type) Push) w.in-Some-pop_number.named mid low new
           (sym (ap (λ (z : State). address_bits z.setup) c.in-Some.ensures.alone)) w.in-Some-pop_number.ensures
-          (asked base_type c.args.size c.in-Some.address c.if-has_space.space (Some w.in-Some-pop_number.number) c.if-has_space.self low new w.self-is w.space-is c.ask.ensures.alone))
+          (asked base_type c.args.size c.in-Some.address c.if-has_space.space (Some w.in-Some-pop_number.named) c.if-has_space.self low new w.self-is w.space-is c.ask.ensures.alone))
       | else-has_space w ↦
           subst (λ (space : Bool). Performs (at_address (address_bits old.setup) base_type c.args.size space c.in-Some.address mid.store.values) mid new) (sym w.if-has_space.false)
           (asked base_type c.args.size c.in-Some.address c.if-has_space.space None c.if-has_space.self mid new w.self-is w.space-is c.ask.ensures.alone)

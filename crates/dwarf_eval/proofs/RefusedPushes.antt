@@ -5,7 +5,7 @@ use Rattle.dwarf_value.specs.declared.types.Value.{Value}
 use Rattle.dwarf_meaning.specs.Stores.{Setup, Store, push_value, push_values, Plain}
 use Rattle.dwarf_meaning.specs.Rest.{State, with_refusal}
 use Rattle.dwarf_meaning.specs.Refusals.{Limits, Refusal, Never, After, MayPick}
-use Rattle.dwarf_eval.specs.inner.StateChanges.{ChangesStoreBy, Stays, TriesChange, with_store, HasTriedChange, with_last, before_push, before_pushes}
+use Rattle.dwarf_eval.specs.inner.StateChanges.{Refused, ChangesStoreBy, Stays, TriesChange, with_store, HasTriedChange, with_last, before_push, before_pushes}
 use Rattle.dwarf_eval.proofs.Staying.{stays_from, stays_more, stays_pushed}
 
 pub before_more : (p q : ℕ) (r : Refusal) → before_pushes (p + q) r ≡ before_pushes p (before_pushes q r)
@@ -98,6 +98,23 @@ pub values_then : (n : ℕ) (first : Value) (others : List Value) (old mid new :
 values_then n first others old mid new done pushed h =
     does_then n (1 + n) (push_value old.setup first) (λ setup. push_values setup others) old mid new done pushed
     (stays_more 1 n old mid new (stays_pushed old.setup first old mid pushed)) h
+
+-- the first is refused
+pub refused_first : (n : ℕ) (first : Value) (others : List Value) (old new : State) → Refused 0 (push_value old.setup first) old new → Refused n (push_values old.setup (first ∷ others)) old new
+refused_first n first others old new h = record {
+  error = h.error;
+  failed = h.failed;
+  gets = record { refusal = h.gets.refusal; may = h.gets.may; same = ap (λ (z : Result Store Fault). z >>= push_values old.setup others) h.gets.same };
+  stays = record {
+    kept = h.stays.kept;
+    text = h.stays.text;
+    callers = h.stays.callers;
+    count = h.stays.count;
+    decodings = h.stays.decodings;
+    pieces = h.stays.pieces;
+    items = omega (arith, h.stays.items);
+  };
+}
 
 pub value_then : (first second : Value) (old mid new : State) (done : Bool)
     → ChangesStoreBy (push_value old.setup first) old mid → TriesChange 0 (push_value mid.setup second) mid new done

@@ -93,11 +93,6 @@ HasTriedChange more f old new = (done : Bool) × TriesChange more f old new done
 abbrev pub PushesPlain : Value → State → State → Type 0
 PushesPlain value old new = HasTriedChange 0 (λ s. push_value old.setup value (record s { last = Plain })) old new
 
--- the values of a plain operation were pushed, in order, or the state keeps the fault
-abbrev pub PushesAllPlain : List Value → State → State → Type 0
-PushesAllPlain values old new =
-    HasTriedChange (length values - 1) (λ s. push_values old.setup values (record s { last = Plain })) old new
-
 -- the value that a plain operation computed was pushed, or the state keeps the fault
 abbrev pub PushesComputed : Result Value Error → State → State → Type 0
 PushesComputed (Ok value) old new = PushesPlain value old new

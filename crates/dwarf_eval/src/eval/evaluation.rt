@@ -133,7 +133,7 @@ impl<R: Reader + Copy, S: EvaluationStorage<R>> Evaluation<R, S> {
         requires { self.old.status ≡ Start None }
         ensures { self.new ≡ with_status (Start (Some value)) self.old }
     {
-        self.machine.set_initial_value(value);
+        self.machine.state = EvaluationState::Start(Some(value));
     }
 
     /// Sets the address of the described object, for `DW_OP_push_object_address`. It holds from now on. Without one
@@ -141,7 +141,7 @@ impl<R: Reader + Copy, S: EvaluationStorage<R>> Evaluation<R, S> {
     pub fn set_object_address(&mut self, value: u64)
         ensures { self.new ≡ with_object (Some value) self.old }
     {
-        self.machine.set_object_address(value);
+        self.machine.object_address = Some(value);
     }
 
     /// Sets the maximum number of operations in the whole evaluation; one more fails with `TooManyIterations`. It holds
@@ -150,7 +150,7 @@ impl<R: Reader + Copy, S: EvaluationStorage<R>> Evaluation<R, S> {
     pub fn set_max_iterations(&mut self, value: u32)
         ensures { self.new ≡ with_maximum value self.old }
     {
-        self.machine.set_max_iterations(value);
+        self.machine.max_iterations = value;
     }
 
     /// Evaluates from the start to a request or to the end.

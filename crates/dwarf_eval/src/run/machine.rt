@@ -28,11 +28,11 @@ use std::mem;
 /// The state of an evaluation, and its smallest steps: these alone see bytes and lists.
 #[derive(Drop)]
 pub(crate) struct Machine<R: Reader + Copy, S: EvaluationStorage<R>> {
-    state: EvaluationState<R>,
+    pub(crate) state: EvaluationState<R>,
     encoding: Encoding,
     addr_mask: u64,
-    object_address: Option<u64>,
-    max_iterations: u32,
+    pub(crate) object_address: Option<u64>,
+    pub(crate) max_iterations: u32,
     iteration: u32,
     // What is left of the running text, or `None` while a run has it.
     rest: Option<R>,
@@ -224,14 +224,6 @@ impl<R: Reader + Copy, S: EvaluationStorage<R>> Machine<R, S> {
         let location = mem::replace(&mut self.location, Location::Empty);
         self.mark_pieced();
         location
-    }
-
-    /// Is to start with this value on the stack.
-    #[inline(always)]
-    pub(crate) fn set_initial_value(&mut self, value: u64)
-        ensures { self.new ≡ with_status (Start (Some value)) self.old }
-    {
-        self.state = EvaluationState::Start(Some(value));
     }
 
     /// Runs from now on.
@@ -454,20 +446,6 @@ impl<R: Reader + Copy, S: EvaluationStorage<R>> Machine<R, S> {
         self.rest = Some(caller.0);
         self.whole = caller.1;
         true
-    }
-
-    /// Sets the address of the object that is described.
-    pub(crate) fn set_object_address(&mut self, value: u64)
-        ensures { self.new ≡ with_object (Some value) self.old }
-    {
-        self.object_address = Some(value);
-    }
-
-    /// Sets how many operations may be counted in all.
-    pub(crate) fn set_max_iterations(&mut self, value: u32)
-        ensures { self.new ≡ with_maximum value self.old }
-    {
-        self.max_iterations = value;
     }
 
     /// The pieces.

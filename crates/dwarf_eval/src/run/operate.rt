@@ -1,12 +1,12 @@
-ghost use Rattle.std.specs.Prelude.{◌≡◌, [], ◌∷◌};
+ghost use Rattle.std.specs.Prelude.{◌≡◌};
 ghost use Rattle.dwarf_base.specs.Reads.{IsRestOf};
 ghost use Rattle.dwarf_meaning.specs.Acts.{Branches, binary, unary};
 ghost use Rattle.dwarf_meaning.specs.Operations as meaning;
 ghost use Rattle.dwarf_meaning.specs.Rest.{Running};
-ghost use Rattle.dwarf_meaning.specs.Stores.{address_bits, push_values};
+ghost use Rattle.dwarf_meaning.specs.Stores.{address_bits};
 ghost use Rattle.dwarf_value.specs.Values.{from_u64_of, to_u64_of, type_of, unary_of, binary_of, Plus};
 ghost use Rattle.dwarf_eval.specs.inner.Machine.{binary_operator_of, operator_of};
-ghost use Rattle.dwarf_eval.specs.inner.StateChanges.{Performs, PushesAllPlain, PushesComputed, PushesPlain, TriesChange, TriesToPopNumber, act_of, at_rest};
+ghost use Rattle.dwarf_eval.specs.inner.StateChanges.{Performs, PushesComputed, PushesPlain, TriesToPopNumber, act_of, at_rest};
 
 use crate::op::EvaluationResult;
 use crate::run::machine::Machine;
@@ -35,38 +35,6 @@ impl<R: Reader + Copy, S: EvaluationStorage<R>> Machine<R, S> {
         match computed {
             Ok(value) => self.push_plain(value),
             Err(error) => self.fail(error),
-        }
-    }
-
-    /// Pushes two values, the second on top.
-    #[inline(always)]
-    fn push_two(&mut self, first: Value, second: Value) -> bool
-        ensures { TriesChange 1 (push_values self.old.setup (first ∷ second ∷ [])) self.old self.new
-            result }
-    {
-        if !self.push(first) {
-            return false;
-        }
-        self.push(second)
-    }
-
-    /// Pushes two values of a plain operation, the second on top.
-    #[inline(always)]
-    fn push_both(&mut self, first: Value, second: Value)
-        ensures { PushesAllPlain (first ∷ second ∷ []) self.old self.new }
-    {
-        self.mark_plain();
-        self.push_two(first, second);
-    }
-
-    /// Pushes three values of a plain operation, the third on top.
-    #[inline(always)]
-    fn push_three(&mut self, first: Value, second: Value, third: Value)
-        ensures { PushesAllPlain (first ∷ second ∷ third ∷ []) self.old self.new }
-    {
-        self.mark_plain();
-        if self.push(first) {
-            self.push_two(second, third);
         }
     }
 
@@ -156,7 +124,10 @@ impl<R: Reader + Copy, S: EvaluationStorage<R>> Machine<R, S> {
     {
         let Some(top) = self.pop() else { return };
         let Some(next) = self.pop() else { return };
-        self.push_both(top, next)
+        self.mark_plain();
+        if self.push(top) {
+            self.push(next);
+        }
     }
 
     /// Moves the top under the two below it.
@@ -168,7 +139,10 @@ impl<R: Reader + Copy, S: EvaluationStorage<R>> Machine<R, S> {
         let Some(top) = self.pop() else { return };
         let Some(second) = self.pop() else { return };
         let Some(third) = self.pop() else { return };
-        self.push_three(top, third, second)
+        self.mark_plain();
+        if self.push(top) && self.push(third) {
+            self.push(second);
+        }
     }
 
     /// Adds a constant to the top.

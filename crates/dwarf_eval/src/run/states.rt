@@ -20,6 +20,7 @@ pub(crate) enum LastOperation {
 }
 
 /// What is done with the answer to an open request.
+#[derive(Drop)]
 pub(crate) enum OnAnswer<R> {
     /// It is pushed as it is, or run.
     Push,
@@ -34,6 +35,7 @@ pub(crate) enum OnAnswer<R> {
 }
 
 /// Where an evaluation stands.
+#[derive(Drop)]
 pub(crate) enum EvaluationState<R: Reader, O = <R as Reader>::Offset> {
     /// Nothing was evaluated yet; the initial value, if one is set.
     Start(Option<u64>),
@@ -48,6 +50,7 @@ pub(crate) enum EvaluationState<R: Reader, O = <R as Reader>::Offset> {
 }
 
 /// What a resume is given.
+#[derive(Drop)]
 pub(crate) enum Given<R> {
     /// A value.
     Value(Value),

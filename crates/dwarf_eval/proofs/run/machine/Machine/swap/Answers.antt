@@ -1,8 +1,11 @@
-use Rattle.std.proofs.Common.{ℕ, ◌≡◌, List, [], ◌∷◌, Option, ap, refl}
+use Rattle.std.proofs.Common.{ℕ, ◌≡◌, Bool, false, List, [], ◌∷◌, Option, Some, ap, refl}
 use Rattle.dwarf_value.specs.declared.types.Value.{Value}
 use Rattle.dwarf_meaning.specs.Acts.{Pushes, act, on_top, underflow}
 use Rattle.dwarf_meaning.specs.Operations as operation
-use Rattle.dwarf_meaning.specs.Stores.{address_bits}
+use Rattle.dwarf_meaning.specs.Stores.{Plain, address_bits, push_values}
+use Rattle.dwarf_meaning.specs.Rest.{State, Running}
+use Rattle.dwarf_eval.specs.inner.StateChanges.{Performs, Pops, TriesChange, act_of, with_last}
+use Rattle.dwarf_eval.proofs.RefusedPushes.{plain_tried, refused_first, value_then}
 use Rattle.dwarf_eval.proofs.Performances.{fewer_two, performs_as, performs_popped, performs_pushes, pops_two, underflows}
 use Rattle.dwarf_eval.proofs.run.machine.Machine.swap.Goals as goal
 
@@ -24,11 +27,22 @@ returns-in_default-pop g c =
     (performs_popped _ c.in-Some.top c.args.self.now c.pop.new.self new c.in-Some.ensures
     (underflows _ c.pop.new.self new c.in_default-pop.ensures))
 
-pub returns : goal.returns
-unfolding act
-returns g c =
-    let x = c.args.self.now in
-    let two = pops_two c.in-Some.top c.in-Some-pop.next x c.pop.new.self c.pop-2.new.self c.in-Some.ensures c.in-Some-pop.ensures in
-    performs_as _ _ x c.push_both.new.self (ap (act (address_bits x.setup) x.store.settings.object_address operation.Swap) two.values)
-    (performs_pushes 1 two.rest (c.in-Some.top ∷ c.in-Some-pop.next ∷ []) x c.pop-2.new.self c.push_both.new.self c.requires
-    (fewer_two c.in-Some.top c.in-Some-pop.next two.rest x.store.values two.values) two.alone c.push_both.ensures)
+-- both are pushed, or one of them is refused
+module _ (top next : Value) (old mid low marked : State) (new : State) (done : Bool) (runs : old.status ≡ Running) (first : Pops (Some top) old mid) (second : Pops (Some next) mid low) (mark : marked ≡ with_last Plain low) where
+  swaps : TriesChange 1 (push_values marked.setup (top ∷ next ∷ [])) marked new done → Performs (act_of old operation.Swap) old new
+  unfolding act
+  swaps h =
+      let two = pops_two top next old mid low first second in
+      performs_as _ _ old new (ap (act (address_bits old.setup) old.store.settings.object_address operation.Swap) two.values)
+      (performs_pushes 1 two.rest (top ∷ next ∷ []) old low new runs (fewer_two top next two.rest old.store.values two.values) two.alone
+      (plain_tried 1 (λ setup. push_values setup (top ∷ next ∷ [])) low marked new done mark h))
+
+pub returns-then-push : goal.returns-then-push
+returns-then-push g c =
+    swaps c.in-Some.top c.in-Some-pop.next c.args.self.now c.pop.new.self c.pop-2.new.self c.mark_plain.new.self c.push-then-push.new.self c.push-then-push.result c.requires c.in-Some.ensures c.in-Some-pop.ensures c.mark_plain.ensures
+    (value_then c.in-Some.top c.in-Some-pop.next c.mark_plain.new.self c.push.new.self c.push-then-push.new.self c.push-then-push.result (rw c.if-push.true at c.push.ensures) c.push-then-push.ensures)
+
+pub returns-else-push : goal.returns-else-push
+returns-else-push g c =
+    swaps c.in-Some.top c.in-Some-pop.next c.args.self.now c.pop.new.self c.pop-2.new.self c.mark_plain.new.self c.push.new.self false c.requires c.in-Some.ensures c.in-Some-pop.ensures c.mark_plain.ensures
+    (refused_first 1 c.in-Some.top (c.in-Some-pop.next ∷ []) c.mark_plain.new.self c.push.new.self (rw c.if-push.false at c.push.ensures))

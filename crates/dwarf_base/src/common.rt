@@ -35,10 +35,8 @@ impl Register {
     pub fn from_u64(register: u64) -> Result<Register>
         ensures { Returns (λ r. r.0) result (register_of register) }
     {
-        match u16::try_from(register) {
-            Ok(number) => Ok(Register(number)),
-            Err(_) => Err(Error::UnsupportedRegister(register)),
-        }
+        let number = u16::try_from(register).map_err(|_| Error::UnsupportedRegister(register))?;
+        Ok(Register(number))
     }
 }
 
@@ -54,6 +52,6 @@ pub struct DebugInfoOffset<T = usize>(pub T);
 #[derive(Clone, Copy, Debug, PartialEq, Eq)]
 pub struct DebugAddrIndex<T = usize>(pub T);
 
-/// Identifies the place where a read went past the end. Its value is unspecified, and nothing depends on it.
+/// Identifies the place where a read went past the end. The reader chooses its value, and no contract depends on it.
 #[derive(Clone, Copy, Debug, PartialEq, Eq)]
 pub struct ReaderOffsetId(pub u64);

@@ -4,7 +4,7 @@ use crate::constants::DwOp;
 /// Why a read, an operation on values or an evaluation failed.
 #[derive(Clone, Copy, Debug, PartialEq, Eq)]
 pub enum Error {
-    /// A read goes past the end. The value of the identifier is unspecified.
+    /// A read goes past the end. The reader chooses the identifier.
     UnexpectedEof(ReaderOffsetId),
     /// The tenth byte of an unsigned LEB128 number is neither `00` nor `01`, or an index of 32 bits is too large.
     /// Padding is no fault: nine bytes `80` and a `00` are zero.

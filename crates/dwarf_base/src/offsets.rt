@@ -78,10 +78,7 @@ impl ReaderOffset for u32 {
 
     #[inline]
     fn from_u64(offset: u64) -> Result<Self> {
-        match u32::try_from(offset) {
-            Ok(number) => Ok(number),
-            Err(_) => Err(Error::UnsupportedOffset),
-        }
+        u32::try_from(offset).map_err(|_| Error::UnsupportedOffset)
     }
 
     #[inline]

@@ -168,8 +168,6 @@ pub trait Reader {
     /// nor `01`. Padding is allowed: nine bytes `80` and a `00` are zero. `UnexpectedEof` if the bytes end earlier.
     #[inline(always)]
     final fn read_uleb128(&mut self) -> Result<u64>
-    where
-        Self: Copy,
         ensures { Reads (λ x. x) (text self.old) (text self.new) result
             (uleb_at (text self.old).bytes) }
     {
@@ -182,31 +180,24 @@ pub trait Reader {
         if second < 128 {
             return Ok(low);
         }
-        rest_of_uleb128_on_copy(self, low)
+        rest_of_uleb128(self, low)
     }
 
     /// Reads an unsigned LEB128 number of 32 bits. It fails as `read_uleb128` does, and with `BadUnsignedLeb128` if the
     /// number is above 4294967295.
     #[inline(always)]
     final fn read_uleb128_u32(&mut self) -> Result<u32>
-    where
-        Self: Copy,
         ensures { Reads (λ x. x) (text self.old) (text self.new) result
             (uleb_u32_at (text self.old).bytes) }
     {
         let number = self.read_uleb128()?;
-        match u32::try_from(number) {
-            Ok(small) => Ok(small),
-            Err(_) => Err(Error::BadUnsignedLeb128),
-        }
+        u32::try_from(number).map_err(|_| Error::BadUnsignedLeb128)
     }
 
     /// Reads a signed LEB128 number (DWARF 5, section 7.6). `BadSignedLeb128` if its tenth byte is neither
     /// `00` nor `7f`. `UnexpectedEof` if the bytes end earlier.
     #[inline(always)]
     final fn read_sleb128(&mut self) -> Result<i64>
-    where
-        Self: Copy,
         ensures { Reads (λ x. x) (text self.old) (text self.new) result
             (sleb_at (text self.old).bytes) }
     {
@@ -219,7 +210,7 @@ pub trait Reader {
             return Ok(i64::from(first % 128) + 128 * last_byte(second));
         }
         let low = u64::from(first % 128) + 128 * u64::from(second % 128);
-        rest_of_sleb128_on_copy(self, low)
+        rest_of_sleb128(self, low)
     }
 }
 
@@ -242,21 +233,7 @@ fn last_byte(byte: u8) -> i64
     i64::from((byte + 64) % 128) - 64
 }
 
-// Reads the rest of an unsigned number; `low` is the number in its first two bytes. It reads from a copy, so that the
-// compiler can keep the reader itself in registers. Without the copy, decoding libc and libm in Rust takes 7% of
-// gimli's time longer.
-#[inline(always)]
-fn rest_of_uleb128_on_copy<R: Reader + Copy>(reader: &mut R, low: u64) -> Result<u64>
-    requires { low < 128 ^ 2 }
-    ensures { Reads (λ x. x) (R.text reader.old) (R.text reader.new) result
-        (leb_from unsigned_leb 2 low (R.text reader.old).bytes) }
-{
-    let mut copy = copy_of(reader);
-    let number = rest_of_uleb128(&mut copy, low);
-    *reader = copy;
-    number
-}
-
+// Reads the rest of a number whose first two bytes have their high bit set; `low` is the number in those two.
 #[inline(never)]
 fn rest_of_uleb128<R: Reader>(reader: &mut R, low: u64) -> Result<u64>
     requires { low < 128 ^ 2 }
@@ -280,19 +257,7 @@ fn rest_of_uleb128<R: Reader>(reader: &mut R, low: u64) -> Result<u64>
     }
 }
 
-// Like `rest_of_uleb128_on_copy`, for a signed number.
-#[inline(always)]
-fn rest_of_sleb128_on_copy<R: Reader + Copy>(reader: &mut R, low: u64) -> Result<i64>
-    requires { low < 128 ^ 2 }
-    ensures { Reads (λ x. x) (R.text reader.old) (R.text reader.new) result
-        (leb_from signed_leb 2 low (R.text reader.old).bytes) }
-{
-    let mut copy = copy_of(reader);
-    let number = rest_of_sleb128(&mut copy, low);
-    *reader = copy;
-    number
-}
-
+// Like `rest_of_uleb128`, for a signed number.
 #[inline(never)]
 fn rest_of_sleb128<R: Reader>(reader: &mut R, low: u64) -> Result<i64>
     requires { low < 128 ^ 2 }

@@ -2,7 +2,8 @@
 
 ghost use Rattle.std.specs.Prelude.{◌≡◌, ◌+◌, ℕ};
 
-use std::marker::{Model, PhantomData};
+use std::marker::Model;
+use std::marker::PhantomData;
 
 /// How often something was done. It has no bytes: contracts alone see the number.
 ///

@@ -30,7 +30,7 @@ impl Home {
     }
 
     #[inline(always)]
-    fn text(self) -> usize
+    fn text_index(self) -> usize
         ensures { result ≡ self.word / 2 }
     {
         self.word / 2
@@ -78,10 +78,10 @@ impl<'a> Placed<'a> {
     }
 
     /// The index of the text that they should be in. No contract says that they are.
-    pub(crate) fn text(&self) -> usize
+    pub(crate) fn text_index(&self) -> usize
         ensures { result ≡ self.now.home.word / 2 }
     {
-        self.home.text()
+        self.home.text_index()
     }
 
     /// Where in that text they should begin.

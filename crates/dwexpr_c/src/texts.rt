@@ -62,7 +62,7 @@ fn expected_place(texts: &[DwexprText<'_>], block: Placed<'_>) -> Option<Place>
     ensures { IfSome result
         (λ place. IsPlaced texts.now place.text place.offset (text_of_placed block.entry).bytes) }
 {
-    let (text, offset) = (block.text(), block.place());
+    let (text, offset) = (block.text_index(), block.place());
     if is_there(bytes_of(texts.get(text)?), offset, block.bytes()) {
         Some(Place { text, offset })
     } else {

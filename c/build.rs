@@ -1,6 +1,5 @@
-//! Takes the contracts out of the proved sources of the archive for C; and gives the shared library the name by which
-//! programs that are linked with it ask for it. While the first number of the version is 0, each second number may have
-//! other calls.
+//! Takes the contracts out of the proved sources of the library for C, and sets the soname of the shared library. While
+//! the major version is 0, each minor version has a soname of its own, since its calls may be others.
 
 #[path = "../rust/build/contracts.rs"]
 mod contracts;
@@ -16,9 +15,9 @@ const CRATES: &[(&str, &str)] = &[
     ("dwarf_replay", "replay"),
     ("dwexpr_c", "c"),
 ];
-// Their lists take an allocator, which C has none of.
+// Their lists take an allocator, and C has none.
 const LEFT_OUT: &[&str] = &["dwarf_eval/src/store/heap.rt", "dwarf_eval/src/eval/heap.rt"];
-// Much of what the crates below have is for Rust.
+// Much in these crates is only for Rust.
 const ALLOWED: &str = "#![allow(dead_code, unused_imports, unused_variables, non_upper_case_globals, clippy::all)]";
 
 fn main() {

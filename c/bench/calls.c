@@ -1,10 +1,10 @@
-/* What beside_gimli.rs times, as a program in C does it: decoding, evaluating in an evaluation that is held for all
- * expressions, and dwexpr_run. Requests get the answers that rust/benches/beside_gimli.rs gives. */
+/* The workloads of beside_gimli.rs in C: decoding, evaluating in one evaluation that is held for all expressions, and
+ * dwexpr_run. Requests get the answers that rust/benches/beside_gimli.rs gives. */
 #include "dwexpr_run.h"
 
 enum { CONTENT = 0x1234, ADDRESS = 0x7000 };
 
-/* How many operations there are before the end or the first fault. */
+/* The number of operations before the end or the first fault. */
 uint64_t bench_decode(const uint8_t *bytes, size_t length, dwexpr_encoding encoding)
 {
     dwexpr_operation operation;
@@ -35,7 +35,7 @@ static dwexpr_answer answer_to(const dwexpr_outcome *asked)
     return answer;
 }
 
-/* One and the number of pieces, or 0 if it isn't complete. */
+/* 1 plus the number of pieces, or 0 if the evaluation isn't complete. */
 static uint64_t pieces_of(uint32_t code, const dwexpr_outcome *outcome)
 {
     return code == DWEXPR_OK && outcome->request == DWEXPR_COMPLETE ? 1 + outcome->pieces : 0;
@@ -45,7 +45,7 @@ uint64_t bench_evaluate(const uint8_t *bytes, size_t length, dwexpr_encoding enc
 {
     static uint64_t memory[DWEXPR_EVALUATION_SIZE / 8];
     static dwexpr_evaluation evaluation;
-    /* a call is answered by the second one */
+    /* the second one answers every call */
     const dwexpr_text texts[] = {{bytes, length}, {NULL, 0}};
     const dwexpr_settings settings = {.max_iterations = DWEXPR_RUN_OPERATIONS};
     dwexpr_outcome outcome;

@@ -3,13 +3,13 @@
  *     cc decode.c $(pkg-config --cflags --libs dwexpr) -o decode
  *     ./decode 8 4 5 le 916c0623109f
  *
- * The words are the size of an address, that of an offset, the version of DWARF, le or be, and the bytes. */
+ * The words are the size of an address, the size of an offset, the version of DWARF, le or be, and the bytes. */
 #include <stdlib.h>
 #include <string.h>
 
 #include "dwexpr_names.h"
 
-/* 0, or the code of the first fault. The depth is that of expressions within entry values. */
+/* Returns 0, or the code of the first fault. The depth counts the entry values around the expression. */
 static uint32_t print_expression(const uint8_t *bytes, size_t length, dwexpr_encoding encoding, int depth)
 {
     dwexpr_operation op;

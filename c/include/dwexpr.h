@@ -76,7 +76,7 @@ enum dwexpr_code {
 typedef struct dwexpr_encoding {
     uint8_t address_size; /* bytes of an address: 1 to 8 */
     uint8_t offset_size;  /* bytes of an offset: 4 in the 32-bit format of DWARF, 8 in the 64-bit one */
-    uint8_t big_endian;   /* 1 if the highest byte of a number comes first, else 0 */
+    uint8_t big_endian;   /* 1 if the most significant byte of a number comes first, else 0 */
     uint8_t version;      /* of DWARF: 2 to 5 */
 } dwexpr_encoding;
 
@@ -182,12 +182,12 @@ uint32_t dwexpr_decode(const uint8_t *bytes, size_t length, dwexpr_encoding enco
  *     while (code == DWEXPR_OK && outcome.request != DWEXPR_COMPLETE)
  *         code = dwexpr_evaluation_resume(&evaluation, texts, 1, answer_to(&outcome), &outcome, pieces, 32);
  *
- * The caller sees to these too:
+ * The caller ensures these too:
  *   - the memory has dwexpr_evaluation_size() bytes, is aligned to 8, and is not moved;
  *   - dwexpr_evaluation_begin is called once on it, before all other calls, and nothing else writes there;
  *   - one call at a time;
- *   - the texts of dwexpr_evaluation_evaluate, and those that answers name, stay as they are until its next call, and
- *     each call gets the same table of texts, to which more may have been added.
+ *   - the texts of dwexpr_evaluation_evaluate, and those that answers name, stay as they are until its next call;
+ *   - each call gets the same table of texts; texts may be added to it.
  *
  * An empty expression means that the variable was optimized away: don't evaluate it, which would be
  * DWEXPR_NOT_ENOUGH_STACK_ITEMS. An empty text is a valid answer to a call. */
@@ -219,11 +219,11 @@ typedef struct dwexpr_text {
 
 /* What an evaluation starts with. */
 typedef struct dwexpr_settings {
-    uint32_t max_iterations;     /* how many operations there may be; 0 are none */
+    uint32_t max_iterations;     /* the maximum number of operations; 0 allows none */
     uint16_t has_object_address; /* 0: no object's address is known */
     uint16_t has_initial_value;  /* 0: the stack is empty at the start */
     uint64_t object_address;     /* for DW_OP_push_object_address */
-    uint64_t initial_value;      /* stands on the stack at the start */
+    uint64_t initial_value;      /* on the stack at the start */
 } dwexpr_settings;
 
 enum dwexpr_request {
@@ -238,7 +238,7 @@ enum dwexpr_request {
     DWEXPR_WANTS_ENTRY_VALUE = 8,   /* block: an expression; its value on entry to the function is wanted */
     DWEXPR_WANTS_PARAMETER = 9,     /* number: offset of an entry in the unit */
     DWEXPR_WANTS_RELOCATED = 10,    /* number: address */
-    DWEXPR_WANTS_INDEXED = 11,      /* number: index in .debug_addr; flag: relocated, as an address */
+    DWEXPR_WANTS_INDEXED = 11,      /* number: index in .debug_addr; flag: it is an address, to be relocated */
     DWEXPR_WANTS_BASE_TYPE = 12,    /* base_type */
     DWEXPR_WANTS_WASM_LOCAL = 13,   /* number: index */
     DWEXPR_WANTS_WASM_GLOBAL = 14,  /* number: index */
@@ -248,7 +248,7 @@ enum dwexpr_request {
 enum dwexpr_answer_kind {
     DWEXPR_ANSWER_MEMORY = 1,       /* value_type, number: what memory holds */
     DWEXPR_ANSWER_REGISTER = 2,     /* value_type, number */
-    DWEXPR_ANSWER_WASM = 3,         /* value_type, number: to each of the three requests of WebAssembly */
+    DWEXPR_ANSWER_WASM = 3,         /* value_type, number: for each of the three WebAssembly requests */
     DWEXPR_ANSWER_ENTRY_VALUE = 4,  /* value_type, number */
     DWEXPR_ANSWER_FRAME_BASE = 5,   /* number: an address */
     DWEXPR_ANSWER_TLS = 6,          /* number: an address */
@@ -264,23 +264,23 @@ enum dwexpr_answer_kind {
 typedef struct dwexpr_answer {
     uint32_t kind;       /* DWEXPR_ANSWER_* */
     uint32_t value_type; /* DWEXPR_GENERIC to DWEXPR_U64, if the kind names it */
-    uint64_t number;     /* of a value the lowest bits, as many as its type has */
+    uint64_t number;     /* for a value, its lowest bits, as many as its type has */
     size_t text;
 } dwexpr_answer;
 
 /* What a call led to. Fields that the request doesn't name are 0. */
 typedef struct dwexpr_outcome {
-    uint32_t code;            /* what the call answered */
+    uint32_t code;            /* the code that the call returned */
     uint32_t request;         /* DWEXPR_NOTHING, DWEXPR_COMPLETE or DWEXPR_WANTS_* */
     uint64_t detail;          /* the number that a fault carries */
     uint64_t number;
-    uint64_t base_type;       /* the type that the answer is to have: offset of its entry in the unit, 0 for generic */
+    uint64_t base_type;       /* the type that the answer should have: offset of its entry in the unit, 0 for generic */
     uint64_t space;
     uint32_t register_number;
     uint32_t size;            /* bytes */
     uint32_t flag;            /* 0 or 1 */
     uint32_t value_type;      /* of the value of a complete evaluation, DWEXPR_NO_TYPE if it has none */
-    uint64_t value;           /* a signed one is extended to 64 bits; a generic one may have bits above its size */
+    uint64_t value;           /* sign-extended if it is signed; a generic one may have bits above the address size */
     size_t block_text;        /* the index of the text in which the block is */
     size_t block_offset;
     size_t block_length;
@@ -301,7 +301,7 @@ typedef struct dwexpr_piece {
     uint32_t kind;
     uint32_t has_size;        /* 0: it is the whole variable */
     uint64_t size_in_bits;
-    uint64_t bit_offset;      /* the bit of its location at which it begins */
+    uint64_t bit_offset;      /* of its first bit in its location */
     uint32_t has_bit_offset;  /* 0: no bit offset is given */
     uint32_t value_type;
     uint64_t number;
@@ -324,35 +324,35 @@ size_t dwexpr_evaluation_size(void);
 /* Makes an evaluation in the memory. */
 void dwexpr_evaluation_begin(dwexpr_evaluation *evaluation);
 
-/* Evaluates texts[0] with the settings to the first request or to the end. It forgets the expression before.
+/* Evaluates texts[0] with the settings to the first request or to the end. It forgets the previous expression.
  *
- * Answers 0; a fault; DWEXPR_BAD_ENCODING; or DWEXPR_BAD_TEXT if there are no texts. The last two leave the evaluation
- * as it was. `outcome` is written in each case. Of `pieces` as many as fit are written if the evaluation is complete;
- * the others stay. */
+ * Returns 0; a fault; DWEXPR_BAD_ENCODING; or DWEXPR_BAD_TEXT if there are no texts. The last two leave the evaluation
+ * as it was. `outcome` is always written. If the evaluation is complete, as many of its pieces are written as `pieces`
+ * has room for. */
 uint32_t dwexpr_evaluation_evaluate(dwexpr_evaluation *evaluation, const dwexpr_text *texts, size_t texts_length,
                                     dwexpr_encoding encoding, const dwexpr_settings *settings,
                                     dwexpr_outcome *outcome, dwexpr_piece *pieces, size_t pieces_length);
 
-/* Goes on with the answer to what was asked, to the next request or to the end.
+/* Goes on with the answer to the open request, to the next request or to the end.
  *
- * Answers 0; a fault, which every later answer gets too; DWEXPR_BAD_TEXT to DWEXPR_MISPLACED, which change nothing; or
- * DWEXPR_LOST_TEXT, at which some of the pieces may be written. `outcome` and `pieces` are written as above. */
+ * Returns 0; a fault, which every later answer gets too; DWEXPR_BAD_TEXT to DWEXPR_MISPLACED, which change nothing; or
+ * DWEXPR_LOST_TEXT; then some of the pieces may be written. `outcome` and `pieces` are written as above. */
 uint32_t dwexpr_evaluation_resume(dwexpr_evaluation *evaluation, const dwexpr_text *texts, size_t texts_length,
                                   dwexpr_answer answer, dwexpr_outcome *outcome, dwexpr_piece *pieces,
                                   size_t pieces_length);
 
 /* ---------------------------------------------------------------- values */
 
-/* The operations on values that evaluations do, as calls: to convert or compare values that an evaluation gave. An
- * evaluation itself needs none of these calls. */
+/* The operations on values, as calls: to convert or compare values that an evaluation gave. An evaluation itself needs
+ * none of these calls. */
 typedef struct dwexpr_value {
     uint32_t value_type; /* DWEXPR_GENERIC to DWEXPR_U64; DWEXPR_NO_TYPE if a call gives no value */
-    uint64_t content;    /* in an argument the lowest bits count, as many as its type has; a result is extended to 64
-                            bits by its sign */
+    uint64_t content;    /* in an argument only the lowest bits count, as many as its type has; a signed result is
+                            sign-extended */
 } dwexpr_value;
 
-/* An operation, by its kind. On one value: DWEXPR_OP_ABS, _NEG or _NOT. On two values, of which `right` stands for
- * the top of the stack: DWEXPR_OP_AND to _MUL, _OR, _PLUS, _SHL to _XOR or _EQ to _NE. To another type:
+/* An operation, by its kind. On one value: DWEXPR_OP_ABS, _NEG or _NOT. On two values, where `right` stands for the
+ * top of the stack: DWEXPR_OP_AND to _MUL, _OR, _PLUS, _SHL to _XOR or _EQ to _NE. To another type:
  * DWEXPR_OP_CONVERT by the number, or _REINTERPRET by the bits. `addr_mask` has a one for each bit of an address:
  * 0xffffffff for an address of 4 bytes.
  *
@@ -366,7 +366,7 @@ uint32_t dwexpr_value_binary(uint32_t operation, dwexpr_value left, dwexpr_value
 uint32_t dwexpr_value_convert(uint32_t operation, dwexpr_value value, uint32_t value_type, uint64_t addr_mask,
                               dwexpr_value *result);
 
-/* The value of a type in the first of `length` bytes. `big_endian` is the byte order, as in dwexpr_encoding. The
+/* Reads a value of a type from the first of `length` bytes. `big_endian` is the byte order, as in dwexpr_encoding. The
  * generic type is refused with DWEXPR_UNSUPPORTED_TYPE_OPERATION. Returns the same codes as the calls above. */
 uint32_t dwexpr_value_parse(uint32_t value_type, const uint8_t *bytes, size_t length, uint8_t big_endian,
                             dwexpr_value *result);
@@ -374,8 +374,8 @@ uint32_t dwexpr_value_parse(uint32_t value_type, const uint8_t *bytes, size_t le
 /* The size of a type's values in bits; 0 if there is no such type or mask. */
 uint32_t dwexpr_type_bit_size(uint32_t value_type, uint64_t addr_mask);
 
-/* The type of an integer, by the DW_AT_encoding of its base type, which is 5 if it is signed and 7 if it is
- * unsigned, and its size in bytes. DWEXPR_NO_TYPE if there is no such type. */
+/* The type of integers whose base type has this DW_AT_encoding, 5 for signed and 7 for unsigned ones, and this size in
+ * bytes. DWEXPR_NO_TYPE if there is no such type. */
 uint32_t dwexpr_type_from_encoding(uint8_t encoding, uint64_t byte_size);
 
 /* ---------------------------------------------------------------- blocks and names */
@@ -451,7 +451,7 @@ static inline const char *dwexpr_code_name(uint32_t code)
     }
 }
 
-/* The name of an opcode, as "DW_OP_deref"; NULL if it is the opcode of no operation. */
+/* The name of an opcode, as "DW_OP_deref"; NULL if there is no such opcode. */
 static inline const char *dwexpr_opcode_name(uint32_t opcode)
 {
 #define DWEXPR_NAME(number, name, form) case number: return name;

@@ -60,8 +60,8 @@ typedef struct dwexpr_callbacks {
  * called.
  *
  * Returns 0 if the evaluation is complete; a code; DWEXPR_REFUSED if a callback refused, and then writes its number
- * to `refusal`, unless that is NULL; or DWEXPR_TOO_MANY_TEXTS if the table has no room for a called text. There may
- * be any number of requests. `texts->length` and `outcome` are always written.
+ * to `refusal`, unless that is NULL; or DWEXPR_TOO_MANY_TEXTS if the table has no room for a called text. An
+ * expression may make any number of requests. `texts->length` and `outcome` are always written.
  *
  * An expression may loop. With the largest maximum it ends after 4294967295 operations, which takes about half a
  * minute. */

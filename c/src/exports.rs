@@ -1,4 +1,4 @@
-//! The exports of `include/dwexpr.h`: each makes references of what a caller hands over, and makes the proved call.
+//! The exports of `include/dwexpr.h`: each turns a caller's pointers into references, and makes the proved call.
 
 use crate::sources::c::{
     self, DwexprAnswer as Answer, DwexprEncoding as Encoding, DwexprEvaluation as Evaluation,
@@ -10,7 +10,7 @@ use core::slice::{from_raw_parts, from_raw_parts_mut};
 
 type Text = DwexprText<'static>;
 
-/// The bytes of a text. The pointer may be null if there are none; that of a slice never is.
+/// The bytes of a text. The pointer may be null if there are none, unlike that of a slice.
 #[repr(C)]
 #[derive(Clone, Copy)]
 pub struct Bytes<'a> {
@@ -21,7 +21,7 @@ pub struct Bytes<'a> {
 
 impl<'a> Bytes<'a> {
     pub(crate) fn slice(&self) -> &'a [u8] {
-        // SAFETY: it is in a caller's text, whose pointer leads to that many bytes, which stay.
+        // SAFETY: the caller ensures that the text's pointer leads to that many bytes, which stay as they are.
         unsafe { items(self.at, self.length) }
     }
 }
@@ -56,7 +56,7 @@ macro_rules! exports {
 }
 
 exports! {
-    /// At `bytes` are `length` bytes. `operation` leads to one, set or not.
+    /// `bytes` leads to `length` bytes, and `operation` to one, initialized or not.
     fn dwexpr_decode(bytes: *const u8, length: usize, encoding: Encoding, offset: usize, operation: *mut Operation)
         -> u32 = (items(bytes, length), encoding, offset, &mut *operation);
 
@@ -68,19 +68,19 @@ exports! {
 
     /// The evaluation was begun, nothing else wrote there, and one call is made at a time. The pointers with lengths
     /// lead to as many items, and those in the texts to as many bytes, which stay as they are until the next call of
-    /// this function. `settings` leads to one that is set, and `outcome` to one, set or not. What is written overlaps
-    /// nothing else.
+    /// this function. `settings` leads to initialized ones, and `outcome` to one, initialized or not. The results
+    /// overlap nothing else.
     fn dwexpr_evaluation_evaluate(evaluation: *mut Evaluation, texts: *const Text, texts_length: usize,
         encoding: Encoding, settings: *const Settings, outcome: *mut Outcome, pieces: *mut Piece, pieces_length: usize)
         -> u32 = (&mut *evaluation, items(texts, texts_length), encoding, &*settings, &mut *outcome,
         room(pieces, pieces_length));
 
-    /// As of `dwexpr_evaluation_evaluate`.
+    /// As for `dwexpr_evaluation_evaluate`.
     fn dwexpr_evaluation_resume(evaluation: *mut Evaluation, texts: *const Text, texts_length: usize, answer: Answer,
         outcome: *mut Outcome, pieces: *mut Piece, pieces_length: usize)
         -> u32 = (&mut *evaluation, items(texts, texts_length), answer, &mut *outcome, room(pieces, pieces_length));
 
-    /// `result` leads to one, set or not; so in the calls below.
+    /// `result` leads to one, initialized or not; so it does in the calls below.
     fn dwexpr_value_unary(operation: u32, value: Value, addr_mask: u64, result: *mut Value)
         -> u32 = (operation, value, addr_mask, &mut *result);
 
@@ -92,7 +92,7 @@ exports! {
     fn dwexpr_value_convert(operation: u32, value: Value, value_type: u32, addr_mask: u64, result: *mut Value)
         -> u32 = (operation, value, value_type, addr_mask, &mut *result);
 
-    /// As above, and at `bytes` are `length` bytes.
+    /// As above, and `bytes` leads to `length` bytes.
     fn dwexpr_value_parse(value_type: u32, bytes: *const u8, length: usize, big_endian: u8, result: *mut Value)
         -> u32 = (value_type, items(bytes, length), big_endian, &mut *result);
 

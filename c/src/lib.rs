@@ -9,7 +9,7 @@
 extern crate core as std;
 extern crate self as arrayvec;
 
-/// A condition on sizes. The prover checks it in the sources, and rustc here, on machines with 64-bit words.
+/// A condition on sizes. The prover checks it in the sources; rustc checks it here, on machines with 64-bit words.
 macro_rules! prove {
     ($($holds:tt)*) => {
         assert!(size_of::<usize>() != 8 || $($holds)*)

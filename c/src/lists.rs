@@ -1,4 +1,4 @@
-//! The list of a fixed capacity that the sources take from the crate `arrayvec`.
+//! The list of fixed capacity, which the sources take from the crate `arrayvec`.
 
 use core::mem::MaybeUninit;
 use core::slice::from_raw_parts;

@@ -6,7 +6,7 @@ const char *dwexpr_version(void)
     return DWEXPR_VERSION;
 }
 
-/* Writes the answer to what the outcome asks for. Gives back 0, or what a callback refused with. */
+/* Writes the answer to the outcome's request. Returns 0, or the number with which a callback refused. */
 static int answer_request(const dwexpr_outcome *asked, const dwexpr_texts *texts, const dwexpr_callbacks *calls,
                           void *context, dwexpr_answer *answer, dwexpr_text *called)
 {
@@ -91,7 +91,7 @@ uint32_t dwexpr_run_in(dwexpr_evaluation *evaluation, const dwexpr_settings *set
     texts->length = 1;
     code = dwexpr_evaluation_evaluate(evaluation, texts->items, 1, encoding, settings, outcome, pieces, pieces_length);
     while (code == DWEXPR_OK && outcome->request != DWEXPR_COMPLETE) {
-        /* not the answer before, if a callback writes none */
+        /* 0, and not the previous answer, if a callback writes none */
         dwexpr_answer answer = {0};
         dwexpr_text called;
         int refused = answer_request(outcome, texts, calls, context, &answer, &called);

@@ -1,4 +1,4 @@
-/* The calls of dwexpr.h in a program without a C library: it has all that they need, and nothing else. */
+/* The calls of dwexpr.h in a program without a C library. It defines the functions that they need, and no others. */
 #include "dwexpr.h"
 
 void *memset(void *to, int byte, size_t size)
@@ -48,7 +48,7 @@ int bcmp(const void *one, const void *other, size_t size)
 #endif
 
 #ifdef __arm__
-/* What unwinds a stack, which tables name. Nothing unwinds here. */
+/* Routines that the tables for unwinding name. Nothing unwinds here. */
 void __aeabi_unwind_cpp_pr0(void);
 void __aeabi_unwind_cpp_pr1(void);
 

@@ -1,10 +1,10 @@
-/* Two libraries in one process: the proved archive, whose calls are named `proved_dwexpr_*` here, and the one that
- * rustc made of the same sources. All that they write for made-up decodings, evaluations and values is compared.
+/* Compares two libraries in one process: the proved archive, whose calls are named `proved_dwexpr_*` here, and the one
+ * that rustc builds from the same sources. For made-up decodings, evaluations and values they have to write the same.
  *
  *     beside COUNT [SEED]
  *
  * A seed other than 0 makes up other cases. The last line is `N passed, M failed`, with one check for each kind of
- * case, and one for all that has to be met. */
+ * case, and one that all codes and kinds came. */
 #include "made_up.h"
 
 #define PROVED(name) extern __typeof__(name) proved_##name
@@ -36,7 +36,7 @@ struct maker {
     dwexpr_text texts[TEXTS];
 };
 
-/* How often each code, kind of operation, request and kind of piece came. */
+/* How often each code, kind of operation, request and kind of piece came up. */
 static unsigned long codes[80], kinds[64], requests[16], places[8];
 
 static void make(struct maker *made)

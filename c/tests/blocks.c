@@ -1,6 +1,6 @@
-/* Each block of a request and of a piece is where it was decoded, though the same bytes may be elsewhere too: in made-up
- * evaluations of up to 24 texts of up to 600 bytes; at each place, in each text and after each branch up to 70,000, and
- * then about each power of two; and under as many callers as may wait. */
+/* Checks that each block of a request or a piece is shown where it was decoded, though the same bytes may be elsewhere
+ * too: in made-up evaluations of up to 24 texts of up to 600 bytes; at each place, in each text and after each branch
+ * up to 70,000, and then near each power of two; and under as many callers as may wait. */
 #define _DEFAULT_SOURCE
 #include <sys/mman.h>
 
@@ -16,8 +16,8 @@ struct block {
     size_t text, offset, length;
 };
 
-/* A text holds blocks and calls in turn: a call is a block of length SIZE_MAX in the text that is called. `steps` is
- * how many of both an evaluation meets, and `depth` how many callers wait at once. */
+/* A text has blocks and calls in any order; a call is a block of length SIZE_MAX in the called text. `steps` counts the
+ * blocks and calls that an evaluation meets, and `depth` the callers that wait at once. */
 struct text {
     uint8_t bytes[BYTES];
     size_t length, parts, steps, depth;
@@ -39,7 +39,7 @@ static void put(struct text *text, uint8_t byte)
     text->bytes[text->length++] = byte;
 }
 
-/* An operation with a block of bytes, of which there are few sorts: those of DW_OP_nop are elsewhere too. */
+/* An operation with a block. Its bytes are of few kinds: those of DW_OP_nop are elsewhere too. */
 static void put_block(struct text *text, size_t index, int is_piece, size_t length)
 {
     struct block *block = &text->part[text->parts++];
@@ -154,7 +154,7 @@ static void count_seen(const struct block *want)
     text_seen[want->text]++;
 }
 
-/* The first block of this sort from `at` on. */
+/* The first block of this kind from `at` on. */
 static const struct block *next(const struct block *met, size_t count, size_t *at, int is_piece)
 {
     while (*at < count && met[*at].is_piece != is_piece)
@@ -230,7 +230,7 @@ static void make_up(dwexpr_evaluation *held)
            long_seen, empty_seen);
 }
 
-/* Texts of which each calls the next, and then has a block, up to as many callers as may wait. */
+/* Texts that each call the next one, and then have a block: as many as callers may wait. */
 static void make_deep(dwexpr_evaluation *held)
 {
     size_t callers, i;
@@ -251,12 +251,12 @@ static void make_deep(dwexpr_evaluation *held)
 
 /* ---- each place, text and branch up to a bound, and then those about each power of two */
 
-/* The bytes of a text, and of a table of texts: zero, and nearly all of them are never touched. */
+/* The size of a text, and of a table of texts. Their bytes are zero, and nearly all of them are never touched. */
 #define ROOM ((size_t)1 << (sizeof(size_t) == 8 ? 32 : 28))
 static uint8_t *room;
 static dwexpr_text *table;
 
-/* Where a block begins whose length takes five bytes. */
+/* The place of a block whose length takes five bytes. */
 #define FRONT 6
 
 /* The number to try after this one. */
@@ -270,13 +270,13 @@ static size_t after(size_t number)
     return number + 1 < power ? power - 1 : number + 1;
 }
 
-/* Writes bytes into the room, and gives back where they end. */
+/* Writes bytes at a place, and returns where they end. */
 static size_t put_bytes(size_t at, const char *digits)
 {
     return at + bytes_of(digits, room + at);
 }
 
-/* An operation with a block of this many zero bytes, and then more bytes. Gives back where the block ends. */
+/* Writes an operation with a block of this many zero bytes, and then more bytes. Returns where the block ends. */
 static size_t put_front(const char *opcode, size_t length, const char *digits)
 {
     size_t at = put_bytes(0, opcode), i;
@@ -286,7 +286,7 @@ static size_t put_front(const char *opcode, size_t length, const char *digits)
     return FRONT + length;
 }
 
-/* Whether table[0] asks for this block, or if it is complete has it in its last piece. It may call a text. */
+/* Whether table[0] asks for this block or, once it is complete, has it in its last piece. It may call a text. */
 static int is_shown(dwexpr_evaluation *held, size_t called, size_t offset, size_t length)
 {
     static dwexpr_piece pieces[2];
@@ -304,8 +304,8 @@ static int is_shown(dwexpr_evaluation *held, size_t called, size_t offset, size_
     return is_at(&want, pieces[0].block_text, pieces[0].block_offset, pieces[0].block_length);
 }
 
-/* A block at the end of a text, and one that is nearly all of it. What a piece holds is compared byte by byte, so long
- * ones are fewer. */
+/* A block at the end of a text, and one that is nearly all of it. A piece's bytes are compared one by one, so there are
+ * fewer long ones. */
 static void try_places(dwexpr_evaluation *held)
 {
     size_t length, wrong = 0, tried = 0;
@@ -328,7 +328,7 @@ static void try_places(dwexpr_evaluation *held)
     check(!wrong && tried > 70000, "places", "each block is where it was read");
 }
 
-/* A block after a branch, which doesn't lead into itself. */
+/* A block after a branch that doesn't lead into itself. */
 static void try_branches(dwexpr_evaluation *held)
 {
     static const char *const branches[] = {"2f", "3128"};
@@ -353,7 +353,7 @@ static void try_branches(dwexpr_evaluation *held)
     check(!wrong && tried > 131000, "branches", "each block is where it was read");
 }
 
-/* A block at each of many offsets of each of many texts that are called, in which the same bytes stand elsewhere. */
+/* A block at each of many offsets in each of many called texts, which have the same bytes elsewhere. */
 static void try_offsets(dwexpr_evaluation *held)
 {
     static const uint8_t call[] = {0x99, 0, 0, 0, 0};

@@ -1,4 +1,4 @@
-/* What the callers share: counts of checks, encodings, bytes from hexadecimal text, made-up numbers. */
+/* What the tests share: counts of checks, encodings, bytes from hexadecimal text, made-up numbers. */
 #ifndef CHECK_H
 #define CHECK_H
 
@@ -36,7 +36,7 @@ static inline dwexpr_encoding encoding_of(int address_size, int offset_size, int
     return encoding;
 }
 
-/* How many bytes the hexadecimal digits say; spaces between them are left out. */
+/* Writes the bytes that hexadecimal digits spell, and returns how many there are. Spaces between them don't count. */
 static inline size_t bytes_of(const char *digits, uint8_t *bytes)
 {
     size_t count = 0;
@@ -46,7 +46,7 @@ static inline size_t bytes_of(const char *digits, uint8_t *bytes)
     return count;
 }
 
-/* Whether an operation that a call decoded doesn't fit that call's code or the length of its text. */
+/* Whether a decoded operation contradicts the call's code or the length of its text. */
 static inline int bad_operation(const dwexpr_operation *op, uint32_t code, size_t length)
 {
     return code != op->fault || (code == 0) != (op->kind != DWEXPR_OP_NONE) || (code == 0) != (op->size != 0) ||
@@ -54,7 +54,7 @@ static inline int bad_operation(const dwexpr_operation *op, uint32_t code, size_
            (op->block_length && op->block_offset + op->block_length != op->offset + op->size);
 }
 
-/* Whether two structs have the same fields. There may be room between them that nothing sets. */
+/* Whether two structs have the same fields. Their padding may differ. */
 static inline int same_outcome(const dwexpr_outcome *a, const dwexpr_outcome *b)
 {
     return a->code == b->code && a->request == b->request && a->detail == b->detail &&
@@ -78,7 +78,7 @@ static inline int same_pieces(const dwexpr_piece *a, const dwexpr_piece *b, size
 
 static uint64_t made_up_state = 88172645463325252u;
 
-/* The next made-up number, of the same series in each run unless the state is set. */
+/* The next made-up number. The series is the same in each run unless the state is set. */
 static inline uint64_t any(void)
 {
     made_up_state ^= made_up_state << 13;

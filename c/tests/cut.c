@@ -1,6 +1,6 @@
-/* Decodes and evaluates each expression of files of rows, made-up ones, all of two bytes, and each of their fronts: an
- * operation is no longer than what is left, and an evaluation of at most 16 operations ends after at most 16 answers:
- * cut FILE.. */
+/* Decodes and evaluates each expression of files of rows, made-up ones, all of two bytes, and each prefix of all of
+ * these. An operation is never longer than the remaining bytes, and an evaluation of at most 16 operations ends after
+ * at most 16 answers: cut FILE.. */
 #include "made_up.h"
 #include "rows.h"
 
@@ -76,7 +76,7 @@ static void fronts(const uint8_t *bytes, size_t length, dwexpr_encoding encoding
     check(1, name, "");
 }
 
-/* The expressions of a file of rows or vectors. Gives back how many they are. */
+/* Tries the expressions of a file of rows or vectors. Returns how many there are. */
 static size_t rows(FILE *file)
 {
     static char line[1 << 20], digits[2001];

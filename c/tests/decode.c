@@ -8,7 +8,7 @@ struct row {
     dwexpr_operation want; /* of an operation at the start of its bytes; without offset, size and opcode */
 };
 
-/* the operation at the start, and after three bytes and before two others */
+/* decodes the operation at the start, and then after three bytes and before two others */
 static void run(const struct row *row)
 {
     uint8_t bytes[64];
@@ -16,7 +16,7 @@ static void run(const struct row *row)
     for (offset = 0; offset < 4; offset += 3) {
         uint8_t whole[80];
         dwexpr_operation want = row->want, got;
-        /* what is cut off has to stand at the end */
+        /* an operation that is cut off has to be at the end */
         size_t after = offset && want.fault != DWEXPR_UNEXPECTED_EOF ? 2 : 0;
         uint32_t code;
         memset(whole, 0x96, sizeof whole);
@@ -29,12 +29,12 @@ static void run(const struct row *row)
             want.block_offset += offset;
         code = dwexpr_decode(whole, offset + length + after, row->encoding, offset, &got);
         check(code == want.fault, row->bytes, "the code");
-        /* there is no room between its fields */
+        /* the struct has no padding */
         check(!memcmp(&want, &got, sizeof got), row->bytes, offset ? "the fields, further on" : "the fields");
     }
 }
 
-/* each front of an operation that lacks a byte of it is cut off */
+/* each shorter prefix of an operation is cut off */
 static void cut(const struct row *row)
 {
     uint8_t bytes[64];
@@ -64,7 +64,7 @@ static int is_place(uint32_t kind)
            kind == DWEXPR_OP_VARIABLE_VALUE || kind == DWEXPR_OP_ADDRESS_INDEX || kind == DWEXPR_OP_CONSTANT_INDEX;
 }
 
-/* Reads a vector. Gives back whether the line has one. */
+/* Reads a vector. Returns whether the line has one. */
 static int read_row(const char *header, const char *line, struct row *row)
 {
     const char *encoding = field(line, "in"), *bytes = field(line, "bytes"), *block = field(line, "block");

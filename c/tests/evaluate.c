@@ -1,4 +1,4 @@
-/* Each request, answer, kind of piece and code of an evaluation, and what settings and other texts do. */
+/* Each request, answer, kind of piece and code of an evaluation, and the effects of settings and of other texts. */
 #include "check.h"
 
 #define MANY 40
@@ -16,7 +16,7 @@ static uint64_t memory[DWEXPR_EVALUATION_SIZE / 8];
 static dwexpr_evaluation evaluation = {memory};
 static const char *name;
 
-/* An expression, its settings, the answer to its request, what the last call answers, and a piece of another kind. */
+/* An expression, its settings, the answer to its request, the last call's outcome, and a piece of another kind. */
 struct row {
     const char *name, *digits;
     dwexpr_settings settings;
@@ -88,7 +88,7 @@ static void resume(dwexpr_answer answer)
     check(code == outcome.code, name, "the code that is given back is the outcome's");
 }
 
-/* A value that is complete has one piece, at its address. */
+/* A complete evaluation with a value has one piece, at the value as its address. */
 static void try_row(const struct row *row)
 {
     dwexpr_piece at_value = {.kind = DWEXPR_AT_ADDRESS, .number = row->want.value};
@@ -148,7 +148,7 @@ static const struct row rows[] = {
      {.kind = DWEXPR_HOLDS_VALUE, .value_type = DWEXPR_I8, .number = UINT64_MAX}},
     {"initial value", "35 22", INITIAL(4), 0, {0}, VALUE(9), {0}},
     {"object address", "97", OBJECT(4), 0, {0}, VALUE(4), {0}},
-    /* ---- faults: the vectors have all of decoding with their codes and numbers; here are one of each shape */
+    /* ---- faults: the vectors have all faults of decoding with their codes and numbers; here is one of each shape */
     {"cut off", "0c 01", START, 0, {0}, FAULT(UNEXPECTED_EOF, 0), {0}},
     {"no such opcode", "01", START, 0, {0}, FAULT(INVALID_EXPRESSION, 1), {0}},
     {"types differ", "35 a5 03 2a 22", START, 1, {DWEXPR_ANSWER_REGISTER, DWEXPR_U8, 1, 0},
@@ -206,7 +206,7 @@ static void all_pieces(void)
     check(outcome.pieces == 6, name, "all are counted");
 }
 
-/* As many items as a list holds, and one more. */
+/* As many items as a list can hold, and one more. */
 static void limits(void)
 {
     static const dwexpr_outcome full = FAULT(STACK_FULL, 0), values = VALUE(5);
@@ -277,7 +277,7 @@ static void holding(void)
     set(2, 0, 0), expect((dwexpr_outcome)FAULT(INVALID_PUSH_OBJECT_ADDRESS, 0));
     set(0, 1, 0), expect((dwexpr_outcome)FAULT(TOO_MANY_ITERATIONS, 0));
     set(0, 1, 1), expect((dwexpr_outcome)FAULT(TOO_MANY_ITERATIONS, 0));
-    /* any number but 0 says that there is one */
+    /* any number other than 0 says that there is one */
     set(3, 9, 0), resume(cfa), expect(complete);
     begin("an initial value as a setting", "36 22");
     set(2, 0, 0x100), expect(complete);

@@ -1,6 +1,6 @@
 /* A million made-up expressions with made-up settings, answers and places, each right before memory that can't be
- * touched: an evaluation that goes on after each answer, and is used for all expressions, shows in every field what one
- * shows that is begun anew and is given all answers so far; and each operation and each block lies within its text. */
+ * touched. One evaluation is used for all expressions, and goes on after each answer. In every field it has to show
+ * what a new evaluation shows after all answers so far. Each operation and each block has to be within its text. */
 #define _DEFAULT_SOURCE
 #include <sys/mman.h>
 
@@ -24,7 +24,7 @@ static size_t bad_block(const dwexpr_text *texts, size_t text, size_t offset, si
     return length && (text > 1 || offset + length > texts[text].length);
 }
 
-/* What an expression comes to in an evaluation that is begun anew, with all answers so far. */
+/* The outcome of a new evaluation of an expression, with all answers so far. */
 static uint32_t evaluate_anew(const dwexpr_text *texts, dwexpr_encoding encoding, const dwexpr_settings *settings,
                               const dwexpr_answer *answers, size_t count, dwexpr_outcome *outcome,
                               dwexpr_piece *pieces, size_t room)

@@ -1,4 +1,4 @@
-/* Made-up expressions of whole operations, their encodings, and answers to what they ask. */
+/* Made-up expressions of whole operations, their encodings, and answers to their requests. */
 #ifndef MADE_UP_H
 #define MADE_UP_H
 
@@ -62,8 +62,8 @@ static inline uint8_t *put_leb128(uint8_t *at)
     return at;
 }
 
-/* The operands of an opcode by their form: as many bytes, a near place, an address, an offset, LEB128 numbers, a block,
- * a kind of WebAssembly. */
+/* The operands of an opcode by their form: a number of bytes, a near place, an address, an offset, LEB128 numbers, a
+ * block, a kind of WebAssembly value. */
 static inline const char *operands_of(uint8_t opcode)
 {
     switch (dwexpr_operand_form(opcode)) {
@@ -107,7 +107,7 @@ static inline uint8_t *put_operation(uint8_t *at, dwexpr_encoding encoding)
     return at;
 }
 
-/* Writes a few literals and up to so many operations, and gives back how many bytes they are. */
+/* Writes a few literals and up to `count` operations, and returns how many bytes they have. */
 static inline size_t put_operations(uint8_t *bytes, size_t room, uint64_t count, dwexpr_encoding encoding)
 {
     uint8_t *at = bytes;
@@ -140,7 +140,7 @@ static inline dwexpr_settings any_settings(void)
                              any_number(), any_number()};
 }
 
-/* An answer to a request, or to any, mostly with one of so many texts. */
+/* An answer to the open request or to any other, mostly with one of `texts` texts. */
 static inline dwexpr_answer any_answer(const dwexpr_outcome *outcome, size_t texts)
 {
     return (dwexpr_answer){below(16) ? answer_of(outcome->request) : (uint32_t)below(14),

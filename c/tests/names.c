@@ -3,8 +3,8 @@
 #include "dwexpr_names.h"
 #include "rows.h"
 
-/* Each opcode of a file has its name, in lines as `DW_OP_addr = 0x03` or `DW_OP_addr: DwOp = DwOp(0x03)`. Either the
- * file names all that there are, or it may name more. */
+/* Each opcode in a file has its name; the lines are as `DW_OP_addr = 0x03` or `DW_OP_addr: DwOp = DwOp(0x03)`. If
+ * `is_all`, the file names all opcodes and no others; else it may name more. */
 static void opcodes(const char *path, int is_all)
 {
     FILE *file = opened(path);

@@ -4,7 +4,7 @@
 
 #include "check.h"
 
-/* The file of a path, which has to be there. */
+/* Opens a file, which has to exist. */
 static inline FILE *opened(const char *path)
 {
     FILE *file = path ? fopen(path, "r") : NULL;
@@ -15,7 +15,7 @@ static inline FILE *opened(const char *path)
     return file;
 }
 
-/* What a row has after a name; NULL if it hasn't that. */
+/* The text after a name in a row; NULL if the row doesn't have the name. */
 static inline const char *field(const char *row, const char *name)
 {
     char quoted[40];
@@ -32,7 +32,7 @@ static inline uint64_t number_of(const char *row, const char *name)
     return at ? strtoull(at, NULL, 10) : 0;
 }
 
-/* Reads an encoding as the rows have it: "8 4 5 le". Gives back whether it is one. */
+/* Reads an encoding as the rows have it: "8 4 5 le". Returns whether it is one. */
 static inline int read_encoding(const char *words, dwexpr_encoding *encoding)
 {
     int address_size, offset_size, version;

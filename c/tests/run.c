@@ -1,4 +1,4 @@
-/* The callbacks of dwexpr_run, the texts that a run gives back, and the blocks of these texts. */
+/* The callbacks of dwexpr_run, the table of texts that a run fills, and the blocks in these texts. */
 #include <limits.h>
 #include <time.h>
 
@@ -8,7 +8,7 @@
 #define MANY 4
 
 static uint8_t bytes[256];
-/* room for ROOM texts, and one behind it, which no run writes */
+/* ROOM texts, and one after them, which no run writes */
 #define ROOM 5
 static dwexpr_text items[ROOM + 1];
 static dwexpr_texts texts = {items, ROOM, 0};
@@ -125,8 +125,7 @@ static const dwexpr_callbacks all = {
     .wasm = give_wasm,
 };
 
-/* Whether a run of these callbacks, each of which returns `returned`, is refused: with that number, or with -1 if it is
- * 0. */
+/* Whether a run is refused if each callback returns `returned`: with that number, or with -1 if it is 0. */
 static int is_refused(const char *row, const char *digits, const dwexpr_callbacks *calls, int returned)
 {
     uint32_t ended;
@@ -196,7 +195,7 @@ static void callbacks(void)
     check(run("many answers", "77 00 13 2f faff", &all) == DWEXPR_TOO_MANY_ITERATIONS, name, "it");
 }
 
-/* What is asked carries each number whole: a register, an address, an address space, and the bytes to be read. */
+/* Requests carry each number whole: a register, an address, an address space, and how many bytes are read. */
 static void numbers(void)
 {
     static const uint32_t registers[] = {127, 128, 255, 256, 1000, 0x7fff, 0x8000, 0xffff};
@@ -270,7 +269,7 @@ static void base_types(void)
         left = 0;
         check(is_refused(rows[i].name, digits, &all, 0), name, "no type");
         left = SIZE_MAX;
-        /* by the callback of the type alone, which has written one or not */
+        /* only the callback for the type refuses, after it has written a type or not */
         untyped.base_type = refuse_type;
         for (j = 0; j < 2; j++) {
             type_written = j ? DWEXPR_U8 : DWEXPR_NO_TYPE;
@@ -284,7 +283,7 @@ static void base_types(void)
         check(run("far", "31 a8 8080808010", &all) == DWEXPR_UNSUPPORTED_OFFSET, "a type that is too far", "it");
 }
 
-/* As many operations as a run allows, of which the last gives the value, and one more. */
+/* As many operations as a run allows, where the last one gives the value, and one more. */
 static void operations(void)
 {
     static uint8_t many[100001];
@@ -328,7 +327,7 @@ static void arguments(void)
 
 /* ---- texts */
 
-/* The text of the digits at the offset in the unit. */
+/* The digits of the text for each offset in the unit. */
 static const char *called[3];
 static uint8_t called_bytes[3][16];
 
@@ -341,7 +340,7 @@ static int give_called(void *number, int in_debug_info, uint64_t offset, dwexpr_
     return 0;
 }
 
-/* Whether the piece's bytes are those of a called text, from `place` on, and no shorter table gives any. */
+/* Whether the piece's bytes are those of a called text, from `place` on, and a shorter table of texts gives none. */
 static int holds(const dwexpr_piece *piece, size_t text, size_t place, const char *wanted)
 {
     dwexpr_text block = dwexpr_piece_block(piece, texts.items, texts.length);
@@ -434,7 +433,7 @@ static void freed(void)
     free(last);
 }
 
-/* Two numbers and their sum, or a front of these. */
+/* Two numbers and their sum, or a prefix of these operations. */
 static int give_front(void *number, int in_debug_info, uint64_t offset, dwexpr_text *text)
 {
     static const uint8_t sum[] = {0x31, 0x32, 0x22};
@@ -491,7 +490,7 @@ static uint32_t call_each(size_t count, const uint32_t *offsets, size_t room)
         *at++ = 0x99; /* DW_OP_call4 */
         for (byte = 0; byte < 32; byte += 8)
             *at++ = (uint8_t)(offsets[i] >> byte);
-        *at = i + 1 < count ? 0x13 : 0x96; /* DW_OP_drop, but for the last */
+        *at = i + 1 < count ? 0x13 : 0x96; /* DW_OP_drop, except after the last one */
     }
     callbacks_used.location = give_own;
     dwexpr_evaluation_begin(&evaluation);
@@ -499,7 +498,7 @@ static uint32_t call_each(size_t count, const uint32_t *offsets, size_t room)
                          MANY);
 }
 
-/* Each text of a full table is found again, and one that isn't there has no room. */
+/* Each text of a full table is found again, and another one has no room. */
 static void full_tables(void)
 {
     static uint32_t offsets[2 * MOST_TEXTS];

@@ -1,5 +1,5 @@
-/* A request that isn't known is refused, and isn't taken for another one. The calls of dwexpr.h are stand-ins here,
- * which ask for any number. */
+/* An unknown request is refused, and isn't taken for another one. The calls of dwexpr.h are stand-ins here, which make
+ * requests of any number. */
 #include "check.h"
 #include "dwexpr_run.h"
 

@@ -1,5 +1,5 @@
-/* Calls with memory that nothing has set. Under valgrind, a library that depends on such memory is seen; and so is a
- * field that it doesn't set, since all fields count here. */
+/* Calls with uninitialized memory. Valgrind reports a library that depends on such memory, and a field that the library
+ * doesn't set, since all fields are used here. */
 #include "check.h"
 
 static unsigned long sum(const void *memory, size_t size)
@@ -10,7 +10,7 @@ static unsigned long sum(const void *memory, size_t size)
     return of_all;
 }
 
-/* What nothing has set. */
+/* Uninitialized memory. */
 struct room {
     uint8_t bytes[16];
     dwexpr_operation operation;
@@ -49,7 +49,7 @@ int main(void)
             dwexpr_evaluation_resume(&evaluation, texts, 2, answer, outcome, pieces, DWEXPR_MAX_PIECES);
         }
         of_all += sum(outcome, sizeof *outcome) + sum(pieces, outcome->pieces * sizeof *pieces);
-        /* Between the two fields of a value there is room. */
+        /* A value has padding between its two fields. */
         dwexpr_value_unary(DWEXPR_OP_NEG, one, UINT64_MAX, &room->value);
         of_all += room->value.value_type + (unsigned long)room->value.content;
         check(of_all != 0, lines[i], "no field is set");

@@ -1,5 +1,5 @@
-/* Each operation on values, once or more, and each refused argument. tests/rows/values.json has what each operation
- * gives of values of each type. */
+/* Each operation on values, once or more, and each refused argument. tests/rows/values.json has the results of each
+ * operation for values of each type. */
 #include "check.h"
 
 #define MASK 0xffffffffu
@@ -12,7 +12,7 @@ static dwexpr_value of(uint32_t value_type, uint64_t content)
     return value;
 }
 
-/* What a call answered and wrote, against the code and the value that are wanted. */
+/* Compares the code that a call returned and the value that it wrote with the expected ones. */
 static void compare(uint32_t code, dwexpr_value got, uint32_t wanted_code, dwexpr_value wanted, const char *call,
                     size_t row)
 {
@@ -28,7 +28,7 @@ static dwexpr_value garbage(void)
     return of(0xa5a5a5a5, 0xa5a5a5a5a5a5a5a5);
 }
 
-/* What a call is made on: the second value of two, or the type of a conversion. */
+/* A call: its operands, where the second one may be the type of a conversion, and the expected result. */
 struct row {
     uint32_t operation, value_type;
     uint64_t content;
@@ -73,14 +73,14 @@ static const struct row binaries[] = {
     {DWEXPR_OP_SHRA, G, 0xffffffa0, G, 5, MASK, 0, G, 0xfffffffffffffffd},
     {DWEXPR_OP_EQ, G, 3, G, 3, MASK, 0, G, 1},
     {DWEXPR_OP_EQ, G, 3, G, 0xfffffffffffffffc, MASK, 0, G, 0},
-    /* 3 and its complement: which is the greater depends on the sign. */
+    /* 3 and its complement: which one is greater depends on the sign. */
     {DWEXPR_OP_GE, U8, 3, U8, 0xfc, MASK, 0, G, 0},
     {DWEXPR_OP_GT, I8, 3, I8, 0xfc, MASK, 0, G, 1},
     {DWEXPR_OP_GT, U16, 3, U16, 3, MASK, 0, G, 0},
     {DWEXPR_OP_LE, U32, 0xfffffffc, U32, 3, MASK, 0, G, 0},
     {DWEXPR_OP_LT, U64, 3, U64, 0xfffffffffffffffc, MASK, 0, G, 1},
     {DWEXPR_OP_NE, I16, 3, I16, 0xfffc, MASK, 0, G, 1},
-    /* Of a typed value that is given, bits above its type don't count. */
+    /* Bits above a typed argument's size don't count. */
     {DWEXPR_OP_PLUS, U8, 0x1234ff, U8, 2, MASK, 0, U8, 1},
     /* No operation on two values; no type; no mask. */
     {DWEXPR_OP_NONE, G, 1, G, 2, MASK, DWEXPR_BAD_VALUE, NONE, 0},

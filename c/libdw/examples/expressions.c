@@ -1,16 +1,15 @@
-/* Decodes every expression of object files by this library and by libdw (elfutils), and compares them operation by
- * operation, opcodes and operands: libdw has no kinds. The bytes of expressions in lists of locations are put together
- * from libdw's operations.
+/* Decodes every expression of object files by this library and by libdw (elfutils), and compares the opcode and the
+ * operands of each operation. The bytes of expressions in location lists are encoded from libdw's operations.
  *
  *     cc expressions.c $(pkg-config --cflags --libs dwexpr-libdw) -o expressions
  *     ./expressions FILE..
  *
- * The last line counts. The status is 1 if an operation that both decode differs.
+ * The last line has the counts. The status is 1 if an operation that both decode differs.
  *
  *     ./expressions --list FILE.. > LIST.tsv
  *
- * This prints them in place of that, but for those of no bytes or of an empty range: a list for DWEXPR_LISTS, which
- * the benchmarks take. */
+ * With --list it prints the expressions instead, except for those of no bytes or of an empty range. The benchmarks take
+ * such a list in DWEXPR_LISTS. */
 #include <dwarf.h>
 #include <fcntl.h>
 #include <stdio.h>
@@ -32,7 +31,7 @@ static int same_block(const dwexpr_operation *op, const uint8_t *bytes, const ui
     return op->block_length == length && !memcmp(bytes + op->block_offset, block, length);
 }
 
-/* what libdw gives for an operand that is a signed number is its bits */
+/* libdw gives a signed operand as its bits */
 static int same(const Dwarf_Op *theirs, const dwexpr_operation *op, const uint8_t *bytes)
 {
     Dwarf_Word number = theirs->number, second = theirs->number2;
@@ -59,7 +58,7 @@ static int same(const Dwarf_Op *theirs, const dwexpr_operation *op, const uint8_
 
 /* ---- one expression */
 
-/* the first twenty that differ are printed, up to the operation */
+/* prints the first twenty differences, each up to the operation */
 static void differ(const uint8_t *bytes, size_t length, size_t at, const char *why)
 {
     char line[4096];

@@ -1,4 +1,4 @@
-/* Prints an int of a stopped process: variable PID NAME. It is that of the innermost frame that has one. */
+/* Prints an int of a stopped process: variable PID NAME. It takes the innermost frame with such a variable. */
 #include <dwarf.h>
 #include <stdio.h>
 #include <stdlib.h>
@@ -20,7 +20,7 @@ static void print_variable(dwexpr_libdw_frame *frame, Dwarf_Die *variable)
     dwexpr_libdw_release(value);
 }
 
-/* Prints the variable of this name in a frame. Gives back whether there is one. */
+/* Prints the variable of this name in a frame. Returns whether there is one. */
 static int print_in(dwexpr_libdw_frame *frame, const char *wanted)
 {
     dwexpr_libdw_entry *entries = NULL;

@@ -67,7 +67,7 @@ static void print_variable(dwexpr_libdw_frame *frame, Dwarf_Die *variable)
     dwexpr_libdw_release(value);
 }
 
-/* The variables of the functions at a frame's place, those of inlined functions first, and of those around them. */
+/* Prints the variables of the functions at a frame's address: inlined functions first, then those around them. */
 static void print_frame(size_t number, dwexpr_libdw_frame *frame)
 {
     dwexpr_libdw_place place;

@@ -1,19 +1,19 @@
-/* From libdw to the value of a variable: plain C over dwexpr.h and libdw 0.186 or later, not proved. Link with
+/* Finds values of variables by libdw: plain C over dwexpr.h and libdw 0.186 or later, not proved. Link with
  * libdwexpr_libdw.a, libdwexpr.a, libdw and libelf: `pkg-config --cflags --libs dwexpr-libdw`, or the CMake target
  * dwexpr::libdw. The frames of a process or a core dump need libdw 0.188.
  *
- * An expression is evaluated in a frame. The frames of a process or a core dump come from a stack of one of its
- * threads, and that from a target. Whoever has an unwinder makes frames by dwexpr_libdw_make_frame.
+ * An expression is evaluated in a frame. For a process or a core dump, open a target and unwind one of its threads to a
+ * stack of frames. With an unwinder of your own, make frames by dwexpr_libdw_make_frame.
  *
- * A call that answers a uint32_t answers 0, or a code: of dwexpr.h, below, or DWEXPR_LIBDW_WANTS plus the request that
- * can't be answered. Then what it gives by a pointer to a pointer is NULL, unless it says otherwise. What a call gives
- * stays valid as long as what it was made from: values, frames, stacks, the target, in this order.
+ * A call that returns a uint32_t returns 0 or a code: of dwexpr.h, one below, or DWEXPR_LIBDW_WANTS plus the request
+ * that can't be answered. With a code, a result that is a pointer is set to NULL, unless the call says otherwise. Each
+ * result needs what it was made from: free values first, then frames, stacks, and at last the target.
  *
- * libdw isn't made for threads. So all calls on one target, and on the debug information that it reads, are made by one
- * thread at a time. dwexpr_libdw_read alone may be called by several at once, on values in memory of a process.
+ * libdw isn't thread-safe: only one thread at a time may make calls on a target, or on the debug information that it
+ * reads. Only dwexpr_libdw_read may be called by several threads at once, on values in memory of a process.
  *
- * Whatever debug information, a process or a core dump holds, each call ends and stays within bounds, as far as libdw
- * does. It takes little of the stack, and all else by malloc. */
+ * Whatever is in the debug information, the process or the core dump, each call returns and stays within bounds, as far
+ * as libdw does. It needs little stack, and takes other memory by malloc. */
 #ifndef DWEXPR_LIBDW_H
 #define DWEXPR_LIBDW_H
 
@@ -44,10 +44,10 @@ enum dwexpr_libdw_code {
     DWEXPR_LIBDW_TOO_MANY_FRAMES = 139,  /* a thread has more frames than were asked for */
     DWEXPR_LIBDW_BAD_REGISTER = 140,     /* a callback gave a register of too many bytes */
     DWEXPR_LIBDW_NO_NUMBER = 141,        /* an attribute is no number, or an expression gives none */
-    DWEXPR_LIBDW_OTHER_FUNCTION = 142,   /* the variable is of a function whose frame isn't known from this one */
+    DWEXPR_LIBDW_OTHER_FUNCTION = 142,   /* this frame doesn't lead to the frame of the variable's function */
     DWEXPR_LIBDW_NOT_DEFINED = 143,      /* the variable is only declared, and no module has it */
-    DWEXPR_LIBDW_CUT_OFF = 144,          /* a frame has no call frame information: others may be missing after it */
-    DWEXPR_LIBDW_WANTS = 192             /* and above: + DWEXPR_WANTS_MEMORY if memory is asked for and isn't known */
+    DWEXPR_LIBDW_CUT_OFF = 144,          /* a frame has no call frame information: frames after it may be missing */
+    DWEXPR_LIBDW_WANTS = 192             /* plus a request: + DWEXPR_WANTS_MEMORY if memory can't be read */
 };
 
 /* What a code says, in a few words. Any thread may ask. */
@@ -65,20 +65,20 @@ typedef struct dwexpr_libdw_text {
     void *memory;   /* of bytes that libdw doesn't have, or NULL */
 } dwexpr_libdw_text;
 
-/* Frees the bytes of an expression, whatever the call that wrote it answered. */
+/* Frees the bytes of an expression, whatever the call that wrote it returned. */
 void dwexpr_libdw_free_text(dwexpr_libdw_text *expression);
 
 /* How to read a unit's expressions. Answers 0 or DWEXPR_LIBDW_FAILED. */
 uint32_t dwexpr_libdw_encoding(Dwarf_CU *unit, dwexpr_encoding *encoding);
 
-/* Puts an expression together from libdw's operations. Each operation gets as many bytes as its offset and the next
- * one's say. libdw doesn't tell the size of the last one: it gets as few as it needs, or if `size` isn't 0, what that
- * leaves, which is how many bytes the expression has. libdw reads the offset of an implicit pointer without its sign:
- * of 127, one byte is -1 and two are 127.
+/* Encodes libdw's operations as an expression. An operation's size is the distance from its offset to the next one's.
+ * libdw doesn't tell the size of the last one: it gets as few bytes as it needs or, if `size` isn't 0, as many as are
+ * left of the expression's `size` bytes. libdw reads the offset of an implicit pointer without its sign: 127 stands for
+ * -1 if it has one byte, and for 127 if it has two.
  *
  * Answers 0 or DWEXPR_LIBDW_NOT_ENCODABLE: an opcode is unknown, a number doesn't fit its operand, or an operation of
- * two LEB128 numbers isn't in its shortest form. `length` is 0 then. No more than `room` bytes are written. libdw cuts
- * off LEB128 numbers at 64 bits: such bits don't come back. */
+  * two LEB128 numbers isn't in its shortest form. `length` is 0 then. No more than `room` bytes are written. libdw cuts
+  * LEB128 numbers off at 64 bits: further bits are lost. */
 uint32_t dwexpr_libdw_encode(const Dwarf_Op *operations, size_t count, size_t size, dwexpr_encoding encoding,
                              uint8_t *bytes, size_t room, size_t *length);
 
@@ -114,41 +114,40 @@ uint32_t dwexpr_libdw_open_process(pid_t process, dwexpr_libdw_target **target);
 /* Opens a core dump. `program` is the program's file; if it is NULL, the dump says which it was. Answers as above. */
 uint32_t dwexpr_libdw_open_core(const char *file, const char *program, dwexpr_libdw_target **target);
 
-/* A target over a Dwfl of the caller's, which has its modules, and was attached to the process, or to the core dump
- * `core`; that is NULL for a process. Both outlive the target. Answers as above. */
+/* Makes a target of a Dwfl of the caller's, which has its modules, and was attached to a process or to the core dump
+ * `core`, which is NULL for a process. Both have to outlive the target. Answers as above. */
 uint32_t dwexpr_libdw_attach(Dwfl *dwfl, Elf *core, dwexpr_libdw_target **target);
 
-/* Why the last of these calls, or of dwexpr_libdw_unwind, has no target, or frames that are cut off, in the words of
- * the system or of libdw. It stays valid until the thread's next such call. */
+/* The system's or libdw's message on why the last of these calls gave no target, or dwexpr_libdw_unwind cut frames off.
+ * It stays valid until the thread's next such call. */
 const char *dwexpr_libdw_target_error(void);
 
-/* What a target reads debug information from. It belongs to the target. */
+/* The Dwfl with a target's debug information. It belongs to the target. */
 Dwfl *dwexpr_libdw_dwfl(const dwexpr_libdw_target *target);
 
 /* Frees a target, and with it the Dwfl that was opened here. NULL is allowed. */
 void dwexpr_libdw_close(dwexpr_libdw_target *target);
 
-/* The threads of a target, and how many there are: of a core dump the one that crashed first, of a process its first.
- * They belong to the target. */
+/* The threads of a target, and how many there are. The first one is the thread that crashed in a core dump, and the
+ * first thread of a process. They belong to the target. */
 size_t dwexpr_libdw_threads(const dwexpr_libdw_target *target, const pid_t **threads);
 
-/* Finds the frames of a thread, at most so many.
+/* Finds the frames of a thread, at most `most` of them.
  *
- * Answers 0; DWEXPR_LIBDW_TOO_MANY_FRAMES if there are more, and gives those innermost; DWEXPR_LIBDW_CUT_OFF if one of
- * them has no call frame information, so that frames after it may be missing, and gives those that are found;
+ * Answers 0; DWEXPR_LIBDW_TOO_MANY_FRAMES if there are more, and gives the innermost ones; DWEXPR_LIBDW_CUT_OFF if one
+ * has no call frame information, so that frames after it may be missing, and gives those that it found;
  * DWEXPR_LIBDW_NO_TARGET; or DWEXPR_LIBDW_NO_MEMORY. Free the stack by dwexpr_libdw_free_stack. */
 uint32_t dwexpr_libdw_unwind(dwexpr_libdw_target *target, pid_t thread, size_t most, dwexpr_libdw_stack **stack);
 void dwexpr_libdw_free_stack(dwexpr_libdw_stack *stack);
 
-/* A frame of a stack, 0 for the innermost; NULL if there is no such. It belongs to the stack. */
+/* A frame of a stack, 0 for the innermost; NULL if there is none. It belongs to the stack. */
 dwexpr_libdw_frame *dwexpr_libdw_frame_at(dwexpr_libdw_stack *stack, size_t index);
 
 /* The most bytes of a register. */
 #define DWEXPR_LIBDW_REGISTER_SIZE 64
 
-/* What a frame of the caller's own is made of. Set all that isn't known to 0. A callback gives back 0, or another
- * number if the answer isn't known. If it gives back 0 and writes nothing, memory and addresses are 0, and a register
- * isn't known. */
+/* What the caller's own frame is made from. Set what isn't known to 0. A callback returns 0, or another number if the
+ * answer isn't known. If it returns 0 and writes nothing, memory and addresses are 0, and a register isn't known. */
 typedef struct dwexpr_libdw_source {
     Dwfl *dwfl;        /* NULL: addresses are those of the debug information */
     Dwarf_Addr pc;     /* where it stands, as dwfl_frame_pc tells it */
@@ -169,8 +168,8 @@ typedef struct dwexpr_libdw_source {
 uint32_t dwexpr_libdw_make_frame(const dwexpr_libdw_source *source, dwexpr_libdw_frame **frame);
 void dwexpr_libdw_free_frame(dwexpr_libdw_frame *frame);
 
-/* How many expressions may be evaluated to answer the requests of one: 1,000 unless this says otherwise. Each value on
- * entry takes one or two, and 9 KiB until the next one has its answer. */
+/* Sets how many expressions may be evaluated to answer the requests of one; it is 1,000 at first. Each value on entry
+ * takes one or two, and 9 KiB while it waits for the next one. */
 void dwexpr_libdw_set_limit(dwexpr_libdw_frame *frame, uint32_t expressions);
 
 /* Where a frame stands. */
@@ -187,25 +186,25 @@ typedef struct dwexpr_libdw_place {
 /* Answers 0; DWEXPR_LIBDW_NO_UNIT; or DWEXPR_LIBDW_NO_MEMORY. `place` is written in each case. */
 uint32_t dwexpr_libdw_locate(dwexpr_libdw_frame *frame, dwexpr_libdw_place *place);
 
-/* The scopes of a frame's address, innermost first, through the functions that are inlined there and those around them
- * to the unit. Answers as dwexpr_libdw_locate. Free `scopes`. */
+/* The scopes at a frame's address, from the innermost to the unit, through inlined functions and the functions around
+ * them. Answers as dwexpr_libdw_locate. Free `scopes`. */
 uint32_t dwexpr_libdw_scopes(dwexpr_libdw_frame *frame, Dwarf_Die **scopes, size_t *count);
 
 /* An entry of a function, or of one of its variables or parameters that are in scope. */
 typedef struct dwexpr_libdw_entry {
     Dwarf_Die entry;
-    unsigned level;   /* 0 for the innermost function, 1 for that into which it is inlined, or in which it stands, .. */
-    int is_enclosing; /* 1 if the frame's function stands in this one, as in Ada: it may have a frame of its own */
+    unsigned level;   /* 0 for the innermost function, 1 for the one into which it is inlined or nested, .. */
+    int is_enclosing; /* 1 if the frame's function is nested in this one, as in Ada: this one may have its own frame */
 } dwexpr_libdw_entry;
 
-/* The functions and variables at a frame's address: of each level the function, and then its variables, those of inner
- * blocks first. Constants and what common blocks hold are among them, and what isn't there or is only declared. Answers
- * as dwexpr_libdw_locate. Free `entries`. */
+/* The functions and variables at a frame's address: for each level the function, and then its variables, those of inner
+ * blocks first. Constants are among them, variables of common blocks, and variables that are optimized away or only
+ * declared. Answers as dwexpr_libdw_locate. Free `entries`. */
 uint32_t dwexpr_libdw_variables(dwexpr_libdw_frame *frame, dwexpr_libdw_entry **entries, size_t *count);
 
-/* The variables and constants that stand in no function, of this module or, if it is NULL, of all: those of the frame's
- * unit first, and then of its module. If `name` isn't NULL, those that have it in the source or for the linker. Each
- * has its value by dwexpr_libdw_variable in any frame. Answers 0 or DWEXPR_LIBDW_NO_MEMORY. Free `globals`. */
+/* The variables and constants outside of functions, in this module or, if it is NULL, in all: those of the frame's unit
+ * first, and then of its module. If `name` isn't NULL, only those with this name in the source or for the linker.
+ * dwexpr_libdw_variable has their values in any frame. Answers 0 or DWEXPR_LIBDW_NO_MEMORY. Free `globals`. */
 uint32_t dwexpr_libdw_globals(dwexpr_libdw_frame *frame, Dwfl_Module *module, const char *name, Dwarf_Die **globals,
                               size_t *count);
 
@@ -233,7 +232,7 @@ typedef struct dwexpr_libdw_value {
     size_t texts_length;
     dwexpr_encoding encoding;
     Dwarf_CU *unit; /* of the entries that pieces point into */
-    const dwexpr_libdw_frame *frame; /* whose registers pieces name: of the function in which a variable stands */
+    const dwexpr_libdw_frame *frame; /* the frame of the variable's function; pieces name its registers */
     void *memory;   /* private */
 } dwexpr_libdw_value;
 
@@ -242,23 +241,24 @@ void dwexpr_libdw_release(dwexpr_libdw_value *value);
 /* Evaluates an expression in a frame. Its requests are answered by the frame's registers and memory, and by libdw: the
  * frame base, the CFA, calls, entries of .debug_addr and base types; parameters and entry values by the call site in
  * the caller; thread-local storage by the frame. `object` is the address for DW_OP_push_object_address, and `initial`
- * the value on the stack at the begin; either may be NULL. 100,000 operations are done at most.
+  * the value on the stack at the start; either may be NULL. At most 100,000 operations are done.
  *
  * Answers 0; a fault; DWEXPR_TOO_MANY_TEXTS; DWEXPR_LIBDW_OPTIMIZED_AWAY if the expression is empty;
- * DWEXPR_LIBDW_TOO_MANY_EXPRESSIONS; DWEXPR_LIBDW_NO_MEMORY; or DWEXPR_LIBDW_WANTS plus what isn't known. There is a
- * value in each case but the last but one. It uses the expression's bytes: free them after it. */
+  * DWEXPR_LIBDW_TOO_MANY_EXPRESSIONS; DWEXPR_LIBDW_NO_MEMORY; or DWEXPR_LIBDW_WANTS plus the request. Unless memory was
+  * lacking, there is a value. It uses the expression's bytes: free them after the value. */
 uint32_t dwexpr_libdw_evaluate(dwexpr_libdw_frame *frame, const dwexpr_libdw_text *expression, const uint64_t *object,
                                const uint64_t *initial, dwexpr_libdw_value **value);
 
-/* The value of a variable, a parameter or a constant in a frame: by its DW_AT_const_value, or its DW_AT_location at the
- * address of its function's frame: that is this one, or a caller if its function encloses the frame's. Addresses are
- * those of its module. One that is only declared, or that the program has a copy of, is at the symbol of its name.
+/* The value of a variable, a parameter or a constant in a frame, by its DW_AT_const_value or DW_AT_location. A location
+ * is evaluated in the frame of the variable's function: this one or, if that function encloses this one's, a caller's.
+ * Addresses are relocated as the variable's module is. A variable that is only declared, or of which the program has a
+ * copy, is at the symbol of its name.
  *
  * Answers what dwexpr_libdw_expression or dwexpr_libdw_evaluate does; DWEXPR_LIBDW_OTHER_FUNCTION; or
  * DWEXPR_LIBDW_NOT_DEFINED. */
 uint32_t dwexpr_libdw_variable(dwexpr_libdw_frame *frame, Dwarf_Die *variable, dwexpr_libdw_value **value);
 
-/* The value that a parameter had on entry of the function, if the caller's call site says it. Answers likewise. */
+/* The value that a parameter had on entry of the function, if the caller's call site says it. Answers as above. */
 uint32_t dwexpr_libdw_on_entry(dwexpr_libdw_frame *frame, Dwarf_Die *parameter, dwexpr_libdw_value **value);
 
 /* The number of an attribute, as a bound, a size, a count or a member's place: a constant, the value of an expression,
@@ -272,13 +272,13 @@ uint32_t dwexpr_libdw_number(dwexpr_libdw_frame *frame, Dwarf_Attribute *attribu
  * The piece's byte_offset is the place within it. Answers 0 or DWEXPR_LIBDW_FAILED. */
 uint32_t dwexpr_libdw_points_into(const dwexpr_libdw_value *value, const dwexpr_piece *piece, Dwarf_Die *variable);
 
-/* The bytes of a value that has this many bits, as they would be in memory, of the frame that the value names. Its
- * pieces follow each other from the lowest bit of each byte in little endian, and from the highest in big endian. The
- * last byte is filled up with zeros.
+/* Reads the bytes of a value with this many bits, as they would be in memory; `frame` is the one that the value names.
+ * Its pieces follow each other from the lowest bit of each byte in little endian, and from the highest in big endian.
+ * The last byte is padded with zeros.
  *
- * Answers 0 if every bit is known. Else it answers why the first unknown bit isn't: DWEXPR_LIBDW_OPTIMIZED_AWAY,
- * _IMPLICIT_POINTER, _NOT_READABLE, _TOO_SMALL or _BAD_REGISTER. Unknown bits are zeros in `bytes` and ones in
- * `unknown`, which may be NULL. Both have room for the bits; `unknown` shows known bits as zeros. */
+  * Answers 0 if every bit is known. Else the code says why the first unknown bit isn't: DWEXPR_LIBDW_OPTIMIZED_AWAY,
+  * _IMPLICIT_POINTER, _NOT_READABLE, _TOO_SMALL or _BAD_REGISTER. Unknown bits are zeros in `bytes` and ones in
+  * `unknown`, which may be NULL. Both have room for the bits; known bits are zeros in `unknown`. */
 uint32_t dwexpr_libdw_read(const dwexpr_libdw_frame *frame, const dwexpr_libdw_value *value, uint64_t size_in_bits,
                            uint8_t *bytes, uint8_t *unknown);
 
@@ -291,9 +291,9 @@ uint32_t dwexpr_libdw_type(Dwarf_Die *variable, Dwarf_Die *type);
 /* The bytes of a type, which may be an array of variable length. Answers as dwexpr_libdw_number. */
 uint32_t dwexpr_libdw_size(dwexpr_libdw_frame *frame, Dwarf_Die *type, const uint64_t *object, uint64_t *bytes);
 
-/* The definition of a type that its unit only declares, by its name, in the unit and then as dwexpr_libdw_globals looks
- * for variables. dwexpr_libdw_size takes it by itself. Answers 0, DWEXPR_LIBDW_NOT_DEFINED, DWEXPR_LIBDW_FAILED or
- * DWEXPR_LIBDW_NO_MEMORY. */
+/* The definition of a type that its unit only declares. It is found by its name, in the unit and then in the order of
+ * dwexpr_libdw_globals. dwexpr_libdw_size does so by itself. Answers 0, DWEXPR_LIBDW_NOT_DEFINED, DWEXPR_LIBDW_FAILED
+ * or DWEXPR_LIBDW_NO_MEMORY. */
 uint32_t dwexpr_libdw_definition(dwexpr_libdw_frame *frame, Dwarf_Die *type, Dwarf_Die *definition);
 
 /* Where the data of an object of a type is: at the object, or where DW_AT_data_location says, as for arrays in Fortran.
@@ -307,8 +307,8 @@ uint32_t dwexpr_libdw_element(dwexpr_libdw_frame *frame, Dwarf_Die *array, const
                               const int64_t *indexes, size_t count, uint64_t *begin, uint64_t *bits);
 
 /* The bits of a member: where they begin, counted as dwexpr_libdw_read places them, and how many there are. `object` is
- * the address of the whole, which a virtual base needs, or NULL. `bits` may be NULL, if the place alone is wanted.
- * Answers as dwexpr_libdw_number; if the number of bits alone isn't known, `begin` is written. */
+  * the address of the whole, which a virtual base needs, or NULL. `bits` may be NULL if only the place is wanted.
+  * Answers as dwexpr_libdw_number; if only the number of bits isn't known, `begin` is written. */
 uint32_t dwexpr_libdw_member(dwexpr_libdw_frame *frame, Dwarf_Die *member, const uint64_t *object, uint64_t *begin,
                              uint64_t *bits);
 

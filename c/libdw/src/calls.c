@@ -67,7 +67,7 @@ int dwexpr_libdw_call_target(Dwarf_Die *site, Dwarf_Attribute *target)
 
 /* ---- which function a call site names */
 
-/* The entry of which a function's entry is an instance, or which it completes: the last of such a chain. */
+/* Follows a function's DW_AT_abstract_origin and DW_AT_specification to the last entry. */
 static Dwarf_Die root_of(const Dwarf_Die *function)
 {
     Dwarf_Die root = *function;

@@ -81,7 +81,7 @@ uint32_t dwexpr_libdw_type(Dwarf_Die *variable, Dwarf_Die *type)
     return DWEXPR_LIBDW_FAILED;
 }
 
-/* Finds an attribute of a type, or of that of which it is a range. */
+/* Finds an attribute of a type or, if it is a range or an enumeration, of its base type. */
 static int has_in_base(Dwarf_Die *type, unsigned name, Dwarf_Attribute *attribute)
 {
     Dwarf_Die base = *type;

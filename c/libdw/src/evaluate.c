@@ -91,7 +91,7 @@ static uint32_t find_rule(dwexpr_libdw_frame *frame, int number, dwexpr_libdw_te
     return code;
 }
 
-/* The number of a value that is one, or that is in a register. */
+/* The number of a value: the value itself, or a register's content. */
 static uint32_t number_of_value(const dwexpr_libdw_frame *frame, const dwexpr_libdw_value *value, uint64_t *number)
 {
     if (value->outcome.value_type != DWEXPR_NO_TYPE) {
@@ -728,8 +728,8 @@ static uint32_t hidden(dwexpr_libdw_frame *frame, Dwarf_Die *variable, Dwfl_Modu
     return code;
 }
 
-/* The value of a variable that its name finds elsewhere: it is only declared here, or the dynamic linker takes that of
- * another module, as a program has copies of what its libraries export. */
+/* The value of a variable that is found elsewhere by its name: it is only declared here, or the dynamic linker binds
+ * its name to another module, as when the program has a copy of a library's variable. */
 static uint32_t named(dwexpr_libdw_frame *frame, Dwarf_Die *variable, int is_declared, dwexpr_libdw_value **value)
 {
     struct dwexpr_libdw_symbol symbol = {.name = dwexpr_libdw_linkage_name(variable)};

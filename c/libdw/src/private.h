@@ -27,7 +27,7 @@ struct dwexpr_libdw_frame {
 
 /* ---- encode.c */
 
-/* The number of the lowest 8 of these bytes, and the lowest bytes of a number, at most 8, in an order. */
+/* Bytes as a number, and a number as bytes, in a byte order. Of more than 8 bytes only the lowest 8 count. */
 uint64_t dwexpr_libdw_number_of(const uint8_t *bytes, size_t size, int big_endian);
 void dwexpr_libdw_bytes_of(uint64_t number, size_t size, int big_endian, uint8_t *bytes);
 
@@ -101,10 +101,9 @@ uint32_t dwexpr_libdw_find_place(dwexpr_libdw_frame *frame);
  * or 1 if they aren't known. */
 int dwexpr_libdw_find_module(dwexpr_libdw_frame *frame, Dwarf_CU *unit, Dwfl_Module **module, Dwarf_Addr *bias);
 void dwexpr_libdw_begin_frame(dwexpr_libdw_frame *frame, const dwexpr_libdw_source *source);
-/* The address where a function begins: of several ranges the first one, which is that of its entry. Gives back whether
- * there is one. */
+/* The address where a function is entered: the begin of its first range. Gives back whether there is one. */
 int dwexpr_libdw_has_entry(Dwarf_Die *function, Dwarf_Addr *address);
-/* The same of a frame's function in the process; 0 if there is none. */
+/* The same for a frame's function, as an address in the process; 0 if there is none. */
 uint64_t dwexpr_libdw_entry_of(const dwexpr_libdw_frame *frame);
 
 /* The call frame information at a frame's address, of .eh_frame or, if `i` is 1, of .debug_frame. Gives back 0, and

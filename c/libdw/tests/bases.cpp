@@ -1,4 +1,4 @@
-// Virtual bases, whose places in an object stand in its table of virtual functions.
+// Virtual bases, whose offsets in an object are in its vtable.
 struct shared {
     int common = 11;
 };

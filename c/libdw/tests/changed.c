@@ -1,5 +1,5 @@
-/* dwexpr_decode, which adds 1 to a byte of the operation: the byte at CHANGED, of the environment. A program is linked
- * with this and -Wl,--wrap=dwexpr_decode. */
+/* A dwexpr_decode that adds 1 to a byte of the operation, at the offset in the environment variable CHANGED. A program
+ * is linked with this and -Wl,--wrap=dwexpr_decode. */
 #include <stdlib.h>
 
 #include "dwexpr.h"

@@ -35,7 +35,7 @@ static const struct {
     {"i386", 201, 17, NULL}, {"i386", 201, 29, NULL}, {"i386", 201, 4, "08005000"},
 };
 
-/* Memory: of the dump, across two segments, of what a segment doesn't have, of the program's file, after its end. */
+/* Memory: in the dump, across two segments, missing in a segment, in the program's file, and after its end. */
 static const struct {
     uint64_t address;
     size_t size;
@@ -80,7 +80,7 @@ static void check_local(pid_t thread, uint64_t pointer)
     dwexpr_libdw_free_stack(stack);
 }
 
-/* What a core dump is read with. */
+/* An open core dump. */
 static struct opened {
     Dwfl *dwfl;
     int file;
@@ -171,7 +171,7 @@ static void check_core(const char *machine, pid_t first, size_t count)
         check(!code && got[0] == 8 + size && got[2] == 0x50 && size == (count == 7 ? 8 : 4), machine, "the CFA");
         dwexpr_libdw_free_stack(stack);
         check_local(first, 0x600000u + (unsigned)first);
-        /* of i386 the segment that gs selects may not be there */
+        /* on i386 the segment that gs selects may be missing */
         check_local(first + 1, count == 7 ? 0x600000u + (unsigned)first + 1 : 0);
         check_local(first + 2, count == 7 ? 0x600000u + (unsigned)first + 2 : 0);
     }
@@ -180,7 +180,7 @@ static void check_core(const char *machine, pid_t first, size_t count)
     end();
 }
 
-/* Where each module's thread-local storage is, by what glibc keeps. Without the linker's symbols that isn't known. */
+/* Where each module's thread-local storage is, by glibc's tables. It isn't known without the linker's symbols. */
 static void check_glibc(const char *name, unsigned word, int has_linker)
 {
     /* a distance from the thread pointer, blocks, and modules without any: the last three aren't in the list, have no
@@ -204,7 +204,7 @@ static void check_glibc(const char *name, unsigned word, int has_linker)
         dwexpr_libdw_unwind(target, (pid_t)(401 + i), 10, &stacks[i]);
     for (i = 0; i < 2 * COUNT(blocks); i++) {
         const unsigned at = i / 2, thread = i % 2;
-        /* of the second thread the vector can't be read */
+        /* the second thread's vector can't be read */
         const uint64_t block = has_linker && (!thread || !at) ? blocks[at] + 2 * word * thread : 0;
         Dwarf_Addr bias;
         dwexpr_libdw_value *value;
@@ -221,7 +221,7 @@ static void check_glibc(const char *name, unsigned word, int has_linker)
     end();
 }
 
-/* Files that are no core dumps, a process that there isn't, and no thread. */
+/* Files that are no core dumps, a process that doesn't exist, and no thread. */
 static void check_errors(void)
 {
     static const Dwfl_Callbacks finders = {dwfl_build_id_find_elf, dwfl_standard_find_debuginfo, NULL, NULL};

@@ -9,7 +9,7 @@
 
 #include "check.h"
 
-/* Checks each variable that stands in the unit of a file. Gives back the status of the program. */
+/* Checks each variable of a file's unit. Returns the program's exit status. */
 static inline int check_files(int count, char **files, void (*check_variable)(Dwarf_Die *variable))
 {
     int i;

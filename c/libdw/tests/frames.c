@@ -54,7 +54,7 @@ static uint32_t variable_of(dwexpr_libdw_frame *frame, const char *name, uint64_
     return number_of(frame, value, dwexpr_libdw_variable(frame, &variable, &value), number);
 }
 
-/* The content of a register. */
+/* Reads a register's content. */
 static uint32_t register_of(dwexpr_libdw_frame *frame, uint8_t number, uint64_t *content)
 {
     const uint8_t bytes[] = {DW_OP_regx, number};
@@ -65,7 +65,7 @@ static uint32_t register_of(dwexpr_libdw_frame *frame, uint8_t number, uint64_t 
 
 /* ---- many frames */
 
-/* With little of a stack. */
+/* Runs on a small stack. */
 static void *go_deep(void *unused)
 {
     dwexpr_libdw_frame *outermost = dwexpr_libdw_frame_at(stack, 101);
@@ -252,7 +252,7 @@ static void check_arrays(void)
     }
 }
 
-/* The frame that has a variable of this name, its type, and where the variable is; 0 if there is none in memory. */
+/* The frame that has a variable of this name, the variable's type, and its address; 0 if none is in memory. */
 static dwexpr_libdw_frame *place_of(const char *name, Dwarf_Die *type, uint64_t *object)
 {
     dwexpr_libdw_frame *frame;
@@ -279,7 +279,7 @@ static int first_child(Dwarf_Die *parent, int tag, Dwarf_Die *child)
     return more == 0;
 }
 
-/* `shared` begins 36 bytes in an object of `whole`, as g++'s ABI and gdb have it, and `right` 16. */
+/* `shared` is at offset 36 of a `whole`, as g++'s ABI and gdb have it, and `right` at offset 16. */
 static void check_bases(void)
 {
     Dwarf_Die whole, base, left;
@@ -379,8 +379,8 @@ static size_t globals_of(dwexpr_libdw_frame *frame, const char *name, uint64_t *
     return count;
 }
 
-/* Of the library, whose `library_count` is the copy in the program, and of the second one: as gdb has them. `argc` is
- * 2. */
+/* Variables of the library, whose `library_count` is the copy in the program, and of the second library: as gdb has
+ * them. `argc` is 2. */
 static void check_modules(void)
 {
     static const struct {
@@ -443,7 +443,7 @@ static void check_cut_off(void)
     check(!strcmp(dwexpr_libdw_target_error(), "nothing failed") == 0, "no call frame information", "why");
     check(!variable_of(frame, "given", &number) && number == 2, "given", "it is argc");
     check(dwexpr_libdw_frame_at(stack, 1) != NULL, "without_rules", "its frame");
-    /* what libdwfl makes of a frame pointer has none of the registers that a call keeps */
+    /* frames that libdwfl finds by a frame pointer have none of the registers that a call keeps */
     for (i = 2; (frame = dwexpr_libdw_frame_at(stack, i)) != NULL; i++)
         check_register(i, RBX, 0, "rbx");
     dwexpr_libdw_free_stack(again);

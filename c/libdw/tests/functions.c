@@ -1,14 +1,14 @@
 /* The functions of programs that functions.py wrote. A variable of the unit has in its name where frames stand, the
  * innermost first, and then what is said of their variables:
  *
- *     NAME in FRAME is VALUE      what a variable of that frame has in it: four bytes, or what a code's name says
- *     NAME of FUNCTION is VALUE   the same of a variable of a function, in the first frame
- *     entry of NAME is VALUE      what it had on entry
+ *     NAME in FRAME is VALUE      the value of a variable in that frame: four bytes, or the name of a code
+ *     NAME of FUNCTION is VALUE   the same for a variable of a function, in the first frame
+ *     entry of NAME is VALUE      its value on entry
  *     count in FRAME is N         how many functions and variables there are
  *
- * `missing` is no such variable, and `nameless` one that has no name. With a number before the files, the rows are read
- * again and again. Each time another call of malloc is refused, one in so many: then a value isn't known, or as it is
- * said. Register 7 has 0x10, others and memory are as in frame.h. */
+ * `missing` is no such variable, and `nameless` one that has no name. With a number N before the files, the rows are
+ * read again and again, and each time another call of malloc fails, one in N: then a value isn't known, or is as said.
+ * Register 7 has 0x10; other registers and memory are as in frame.h. */
 #include "check.h"
 #include "frame.h"
 #include "refusing.h"
@@ -193,7 +193,7 @@ static void check_nowhere(Dwfl *dwfl)
     dwexpr_libdw_free_frame(frame);
 }
 
-/* A frame in a unit, and in none of its functions. Its caller stands in one. */
+/* A frame in a unit, but in none of its functions. Its caller is in one. */
 static void check_no_function(Dwfl *dwfl, Dwarf_Die *unit)
 {
     const dwexpr_libdw_source called = {.dwfl = dwfl, .unit = unit, .pc = 0x401000, .is_activation = 1};
@@ -240,7 +240,7 @@ static void check_globals(Dwfl *dwfl)
     dwexpr_libdw_free_frame(frame);
 }
 
-/* Variables of a file that isn't in the frame's modules: of an address or a list the place isn't known. */
+/* Variables of a file that isn't in the frame's modules: an address or a location list in it has no known place. */
 static void check_foreign(Dwfl *dwfl, Dwarf_Die *unit, const char *path)
 {
     static const struct {

@@ -1,6 +1,6 @@
 /* Reads the variables of a program whose debug information has wrong bytes: at addresses all over the program, in
- * frames that call each other, with made-up registers and memory. Or those of a core dump whose headers and notes have
- * wrong bytes. It prints how many it read. What counts is that it ends, and that the sanitizers find nothing.
+ * frames that call each other, with made-up registers and memory. Or it reads those of a core dump whose headers and
+ * notes have wrong bytes. It prints how many it read. It has to end, and the sanitizers must find nothing.
  *
  *     hostile FILE FIRST LAST FOLDER    copies FILE to FOLDER, changed as each number from FIRST to LAST says */
 #include "dwexpr_libdw.h"

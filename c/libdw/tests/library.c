@@ -1,4 +1,4 @@
-/* What a program of another module uses: tests/stopped/modules.c. */
+/* The library that stopped/modules.c uses. */
 #include "stop.h"
 
 int library_count = 40;

@@ -1,5 +1,5 @@
-/* The expressions of lists of locations, with their bytes, which libdw doesn't give (DWARF 5, section 7.7.3; DWARF 4,
- * section 7.7.3). The entries come in the order in which dwarf_getlocations gives them. */
+/* The expressions in location lists, with their bytes, which libdw doesn't give (DWARF 5, section 7.7.3; DWARF 4,
+ * section 7.7.3). The entries come in the order of dwarf_getlocations. */
 #ifndef LISTS_H
 #define LISTS_H
 

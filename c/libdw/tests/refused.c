@@ -1,5 +1,5 @@
-/* Reads the variables of a core dump again and again, where each time another call of malloc is refused. What is known
- * then is what is known if none is. The library is built to call those of refusing.h.
+/* Reads the variables of a core dump again and again, and each time another call of malloc fails. Values that are known
+ * then are those that are known if no call fails. The library is built with the calls of refusing.h.
  *
  *     refused CORE STEP    refuses the first 400 calls, and then one in STEP */
 #include "check.h"
@@ -36,7 +36,7 @@ static void read_variable(dwexpr_libdw_frame *frame, size_t frame_index, Dwarf_D
     dwexpr_libdw_value *value;
     Dwarf_Die type, member;
     uint64_t number, size, begin, bits;
-    /* of the second frame that would need the debug information of libc */
+    /* for the second frame that would need the debug information of libc */
     int on_entry;
     for (on_entry = 0; on_entry < (frame_index ? 1 : 2); on_entry++) {
         uint32_t code = on_entry ? dwexpr_libdw_on_entry(frame, variable, &value)

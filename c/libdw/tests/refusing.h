@@ -1,4 +1,4 @@
-/* The calls that a library has in place of malloc, calloc and realloc, if it is built so. One of them is refused. */
+/* Calls in place of malloc, calloc and realloc, for a library that is built with them. One of them fails. */
 #ifndef REFUSING_H
 #define REFUSING_H
 

@@ -1,5 +1,5 @@
-/* Puts each expression of object files together from libdw's operations, and compares it with the file's bytes, which
- * lists.h finds in lists of locations. The last line counts. The status is 1 if one differs. */
+/* Encodes each expression of object files from libdw's operations, and compares it with the file's bytes, which lists.h
+ * finds in location lists. The last line has the counts. The status is 1 if one differs. */
 #include <fcntl.h>
 #include <stdio.h>
 #include <stdlib.h>

@@ -1,4 +1,4 @@
-/* Expressions of call frame information: the bytes that the assembler was given, and what they come to. For x86-64. */
+/* Expressions of call frame information: the bytes that the assembler was given, and their values. For x86-64. */
 #include "check.h"
 #include "dwexpr_libdw.h"
 #include <stdlib.h>
@@ -7,10 +7,10 @@
 
 void rules(void);
 
-/* The CFA is what memory holds 8 bytes above rsp. Registers: 3 is at the CFA + 16, by an expression with a number of
- * two bytes; 12 has the value CFA * 2 - 1; 6 is at the CFA - 16; 14 has the value CFA - 8; 13 is in 15; 8 has the value
- * 5, by an expression that isn't a place; 9 has that of rsp, by an operation that isn't in its shortest form; 10 is at
- * the CFA. */
+/* The CFA is the word 8 bytes above rsp. Registers: 3 is at the CFA + 16, by an expression with a number of two bytes;
+ * 12 has the value CFA * 2 - 1; 6 is at the CFA - 16; 14 has the value CFA - 8; 13 is in 15; 8 has the value 5, by an
+ * expression that isn't a place; 9 has the value of rsp, by an operation that isn't in its shortest form; 10 is at the
+ * CFA. */
 __asm__(".text\n"
         ".globl rules\n"
         ".type rules, @function\n"
@@ -68,7 +68,7 @@ static const struct {
     int number; /* -1 for the CFA */
     const char *bytes;
     int on_cfa, is_value;
-    uint32_t code, piece; /* what it comes to if the CFA is 0x5000 */
+    uint32_t code, piece; /* the result if the CFA is 0x5000 */
     uint64_t value;
 } rows[] = {
     {-1, "77 8800 06", 0, 0, 0, DWEXPR_AT_ADDRESS, 0x5000},
@@ -107,7 +107,7 @@ static int read_memory(void *context, uint64_t address, uint8_t *bytes, size_t s
     return 0;
 }
 
-/* Registers of the caller: those of memory from 0x4ff0 on aren't known. */
+/* Registers of the caller: those in memory from 0x4ff0 on aren't known. */
 static void check_registers(dwexpr_libdw_frame *frame)
 {
     static const struct {
@@ -138,7 +138,7 @@ static void check_registers(dwexpr_libdw_frame *frame)
     }
 }
 
-/* What call frame information says at an address, or NULL, and its file. */
+/* The call frame information at an address, or NULL, and its file. */
 static Dwarf_Frame *rules_at(Dwfl *dwfl, void (*function)(void), Elf **elf)
 {
     const Dwarf_Addr address = (Dwarf_Addr)(uintptr_t)function;

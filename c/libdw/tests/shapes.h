@@ -1,4 +1,4 @@
-// A class that the unit defines in which its first virtual function stands: clang++ only declares it in others.
+// A class. Only the unit with its first virtual function defines it; in others clang++ only declares it.
 #ifndef SHAPES_H
 #define SHAPES_H
 

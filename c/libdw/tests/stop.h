@@ -1,10 +1,10 @@
-/* What the programs of tests/stopped share. */
+/* What the programs in stopped/ share. */
 #ifndef STOP_H
 #define STOP_H
 
 #include <stdlib.h>
 
-/* The place where it stops, by an instruction that there isn't, and a use of a variable. */
+/* The place where the program stops, by an invalid instruction; and a use of a variable. */
 static volatile int at;
 #define STOP(k) do { if (at == (k)) __asm__ volatile("ud2" : : : "memory"); } while (0)
 #define USE(x) __asm__ volatile("" : : "g"(x) : "memory")

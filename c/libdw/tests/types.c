@@ -3,7 +3,7 @@
  *
  *     size N               its bytes
  *     at I,J B N           where the element begins in bits, and how many it has
- *     member NAME B N      the same of a member
+ *     member NAME B N      the same for a member
  *     data N               the address of the data
  *     vtable N             where its virtual function is
  *     value HEX            its bytes, read there
@@ -17,7 +17,7 @@
 
 static const uint64_t object = 0x1010;
 
-/* Whether a number is what a word says, or isn't there. */
+/* Whether a number is the word's, or is missing if the word is `none`. */
 static int is_said(const char *word, uint32_t code, uint64_t number)
 {
     return strcmp(word, "none") ? !code && number == strtoull(word, NULL, 10) : code != 0;

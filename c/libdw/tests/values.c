@@ -1,5 +1,5 @@
-/* Values of expressions in a frame whose registers and memory are known, in both byte orders, and bytes that are put
- * together from operations. Expected bits are counted by hand. */
+/* Values of expressions in a frame whose registers and memory are known, in both byte orders, and expressions that are
+ * encoded from operations. Expected bits are counted by hand. */
 #include "check.h"
 #include "frame.h"
 
@@ -169,7 +169,7 @@ static void check_long_memory(void)
     dwexpr_libdw_free_frame(frame);
 }
 
-/* An attribute that no unit has, and so no file. */
+/* An attribute of no unit, and so of no file. */
 static void check_no_unit(void)
 {
     Dwarf_Attribute attribute = {.cu = NULL};
@@ -249,7 +249,7 @@ static void check_no_memory(void)
 
 /* ---- callbacks that write nothing */
 
-/* The first of these calls writes, and each returns 0. */
+/* The first one of these callbacks writes; all return 0. */
 static int read_one_register(void *context, uint32_t number, uint8_t *content, size_t *size)
 {
     (void)number;

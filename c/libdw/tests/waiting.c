@@ -1,4 +1,4 @@
-/* It waits in a function of the C library, which has no variable that is asked for. */
+/* Waits in a function of the C library, which has none of the variables that are asked for. */
 #include <unistd.h>
 
 int main(void)

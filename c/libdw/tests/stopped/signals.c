@@ -57,7 +57,7 @@ __attribute__((noinline)) static long calls(long n)
     return result + n;
 }
 
-/* each calls the other by a tail call, so what main passed is no more what they had on entry */
+/* each calls the other by a tail call, so the values that main passed aren't those on entry any more */
 __attribute__((noinline)) static long odd(long n, long sum);
 __attribute__((noinline)) static long even(long n, long sum)
 {
@@ -75,7 +75,7 @@ __attribute__((noinline)) static long odd(long n, long sum)
     return even(n - 1, sum + 5);
 }
 
-/* a function with two names, as those of libc: the caller calls the other one */
+/* a function with two names, as in libc: the caller calls it by the other one */
 long implementation(long given);
 extern long interface(long given);
 __asm__(".globl interface\n.set interface, implementation\n");
@@ -94,7 +94,7 @@ __attribute__((noinline)) static long by_name(long n)
     return result + n;
 }
 
-/* the same of a function that leaves by a tail call */
+/* the same for a function that leaves by a tail call */
 __attribute__((noinline)) static long left_for(long given, long other)
 {
     USE(given);

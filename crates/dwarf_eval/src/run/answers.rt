@@ -13,7 +13,7 @@ use dwarf_base::{Reader, Result, copy_of};
 use dwarf_value::{Value, ValueType};
 
 impl<R: Reader + Copy, S: EvaluationStorage<R>> Machine<R, S> {
-    /// Pushes the value that an answer gives, or keeps its fault.
+    /// Pushes the value that an answer gives and runs on, or fails with its error.
     #[inline(always)]
     fn push_answer(&mut self, answer: Result<Value>)
         ensures { PushesAsAnswer answer self.old self.new }
@@ -28,7 +28,7 @@ impl<R: Reader + Copy, S: EvaluationStorage<R>> Machine<R, S> {
         }
     }
 
-    /// Pushes a value, or its sum with the offset in its type.
+    /// Pushes a value; if the request has an offset, their sum in the value's type.
     #[inline(always)]
     fn take_value(&mut self, value: Value)
         requires { IsWaiting self.old.status }
@@ -40,7 +40,7 @@ impl<R: Reader + Copy, S: EvaluationStorage<R>> Machine<R, S> {
         }
     }
 
-    /// Pushes a number, or its sum with the offset.
+    /// Pushes a number as a generic value; if the request has an offset, their sum.
     #[inline(always)]
     fn take_number(&mut self, number: u64)
         requires { IsWaiting self.old.status }
@@ -55,7 +55,7 @@ impl<R: Reader + Copy, S: EvaluationStorage<R>> Machine<R, S> {
         }
     }
 
-    /// Makes a value of the type: of the literal, or of the top.
+    /// Pushes a value of the type: the literal's, or the top converted or reinterpreted.
     #[inline(always)]
     fn take_base_type(&mut self, base_type: ValueType)
         requires { IsWaiting self.old.status }
@@ -71,7 +71,7 @@ impl<R: Reader + Copy, S: EvaluationStorage<R>> Machine<R, S> {
         }
     }
 
-    /// Pushes the literal's bytes as a value of the type.
+    /// Parses the literal as a value of the type, and pushes it.
     #[inline(never)]
     fn take_literal(&mut self, base_type: ValueType, literal: R)
         requires { IsWaiting self.old.status }
@@ -91,7 +91,7 @@ impl<R: Reader + Copy, S: EvaluationStorage<R>> Machine<R, S> {
         self.push_answer(value.convert(base_type, self.addr_mask()))
     }
 
-    /// Takes the bits on top as a value of the type.
+    /// Reinterprets the top as a value of the type.
     #[inline(never)]
     fn take_reinterpretation(&mut self, base_type: ValueType)
         requires { IsWaiting self.old.status }
@@ -101,7 +101,7 @@ impl<R: Reader + Copy, S: EvaluationStorage<R>> Machine<R, S> {
         self.push_answer(value.reinterpret(base_type, self.addr_mask()))
     }
 
-    /// Runs the called text in the call's place; goes on at once if it is empty.
+    /// Runs the called text in place of the call. An empty text is skipped.
     #[inline(never)]
     fn take_location(&mut self, callee: R)
         requires { IsWaiting self.old.status }
@@ -116,7 +116,7 @@ impl<R: Reader + Copy, S: EvaluationStorage<R>> Machine<R, S> {
         self.push_caller(callee);
     }
 
-    /// Takes an answer, to do with it what the open request wants.
+    /// Uses an answer as the open request says.
     #[inline(always)]
     fn take(&mut self, given: Given<R>)
         requires { IsWaiting self.old.status }
@@ -130,7 +130,7 @@ impl<R: Reader + Copy, S: EvaluationStorage<R>> Machine<R, S> {
         }
     }
 
-    /// Takes an answer, and runs on to a request, to the end, or to a fault, which it keeps.
+    /// Uses an answer, and runs on to a request, to completion or to a fault.
     #[inline(always)]
     pub(crate) fn resume(&mut self, given: Given<R>)
         requires { IsWaiting self.old.status }

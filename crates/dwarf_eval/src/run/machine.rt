@@ -1,4 +1,4 @@
-//! The state of a run, and its smallest steps: the lists, the count, and reads of the running text.
+//! The state of an evaluation and its smallest steps: changes of the lists and the count, and reads of the text.
 
 ghost use Rattle.std.specs.Prelude.{◌≡◌, ◌<◌, ◌≤◌, ◌*◌, [], Some, Err, map, length, slice_get, false, true, OnOk, IfOk, IfErr};
 ghost use Rattle.dwarf_base.specs.Reads.{IsRestOf};
@@ -25,7 +25,7 @@ use dwarf_value::Value;
 use std::marker::Model;
 use std::mem;
 
-/// The state of an evaluation, and its smallest steps: these alone see bytes and lists.
+/// The state of an evaluation. Its methods in this file alone use the bytes and the lists.
 #[derive(Drop)]
 pub(crate) struct Machine<R: Reader + Copy, S: EvaluationStorage<R>> {
     pub(crate) state: EvaluationState<R>,
@@ -34,19 +34,19 @@ pub(crate) struct Machine<R: Reader + Copy, S: EvaluationStorage<R>> {
     pub(crate) object_address: Option<u64>,
     pub(crate) max_iterations: u32,
     iteration: u32,
-    // What is left of the running text, or `None` while a run has it.
+    // The unread bytes of the text that runs, or `None` while a method has them in a local variable.
     rest: Option<R>,
-    // The whole of it.
+    // All bytes of that text.
     whole: R,
     last: LastOperation,
-    // The location that waits for its piece, if the last operation gave one.
+    // The location whose piece comes next, if the last operation gave a location.
     location: Location<R>,
-    // What is done with the answer, if a request is open.
+    // How the answer is used, if a request is open.
     on_answer: OnAnswer<R>,
     stack: S::Stack,
     expression_stack: S::ExpressionStack,
     pieces: S::Result,
-    // Contracts alone see it.
+    // For contracts only.
     decodings: Ticks,
 }
 
@@ -75,7 +75,7 @@ impl<R: Reader + Copy, S: EvaluationStorage<R>> Model for Machine<R, S> {
 }
 
 impl<R: Reader + Copy, S: EvaluationStorage<R>> Machine<R, S> {
-    /// Keeps a fault, which ends the run.
+    /// Ends the run with a fault, and keeps it.
     #[inline(always)]
     pub(crate) fn fail(&mut self, error: Error)
         ensures { self.new ≡ with_status (FaultStatus error) self.old }
@@ -83,7 +83,7 @@ impl<R: Reader + Copy, S: EvaluationStorage<R>> Machine<R, S> {
         self.state = EvaluationState::Failed(error);
     }
 
-    /// Pushes a value, or keeps the fault of a stack that doesn't take it.
+    /// Pushes a value. If the stack refuses it, fails with `StackFull` and returns `false`.
     #[inline(always)]
     pub(crate) fn push(&mut self, value: Value) -> bool
         ensures { TriesChange 0 (push_value self.old.setup value) self.old self.new result }
@@ -103,7 +103,7 @@ impl<R: Reader + Copy, S: EvaluationStorage<R>> Machine<R, S> {
         self.stack.pop()
     }
 
-    /// Pops the top, or keeps the fault of an empty stack.
+    /// Pops the top. If the stack is empty, fails with `NotEnoughStackItems` and returns `None`.
     #[inline(always)]
     pub(crate) fn pop(&mut self) -> Option<Value>
         ensures { TriesToPop result self.old self.new }
@@ -115,7 +115,7 @@ impl<R: Reader + Copy, S: EvaluationStorage<R>> Machine<R, S> {
         Some(top)
     }
 
-    /// The value that is this far below the top.
+    /// The value at this distance from the top; 0 is the top.
     #[inline(always)]
     pub(crate) fn value_at(&self, index: u8) -> Option<Value>
         ensures { result ≡ slice_get self.now.store.values index }
@@ -127,7 +127,7 @@ impl<R: Reader + Copy, S: EvaluationStorage<R>> Machine<R, S> {
         self.stack.get(len - 1 - usize::from(index))
     }
 
-    /// Adds a piece, or keeps the fault of a list that doesn't take it.
+    /// Adds a piece. If the list refuses it, fails with `StackFull` and returns `false`.
     #[inline(always)]
     pub(crate) fn push_piece(&mut self, piece: Piece<R>) -> bool
         ensures { TriesChange 0 (push_piece self.old.setup (piece_of R.text R.Offset.number piece))
@@ -140,7 +140,7 @@ impl<R: Reader + Copy, S: EvaluationStorage<R>> Machine<R, S> {
         true
     }
 
-    /// Counts one more operation, or keeps the fault of a maximum that doesn't allow it.
+    /// Counts one more operation. If the maximum is reached, fails with `TooManyIterations` and returns `false`.
     #[inline(always)]
     pub(crate) fn count(&mut self) -> bool
         ensures { CountsOne self.old self.new result }
@@ -153,7 +153,7 @@ impl<R: Reader + Copy, S: EvaluationStorage<R>> Machine<R, S> {
         true
     }
 
-    /// Notes that the last operation was a plain one.
+    /// Sets the kind of the last operation: it asked nothing, gave no location and ended no piece.
     #[inline(always)]
     pub(crate) fn mark_plain(&mut self)
         ensures { self.new ≡ with_last Plain self.old }
@@ -161,7 +161,7 @@ impl<R: Reader + Copy, S: EvaluationStorage<R>> Machine<R, S> {
         self.last = LastOperation::Plain;
     }
 
-    /// Notes that the last operation ended a piece.
+    /// Sets the kind of the last operation: it ended a piece.
     #[inline(always)]
     pub(crate) fn mark_pieced(&mut self)
         ensures { self.new ≡ with_last Pieced self.old }
@@ -169,7 +169,7 @@ impl<R: Reader + Copy, S: EvaluationStorage<R>> Machine<R, S> {
         self.last = LastOperation::Pieced;
     }
 
-    /// Notes that an answer is pushed.
+    /// Sets the kind of the last operation: its answer was pushed.
     #[inline(always)]
     pub(crate) fn mark_pushed(&mut self)
         ensures { self.new ≡ with_last Pushed self.old }
@@ -177,7 +177,7 @@ impl<R: Reader + Copy, S: EvaluationStorage<R>> Machine<R, S> {
         self.last = LastOperation::Pushed;
     }
 
-    /// Notes that a call was answered by an empty text.
+    /// Sets the kind of the last operation: it was a call, and its answer was an empty text.
     #[inline(always)]
     pub(crate) fn mark_called(&mut self)
         ensures { self.new ≡ with_last Called self.old }
@@ -185,7 +185,7 @@ impl<R: Reader + Copy, S: EvaluationStorage<R>> Machine<R, S> {
         self.last = LastOperation::Called;
     }
 
-    /// Lets a location wait for its piece.
+    /// Keeps the location that the last operation gave; its piece comes next.
     #[inline(always)]
     pub(crate) fn locate(&mut self, location: Location<R>)
         ensures { self.new
@@ -195,7 +195,7 @@ impl<R: Reader + Copy, S: EvaluationStorage<R>> Machine<R, S> {
         self.location = location;
     }
 
-    /// Of what sort the last operation was.
+    /// The kind of the last operation.
     #[inline(always)]
     pub(crate) fn last(&self) -> LastOperation
         ensures { (location : _)
@@ -204,7 +204,7 @@ impl<R: Reader + Copy, S: EvaluationStorage<R>> Machine<R, S> {
         self.last
     }
 
-    /// The location that waits for its piece.
+    /// The location whose piece comes next.
     #[inline(always)]
     pub(crate) fn location(&self) -> &Location<R>
         requires { is_free self.now.store.last ≡ false }
@@ -213,7 +213,7 @@ impl<R: Reader + Copy, S: EvaluationStorage<R>> Machine<R, S> {
         &self.location
     }
 
-    /// Takes the location that waits for its piece, which the last operation ended.
+    /// Takes the location whose piece was just read.
     #[inline(always)]
     pub(crate) fn take_located(&mut self) -> Location<R>
         requires { is_free self.old.store.last ≡ false }
@@ -226,7 +226,7 @@ impl<R: Reader + Copy, S: EvaluationStorage<R>> Machine<R, S> {
         location
     }
 
-    /// Runs from now on.
+    /// Sets the state to running.
     #[inline(always)]
     pub(crate) fn set_running(&mut self)
         ensures { self.new ≡ with_status Running self.old }
@@ -234,7 +234,7 @@ impl<R: Reader + Copy, S: EvaluationStorage<R>> Machine<R, S> {
         self.state = EvaluationState::Running;
     }
 
-    /// Completes the run, with this value.
+    /// Completes the evaluation with this value.
     #[inline(always)]
     pub(crate) fn complete(&mut self, value: Option<Value>)
         ensures { self.new ≡ with_status (CompleteStatus value) self.old }
@@ -242,7 +242,7 @@ impl<R: Reader + Copy, S: EvaluationStorage<R>> Machine<R, S> {
         self.state = EvaluationState::Complete(value);
     }
 
-    /// Asks this, to do that with the answer.
+    /// Opens a request; `on_answer` says how its answer is used.
     #[inline(always)]
     pub(crate) fn ask(&mut self, request: EvaluationResult<R>, on_answer: OnAnswer<R>)
         ensures alone { self.new
@@ -257,7 +257,7 @@ impl<R: Reader + Copy, S: EvaluationStorage<R>> Machine<R, S> {
         self.on_answer = on_answer;
     }
 
-    /// Where the evaluation stands.
+    /// The evaluation's state.
     #[inline(always)]
     pub(crate) fn state(&self) -> &EvaluationState<R>
         ensures { (on_answer : requests.OnAnswer)
@@ -266,7 +266,7 @@ impl<R: Reader + Copy, S: EvaluationStorage<R>> Machine<R, S> {
         &self.state
     }
 
-    /// What is done with the answer to the open request.
+    /// How the answer to the open request is used.
     #[inline(always)]
     pub(crate) fn on_answer(&self) -> &OnAnswer<R>
         ensures { (request : requests.Request) → (wanted : requests.OnAnswer)
@@ -276,7 +276,7 @@ impl<R: Reader + Copy, S: EvaluationStorage<R>> Machine<R, S> {
         &self.on_answer
     }
 
-    /// Whether the run goes on.
+    /// Whether the evaluation runs: it has no request, result or fault yet.
     #[inline(always)]
     pub(crate) fn is_running(&self) -> bool
         ensures { result ≡ is_running self.now.status }
@@ -284,7 +284,7 @@ impl<R: Reader + Copy, S: EvaluationStorage<R>> Machine<R, S> {
         matches!(self.state, EvaluationState::Running)
     }
 
-    /// Whether no location waits for its piece.
+    /// Whether the last operation gave no location.
     #[inline(always)]
     pub(crate) fn is_free(&self) -> bool
         ensures { result ≡ is_free self.now.store.last }
@@ -292,7 +292,7 @@ impl<R: Reader + Copy, S: EvaluationStorage<R>> Machine<R, S> {
         !matches!(self.last, LastOperation::Located)
     }
 
-    /// Whether the running text is at its end.
+    /// Whether no byte of the text is left.
     #[inline(always)]
     pub(crate) fn is_at_end(&self) -> bool
         ensures ends { result ≡ true → self.now.place ≡ length self.now.text.bytes }
@@ -329,7 +329,7 @@ impl<R: Reader + Copy, S: EvaluationStorage<R>> Machine<R, S> {
         self.encoding.address_size
     }
 
-    /// The address of the object that is described, if it is set.
+    /// The address of the described object, if it is set.
     #[inline(always)]
     pub(crate) fn object_address(&self) -> Option<u64>
         ensures { result ≡ self.now.store.settings.object_address }
@@ -337,7 +337,7 @@ impl<R: Reader + Copy, S: EvaluationStorage<R>> Machine<R, S> {
         self.object_address
     }
 
-    /// The place in the running text.
+    /// The place in the text: how many of its bytes were read.
     #[inline(always)]
     pub(crate) fn place(&self) -> R::Offset
         ensures value { R.Offset.number result ≡ self.now.place }
@@ -348,7 +348,7 @@ impl<R: Reader + Copy, S: EvaluationStorage<R>> Machine<R, S> {
         }
     }
 
-    /// The place that is before what is left of the running text.
+    /// The place at which this rest of the text begins.
     #[inline(always)]
     pub(crate) fn place_of(&self, rest: &R) -> R::Offset
         requires { IsRestOf (R.text rest.now) self.now.text }
@@ -358,7 +358,7 @@ impl<R: Reader + Copy, S: EvaluationStorage<R>> Machine<R, S> {
         rest.offset_from(&self.whole)
     }
 
-    /// Takes what is left of the running text, which stands at its start meanwhile.
+    /// Takes the unread bytes into a local variable. Until `go_to` puts them back, contracts see the text at its start.
     #[inline(always)]
     pub(crate) fn take_rest(&mut self) -> R
         ensures rest { IsRestOf (R.text result) self.old.text }
@@ -371,7 +371,7 @@ impl<R: Reader + Copy, S: EvaluationStorage<R>> Machine<R, S> {
         }
     }
 
-    /// Goes to what is left of the running text.
+    /// Puts the unread bytes back.
     #[inline(always)]
     pub(crate) fn go_to(&mut self, rest: R)
         requires { IsRestOf (R.text rest) self.old.text }
@@ -380,8 +380,8 @@ impl<R: Reader + Copy, S: EvaluationStorage<R>> Machine<R, S> {
         self.rest = Some(rest);
     }
 
-    /// Reads the operation before what is left of the running text, and counts that. Nothing else of an evaluation
-    /// decodes, and nothing else raises the count.
+    /// Decodes the next operation of the unread bytes. Nothing else in an evaluation decodes, so `decodings` counts all
+    /// that it decodes.
     #[inline(always)]
     pub(crate) fn decode(&mut self, rest: &mut R) -> Result<Operation<R>>
         requires { IsRestOf (R.text rest.old) self.old.text }
@@ -399,7 +399,7 @@ impl<R: Reader + Copy, S: EvaluationStorage<R>> Machine<R, S> {
         Operation::parse(rest, self.encoding)
     }
 
-    /// Goes to a place of the running text, or keeps the fault of a place that it doesn't have.
+    /// Goes to a place of the text. If there is no such place, fails with `BadBranchTarget` and returns `false`.
     #[inline(always)]
     pub(crate) fn jump(&mut self, place: R::Offset, rest: &mut R) -> bool
         requires { IsRestOf (R.text rest.old) self.old.text }
@@ -416,7 +416,8 @@ impl<R: Reader + Copy, S: EvaluationStorage<R>> Machine<R, S> {
         true
     }
 
-    /// Runs a called text and keeps its caller, or keeps the fault of a list that doesn't take it.
+    /// Keeps the text as a caller, and runs the called one. If the list refuses the caller, fails with `StackFull` and
+    /// returns `false`.
     pub(crate) fn push_caller(&mut self, callee: R) -> bool
         ensures { TriesToEnter (R.text callee) self.old self.new result }
     {
@@ -436,7 +437,7 @@ impl<R: Reader + Copy, S: EvaluationStorage<R>> Machine<R, S> {
         }
     }
 
-    /// Goes back to the innermost caller, if there is one.
+    /// Returns to the innermost caller; `false` if there is none.
     pub(crate) fn pop_caller(&mut self) -> bool
         ensures { GoesBack result self.old self.new }
     {
@@ -456,7 +457,7 @@ impl<R: Reader + Copy, S: EvaluationStorage<R>> Machine<R, S> {
         self.pieces.as_slice()
     }
 
-    /// The list of the pieces.
+    /// The pieces, as the list that they are in.
     pub(crate) fn into_pieces(self) -> S::Result
         ensures { map (piece_of R.text R.Offset.number) (S.Result.items result)
             ≡ self.store.pieces }
@@ -464,7 +465,7 @@ impl<R: Reader + Copy, S: EvaluationStorage<R>> Machine<R, S> {
         self.pieces
     }
 
-    /// Stands as a fresh evaluation of another text, over the same lists, which keep their memory.
+    /// Makes this a fresh evaluation of another text. The lists are emptied and keep their memory.
     #[tactic(auto, unfolding(dwarf_meaning::specs::Run::most_operations))]
     #[inline(always)]
     pub(crate) fn restart(&mut self, bytecode: R, encoding: Encoding)
@@ -529,7 +530,7 @@ impl<R: Reader + Copy, S: EvaluationStorage<R>> Machine<R, S> {
     }
 }
 
-/// The mask of an address of this many bytes.
+/// The mask of addresses of this many bytes.
 fn mask_of(address_size: u8) -> u64
     requires some { 0 < address_size }
     requires fits { address_size ≤ 8 }

@@ -27,7 +27,7 @@ impl<R: Reader + Copy, S: EvaluationStorage<R>> Machine<R, S> {
         self.push(value);
     }
 
-    /// Pushes the value that a plain operation computed, or keeps its fault.
+    /// Pushes the value that a plain operation computed, or fails with its error.
     #[inline(always)]
     fn push_computed(&mut self, computed: Result<Value>)
         ensures { PushesComputed computed self.old self.new }
@@ -38,7 +38,7 @@ impl<R: Reader + Copy, S: EvaluationStorage<R>> Machine<R, S> {
         }
     }
 
-    /// Puts the call's value in the place of the top.
+    /// Replaces the top by what the operator gives.
     #[inline(never)]
     pub(crate) fn compute_unary(&mut self, operator: UnaryOperator)
         requires { self.old.status ≡ Running }
@@ -51,7 +51,7 @@ impl<R: Reader + Copy, S: EvaluationStorage<R>> Machine<R, S> {
         self.push_computed(operator.apply(value, self.addr_mask()))
     }
 
-    /// Puts the call's value in the place of the two on top.
+    /// Replaces the two values on top by what the operator gives.
     #[inline(never)]
     pub(crate) fn compute_binary(&mut self, operator: BinaryOperator)
         requires { self.old.status ≡ Running }
@@ -65,7 +65,7 @@ impl<R: Reader + Copy, S: EvaluationStorage<R>> Machine<R, S> {
         self.push_computed(operator.apply(left, right, self.addr_mask()))
     }
 
-    /// A value plus a constant of its type.
+    /// A value plus a constant, which is wrapped to the value's type.
     #[inline(always)]
     pub(crate) fn sum(&self, value: Value, constant: u64) -> Result<Value>
         ensures { result
@@ -76,7 +76,7 @@ impl<R: Reader + Copy, S: EvaluationStorage<R>> Machine<R, S> {
         value.add(addend, self.addr_mask())
     }
 
-    /// The number of an address's bits that a value is.
+    /// A value as a number of the bits that an address has.
     #[inline(always)]
     pub(crate) fn number_of(&self, value: Value) -> u64
         ensures { result ≡ to_u64_of (address_bits self.now.setup) value }
@@ -84,7 +84,8 @@ impl<R: Reader + Copy, S: EvaluationStorage<R>> Machine<R, S> {
         value.to_u64(self.addr_mask()).unwrap_or(0)
     }
 
-    /// Pops the top as a number of an address's bits, or keeps the fault of an empty stack.
+    /// Pops the top as a number of the bits that an address has. If the stack is empty, fails with
+    /// `NotEnoughStackItems` and returns `None`.
     #[inline(always)]
     fn pop_number(&mut self) -> Option<u64>
         ensures { TriesToPopNumber result self.old self.new }
@@ -103,7 +104,7 @@ impl<R: Reader + Copy, S: EvaluationStorage<R>> Machine<R, S> {
         self.mark_plain();
     }
 
-    /// Pushes a copy of the value that is this far below the top.
+    /// Pushes a copy of the value at this distance from the top; 0 is the top.
     #[inline(always)]
     pub(crate) fn pick(&mut self, index: u8)
         requires { self.old.status ≡ Running }
@@ -116,7 +117,7 @@ impl<R: Reader + Copy, S: EvaluationStorage<R>> Machine<R, S> {
         self.push_plain(value)
     }
 
-    /// Swaps the two on top.
+    /// Swaps the two values on top.
     #[inline(never)]
     pub(crate) fn swap(&mut self)
         requires { self.old.status ≡ Running }
@@ -155,7 +156,7 @@ impl<R: Reader + Copy, S: EvaluationStorage<R>> Machine<R, S> {
         self.push_computed(self.sum(value, constant))
     }
 
-    /// Pushes the address of the object that is described.
+    /// Pushes the address of the described object.
     #[inline(always)]
     pub(crate) fn push_object_address(&mut self)
         requires { self.old.status ≡ Running }
@@ -168,7 +169,7 @@ impl<R: Reader + Copy, S: EvaluationStorage<R>> Machine<R, S> {
         self.push_plain(Value::Generic(address))
     }
 
-    /// Goes on this many bytes after the operation.
+    /// Goes on at this offset from the end of the operation.
     #[inline(always)]
     pub(crate) fn take_branch(&mut self, target: i16, rest: &mut R)
         requires runs { self.old.status ≡ Running }
@@ -201,7 +202,7 @@ impl<R: Reader + Copy, S: EvaluationStorage<R>> Machine<R, S> {
         self.take_branch(target, rest)
     }
 
-    /// Lets the top wait for its piece, as a value that has no place.
+    /// Pops the top as a location: the variable has this value, and no place in memory.
     #[inline(never)]
     pub(crate) fn locate_value(&mut self)
         requires { self.old.status ≡ Running }
@@ -211,7 +212,7 @@ impl<R: Reader + Copy, S: EvaluationStorage<R>> Machine<R, S> {
         self.locate(Location::Value { value })
     }
 
-    /// Adds a piece at the address on top, or at no location if the stack is empty.
+    /// Adds a piece: at the address on top, or at no location if the stack is empty.
     #[inline(never)]
     pub(crate) fn add_piece(&mut self, size_in_bits: u64, bit_offset: Option<u64>)
         requires { self.old.status ≡ Running }
@@ -232,7 +233,7 @@ impl<R: Reader + Copy, S: EvaluationStorage<R>> Machine<R, S> {
         });
     }
 
-    /// Asks for what memory holds at the address on top, in the space below it if one is named.
+    /// Requests the memory at the address on top; `has_space` tells whether the value below is its address space.
     #[inline(never)]
     pub(crate) fn dereference(&mut self, base_type: UnitOffset<R::Offset>, size: u8, has_space: bool)
         ensures { Performs
@@ -264,7 +265,7 @@ impl<R: Reader + Copy, S: EvaluationStorage<R>> Machine<R, S> {
         )
     }
 
-    /// Asks for the address of the thread-local slot on top.
+    /// Requests the address of the thread-local slot whose offset is on top.
     #[inline(never)]
     pub(crate) fn ask_tls(&mut self)
         ensures { Performs (act_of self.old meaning.TLS) self.old self.new }

@@ -1,4 +1,4 @@
-//! The method of each operation.
+//! What each operation does.
 
 ghost use Rattle.std.specs.Prelude.{◌≡◌};
 ghost use Rattle.dwarf_base.specs.Reads.{IsRestOf};
@@ -21,7 +21,7 @@ use dwarf_op::{Location, Operation};
 use dwarf_value::Value;
 
 impl<R: Reader + Copy, S: EvaluationStorage<R>> Machine<R, S> {
-    /// Does an operation, before what is left of the text.
+    /// Performs an operation; `rest` has the bytes after it.
     #[inline(always)]
     #[tactic(auto, using(crate::proofs::Placing::left_there))]
     pub(crate) fn operate(&mut self, operation: Operation<R>, rest: &mut R)
@@ -39,7 +39,7 @@ impl<R: Reader + Copy, S: EvaluationStorage<R>> Machine<R, S> {
         }
     }
 
-    /// Does an operation that is no branch.
+    /// Performs an operation that is no branch.
     #[inline(always)]
     #[tactic(auto, unfolding(dwarf_meaning::specs::Acts::act))]
     fn operate_in_place(&mut self, operation: Operation<R>)

@@ -1,4 +1,4 @@
-//! The calls on one value and on two that operations make (DWARF 5, sections 2.5.1.4 and 2.5.1.5).
+//! The operators on one value and on two (DWARF 5, sections 2.5.1.4 and 2.5.1.5).
 
 ghost use Rattle.std.specs.Prelude.{◌≡◌};
 ghost use Rattle.dwarf_value.specs.Values.{IsAddressMask, width_of, binary_of, unary_of};
@@ -7,7 +7,7 @@ ghost use Rattle.dwarf_eval.specs.inner.Machine.{binary_operator_of, operator_of
 use dwarf_base::Result;
 use dwarf_value::Value;
 
-/// A call on one value.
+/// An operator on one value.
 #[derive(Clone, Copy)]
 pub(crate) enum UnaryOperator {
     Abs,
@@ -16,7 +16,7 @@ pub(crate) enum UnaryOperator {
 }
 
 impl UnaryOperator {
-    /// What the call gives.
+    /// The operator's result.
     #[inline(always)]
     pub(crate) fn apply(self, value: Value, addr_mask: u64) -> Result<Value>
         requires { IsAddressMask addr_mask }
@@ -30,7 +30,7 @@ impl UnaryOperator {
     }
 }
 
-/// A call on two values.
+/// An operator on two values.
 #[derive(Clone, Copy)]
 pub(crate) enum BinaryOperator {
     And,
@@ -53,7 +53,7 @@ pub(crate) enum BinaryOperator {
 }
 
 impl BinaryOperator {
-    /// What the call gives.
+    /// The operator's result.
     #[inline(always)]
     pub(crate) fn apply(self, left: Value, right: Value, addr_mask: u64) -> Result<Value>
         requires { IsAddressMask addr_mask }

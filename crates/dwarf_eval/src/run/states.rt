@@ -1,10 +1,10 @@
-//! Where an evaluation stands, and what is done with an answer.
+//! The states of an evaluation, and how an answer is used.
 
 use crate::op::EvaluationResult;
 use dwarf_base::{Error, Reader};
 use dwarf_value::{Value, ValueType};
 
-/// Of what sort the last operation was.
+/// The kind of the last operation.
 #[derive(Clone, Copy)]
 pub(crate) enum LastOperation {
     Nothing,
@@ -15,48 +15,48 @@ pub(crate) enum LastOperation {
     Pushed,
     // A call was answered by an empty text.
     Called,
-    // Its location waits for a piece.
+    // It gave a location, whose piece comes next.
     Located,
 }
 
-/// What is done with the answer to an open request.
+/// How the answer to an open request is used.
 #[derive(Drop)]
 pub(crate) enum OnAnswer<R> {
-    /// It is pushed as it is, or run.
+    /// A value is pushed as it is; a text is run.
     Push,
-    /// It is pushed plus this offset, in bytes.
+    /// Its sum with this offset is pushed.
     Add(i64),
     /// These bytes are pushed as a value of that type.
     Parse(R),
     /// The top is converted to that type.
     Convert,
-    /// The bits on top are taken as a value of that type.
+    /// The top is reinterpreted as that type.
     Reinterpret,
 }
 
-/// Where an evaluation stands.
+/// The state of an evaluation.
 #[derive(Drop)]
 pub(crate) enum EvaluationState<R: Reader, O = <R as Reader>::Offset> {
-    /// Nothing was evaluated yet; the initial value, if one is set.
+    /// Nothing was evaluated yet. It has the initial value, if one is set.
     Start(Option<u64>),
-    /// It runs. Between calls it never does.
+    /// It runs; never between two calls.
     Running,
-    /// It is complete, with the value that was on top of the stack if there is one.
+    /// It is complete. It has the value that was on top of the stack, if there was one.
     Complete(Option<Value>),
     /// It met a fault.
     Failed(Error),
-    /// It waits for the answer to this request. As the last variant it is told by one comparison in Rust.
+    /// It waits for the answer to this request. This is the last variant, so that rustc tests for it by one comparison.
     Waiting(EvaluationResult<R, O>),
 }
 
-/// What a resume is given.
+/// What a resume call was given.
 #[derive(Drop)]
 pub(crate) enum Given<R> {
     /// A value.
     Value(Value),
     /// A number.
     Number(u64),
-    /// An expression to be run.
+    /// An expression to run.
     Location(R),
     /// A type.
     BaseType(ValueType),

@@ -1,13 +1,13 @@
-//! A number that contracts see and that takes no room in a program.
+//! A count for contracts, which has no bytes in a program.
 
 ghost use Rattle.std.specs.Prelude.{◌≡◌, ◌+◌, ℕ};
 
 use std::marker::Model;
 use std::marker::PhantomData;
 
-/// How often something was done. It has no bytes: contracts alone see the number.
+/// A count that only contracts see; in a program it has no bytes.
 ///
-/// Only `tick` raises it, and only a new one has none.
+/// `new` starts at 0, and only `tick` raises it.
 #[derive(Drop)]
 pub(crate) struct Ticks {
     marker: PhantomData<()>,
@@ -21,7 +21,7 @@ impl Model for Ticks {
 }
 
 impl Ticks {
-    /// Nothing was done yet.
+    /// A count of 0.
     pub(crate) fn new() -> Self
         ensures { result.count ≡ 0 }
     {
@@ -30,7 +30,7 @@ impl Ticks {
         }
     }
 
-    /// It was done once more.
+    /// Counts one more.
     #[inline]
     pub(crate) fn tick(&mut self)
         ensures { self.new.count ≡ self.old.count + 1 }

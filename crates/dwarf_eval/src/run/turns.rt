@@ -1,4 +1,4 @@
-//! The turns of a run: operations, the pieces after them, and ends.
+//! The loop of a run: operations, the pieces after locations, and the ends of texts.
 
 ghost use Rattle.std.specs.Prelude.{◌≡◌, ◌<◌, length, false};
 ghost use Rattle.dwarf_base.specs.Reads.{IsRestOf};
@@ -31,7 +31,7 @@ fn whole<R: Reader + Copy>(location: Location<R>) -> Piece<R>
 }
 
 impl<R: Reader + Copy, S: EvaluationStorage<R>> Machine<R, S> {
-    /// Whether the operation at the front of `rest` comes next.
+    /// Whether the operation at the start of `rest` is to be performed next.
     #[inline(always)]
     fn goes_on(&self, rest: &R) -> bool
         requires { IsRestOf (R.text rest.now) self.now.text }
@@ -40,7 +40,8 @@ impl<R: Reader + Copy, S: EvaluationStorage<R>> Machine<R, S> {
         self.is_running() && self.is_free() && !rest.is_empty()
     }
 
-    /// Performs operations until something else comes next. The rest of the text is a local variable meanwhile.
+    /// Performs operations until something else comes next. The unread bytes are in a local variable, so that the
+    /// compiler can keep them in registers.
     #[inline(always)]
     fn run_operations(&mut self)
         requires { IsReady self.old }
@@ -60,7 +61,8 @@ impl<R: Reader + Copy, S: EvaluationStorage<R>> Machine<R, S> {
         self.go_to(rest);
     }
 
-    /// Ends the waiting location by the operation that follows, which has to be a piece.
+    /// Adds the piece of the location. `operation` follows the location, and has to be a piece; else it fails with
+    /// `InvalidExpressionTerminator`.
     #[inline(always)]
     fn add_piece_of_location(&mut self, operation: Operation<R>)
         requires after { 0 < self.old.place }
@@ -85,7 +87,7 @@ impl<R: Reader + Copy, S: EvaluationStorage<R>> Machine<R, S> {
         });
     }
 
-    /// Reads the piece of the waiting location.
+    /// Reads the piece that follows a location.
     #[inline(never)]
     fn read_piece_of_location(&mut self)
         requires runs { self.old.status ≡ Running }
@@ -102,7 +104,7 @@ impl<R: Reader + Copy, S: EvaluationStorage<R>> Machine<R, S> {
         }
     }
 
-    /// Adds a last piece, and completes the run.
+    /// Adds a last piece, and completes the evaluation.
     fn complete_with_piece(&mut self, piece: Piece<R>, value: Option<Value>)
         requires { self.old.status ≡ Running }
         ensures { CompletesWith (piece_of R.text R.Offset.number piece) value self.old self.new }
@@ -112,8 +114,8 @@ impl<R: Reader + Copy, S: EvaluationStorage<R>> Machine<R, S> {
         }
     }
 
-    /// Ends the run. With pieces, neither a value nor a location may be left over. Without any, the waiting location or
-    /// the address on top is the one piece.
+    /// Finishes the evaluation at the end of the outermost text. If it has pieces, no value or location may follow the
+    /// last one. If it has none, the last location is the only piece, or else the address on top is.
     #[inline(never)]
     fn finish(&mut self)
         requires { self.old.status ≡ Running }
@@ -137,7 +139,7 @@ impl<R: Reader + Copy, S: EvaluationStorage<R>> Machine<R, S> {
         self.complete_with_piece(whole(Location::Address { address }), Some(value));
     }
 
-    /// Leaves a text at its end: goes back to the caller, or ends the run if there is none.
+    /// At the end of a text, returns to its caller; if there is none, finishes the evaluation.
     fn return_to_caller(&mut self)
         requires runs { self.old.status ≡ Running }
         requires ends { self.old.place ≡ length self.old.text.bytes }
@@ -148,7 +150,7 @@ impl<R: Reader + Copy, S: EvaluationStorage<R>> Machine<R, S> {
         }
     }
 
-    /// Runs on to a request, to the end, or to a fault, which it keeps.
+    /// Runs on to a request, to completion or to a fault.
     #[inline(never)]
     pub(crate) fn run_on(&mut self)
         requires { self.old.status ≡ Running }
@@ -166,7 +168,7 @@ impl<R: Reader + Copy, S: EvaluationStorage<R>> Machine<R, S> {
         }
     }
 
-    /// Begins the run, with the initial value on the stack if there is one.
+    /// Begins the run. The initial value is pushed, if there is one.
     pub(crate) fn begin(&mut self, initial_value: Option<u64>)
         requires { IsAtRestBy self.old (Start initial_value) }
         ensures { ComesToState self.old (total self.old) self.new }

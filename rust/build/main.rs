@@ -33,14 +33,16 @@ fn rename_unchecked(sources: &mut Sources, condition: &str) {
     }
 }
 
-/// Does the same for the public methods of an evaluation, which the sources don't call.
-fn rename_calls_of_evaluation(sources: &mut Sources) {
-    let is_its = |it: &Source| it.path == "crates/dwarf_eval/src/eval/evaluation.rt";
-    let all = sources.all.iter().filter(|it| is_its(it)).flat_map(|it| &it.preconditions);
-    let mut names: Vec<_> = all.map(|it| it.0.clone()).collect();
-    names.dedup();
-    for name in names {
-        sources.replace(is_its, &format!("pub fn {name}("), &format!("pub(crate) fn {name}_unchecked("));
+/// Does the same for the public methods in these sources that have a precondition. The sources don't call them.
+fn rename_uncalled(sources: &mut Sources) {
+    for path in ["crates/dwarf_eval/src/eval/evaluation.rt", "crates/dwarf_eval/src/op/expressions.rt"] {
+        let is_its = |it: &Source| it.path == path;
+        let all = sources.all.iter().filter(|it| is_its(it)).flat_map(|it| &it.preconditions);
+        let mut names: Vec<_> = all.map(|it| it.0.clone()).collect();
+        names.dedup();
+        for name in names {
+            sources.replace(is_its, &format!("pub fn {name}("), &format!("pub(crate) fn {name}_unchecked("));
+        }
     }
 }
 
@@ -77,7 +79,7 @@ fn main() {
     sources.apply("rust/build/rows/both");
     sources.apply("rust/build/rows/rust");
     rename_unchecked(&mut sources, "IsAddressMask addr_mask");
-    rename_calls_of_evaluation(&mut sources);
+    rename_uncalled(&mut sources);
     add_pages(&mut sources, "rust/src/pages");
     sources.write(ALLOWED, "use crate::casts::{IntoSigned as _, IntoUnsigned as _};");
 }

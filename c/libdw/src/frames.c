@@ -131,8 +131,8 @@ static uint32_t find_scopes(Dwarf_Die *unit, Dwarf_Addr address, struct dwexpr_l
 
 /* ---- the place of a frame */
 
-/* Whether a unit has an address. If the unit's own entry has no addresses, or not all of them, as in version 2, the
- * entries of its functions decide. */
+/* Whether a unit has an address. If the unit has no addresses of its own, or not all of them, as in version 2, those of
+ * its functions tell. */
 static int unit_has(Dwarf_Die *unit, Dwarf_Addr address, uint32_t *code)
 {
     struct dwexpr_libdw_walk walk;

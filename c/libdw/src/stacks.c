@@ -116,8 +116,8 @@ static int is_interrupted(const dwexpr_libdw_stack *stack, size_t index)
     return is_signal;
 }
 
-/* A register as libdwfl gives it. On x86-64, libdwfl (elfutils 0.188) mixes up two registers: in a caller's frame it
- * takes rax, which a call may change, for rbx, which a call keeps. */
+/* A register as libdwfl tells it. Of x86-64 it mixes up two: in a caller's frame it takes rax, which a call may change,
+ * for rbx, which a call keeps (elfutils 0.188). */
 static int is_known(const dwexpr_libdw_stack *stack, size_t index, uint32_t number, Dwarf_Word *content)
 {
     const struct stack_frame *frame = &frames_of(stack)[index];

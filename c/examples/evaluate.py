@@ -1,5 +1,5 @@
 #!/usr/bin/env python3
-"""Decodes and evaluates DW_OP_fbreg -16 in a frame whose base is 0x3000, by the shared library that the word names."""
+"""Decodes and evaluates DW_OP_fbreg -16 in a frame whose base is 0x3000, by the shared library named by the word."""
 
 import ctypes
 import sys

@@ -7,9 +7,9 @@ use arrayvec::ArrayVec;
 use core::fmt;
 use core::marker::PhantomData;
 
-/// A list of an evaluation: a `Vec<T>` on the heap, or a [`SliceVec`] over the caller's slice; with the feature
-/// `arrayvec` also an array `[T; N]`, an `ArrayVec<T, N>` or, with `alloc` too, an array on the heap, `Box<[T; N]>`. The
-/// trait is sealed, as gimli's is.
+/// A list of an evaluation: a `Vec<T>` on the heap, or a [`SliceVec`] over the caller's slice. With the feature
+/// `arrayvec` it may also be an array `[T; N]`, an `ArrayVec<T, N>` or, with `alloc` too, an array on the heap,
+/// `Box<[T; N]>`. The trait is sealed, as gimli's is.
 ///
 /// ```
 /// # #[cfg(feature = "alloc")] {

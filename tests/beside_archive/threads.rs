@@ -7,8 +7,8 @@ use std::thread;
 /// How many numbers a thread takes at a time.
 const PART: u64 = 5_000;
 
-/// Does the work for all numbers below `count`, in parts that the threads take in turn. Gives the failure with the lowest
-/// number.
+/// Does the work for all numbers below `count`, in parts that the threads take in turn. Returns the failure with the
+/// lowest number.
 pub fn first_failure<F: Send>(count: u64, work: impl Fn(Range<u64>) -> Result<(), (u64, F)> + Sync) -> Option<F> {
     let threads = thread::available_parallelism().map_or(1, NonZero::get);
     let run = &|first: u64| {

@@ -68,7 +68,7 @@ typedef struct dwexpr_libdw_text {
 /* Frees the bytes of an expression, whatever the call that wrote it returned. */
 void dwexpr_libdw_free_text(dwexpr_libdw_text *expression);
 
-/* How to read a unit's expressions. Answers 0 or DWEXPR_LIBDW_FAILED. */
+/* How to read a unit's expressions. Returns 0 or DWEXPR_LIBDW_FAILED. */
 uint32_t dwexpr_libdw_encoding(Dwarf_CU *unit, dwexpr_encoding *encoding);
 
 /* Encodes libdw's operations as an expression. An operation's size is the distance from its offset to the next one's.
@@ -76,16 +76,16 @@ uint32_t dwexpr_libdw_encoding(Dwarf_CU *unit, dwexpr_encoding *encoding);
  * left of the expression's `size` bytes. libdw reads the offset of an implicit pointer without its sign: 127 stands for
  * -1 if it has one byte, and for 127 if it has two.
  *
- * Answers 0 or DWEXPR_LIBDW_NOT_ENCODABLE: an opcode is unknown, a number doesn't fit its operand, or an operation of
-  * two LEB128 numbers isn't in its shortest form. `length` is 0 then. No more than `room` bytes are written. libdw cuts
-  * LEB128 numbers off at 64 bits: further bits are lost. */
+ * Returns 0 or DWEXPR_LIBDW_NOT_ENCODABLE: an opcode is unknown, a number doesn't fit its operand, or an operation of
+ * two LEB128 numbers isn't in its shortest form. `length` is 0 then. No more than `room` bytes are written. libdw cuts
+ * LEB128 numbers off at 64 bits: further bits are lost. */
 uint32_t dwexpr_libdw_encode(const Dwarf_Op *operations, size_t count, size_t size, dwexpr_encoding encoding,
                              uint8_t *bytes, size_t room, size_t *length);
 
 /* The expression of an attribute, at an address in the debug information if it is a list of locations. The bytes are
  * those of the file.
  *
- * Answers 0; DWEXPR_LIBDW_OPTIMIZED_AWAY if there is no expression at the address, or an empty one;
+ * Returns 0; DWEXPR_LIBDW_OPTIMIZED_AWAY if there is no expression at the address, or an empty one;
  * DWEXPR_LIBDW_FAILED; DWEXPR_LIBDW_NOT_ENCODABLE; or DWEXPR_LIBDW_NO_MEMORY. `expression` is written in each case:
  * free it by dwexpr_libdw_free_text. */
 uint32_t dwexpr_libdw_expression(Dwarf_Attribute *attribute, Dwarf_Addr address, dwexpr_libdw_text *expression);
@@ -95,7 +95,7 @@ uint32_t dwexpr_libdw_expression(Dwarf_Attribute *attribute, Dwarf_Addr address,
  * DW_CFA_val_expression have their bytes. Each other rule is an expression with the same meaning: offset(N) is
  * DW_OP_plus_uconst N on the CFA, register(N) is DW_OP_regx N, and a CFA of a register and an offset is DW_OP_bregx.
  *
- * Answers 0; DWEXPR_LIBDW_SAME_VALUE; DWEXPR_LIBDW_OPTIMIZED_AWAY if the value is lost; DWEXPR_LIBDW_FAILED;
+ * Returns 0; DWEXPR_LIBDW_SAME_VALUE; DWEXPR_LIBDW_OPTIMIZED_AWAY if the value is lost; DWEXPR_LIBDW_FAILED;
  * DWEXPR_LIBDW_NOT_ENCODABLE; or DWEXPR_LIBDW_NO_MEMORY. Free it by dwexpr_libdw_free_text in each case. */
 uint32_t dwexpr_libdw_rule(Dwarf_Frame *state, Elf *elf, int register_number, dwexpr_libdw_text *expression);
 
@@ -108,14 +108,14 @@ typedef struct dwexpr_libdw_stack dwexpr_libdw_stack;   /* the frames of a threa
 typedef struct dwexpr_libdw_frame dwexpr_libdw_frame;
 
 /* Opens a process that is stopped, and stays so as long as the target is open. It uses ptrace, which only one debugger
- * can. Answers 0, DWEXPR_LIBDW_NO_TARGET or DWEXPR_LIBDW_NO_MEMORY. */
+ * can. Returns 0, DWEXPR_LIBDW_NO_TARGET or DWEXPR_LIBDW_NO_MEMORY. */
 uint32_t dwexpr_libdw_open_process(pid_t process, dwexpr_libdw_target **target);
 
-/* Opens a core dump. `program` is the program's file; if it is NULL, the dump says which it was. Answers as above. */
+/* Opens a core dump. `program` is the program's file; if it is NULL, the dump says which it was. Returns as above. */
 uint32_t dwexpr_libdw_open_core(const char *file, const char *program, dwexpr_libdw_target **target);
 
 /* Makes a target of a Dwfl of the caller's, which has its modules, and was attached to a process or to the core dump
- * `core`, which is NULL for a process. Both have to outlive the target. Answers as above. */
+ * `core`, which is NULL for a process. Both have to outlive the target. Returns as above. */
 uint32_t dwexpr_libdw_attach(Dwfl *dwfl, Elf *core, dwexpr_libdw_target **target);
 
 /* The system's or libdw's message on why the last of these calls gave no target, or dwexpr_libdw_unwind cut frames off.
@@ -134,7 +134,7 @@ size_t dwexpr_libdw_threads(const dwexpr_libdw_target *target, const pid_t **thr
 
 /* Finds the frames of a thread, at most `most` of them.
  *
- * Answers 0; DWEXPR_LIBDW_TOO_MANY_FRAMES if there are more, and gives the innermost ones; DWEXPR_LIBDW_CUT_OFF if one
+ * Returns 0; DWEXPR_LIBDW_TOO_MANY_FRAMES if there are more, and gives the innermost ones; DWEXPR_LIBDW_CUT_OFF if one
  * has no call frame information, so that frames after it may be missing, and gives those that it found;
  * DWEXPR_LIBDW_NO_TARGET; or DWEXPR_LIBDW_NO_MEMORY. Free the stack by dwexpr_libdw_free_stack. */
 uint32_t dwexpr_libdw_unwind(dwexpr_libdw_target *target, pid_t thread, size_t most, dwexpr_libdw_stack **stack);
@@ -164,7 +164,7 @@ typedef struct dwexpr_libdw_source {
     void *context;
 } dwexpr_libdw_source;
 
-/* Makes a frame. Answers 0 or DWEXPR_LIBDW_NO_MEMORY. Free it by dwexpr_libdw_free_frame. */
+/* Makes a frame. Returns 0 or DWEXPR_LIBDW_NO_MEMORY. Free it by dwexpr_libdw_free_frame. */
 uint32_t dwexpr_libdw_make_frame(const dwexpr_libdw_source *source, dwexpr_libdw_frame **frame);
 void dwexpr_libdw_free_frame(dwexpr_libdw_frame *frame);
 
@@ -183,11 +183,11 @@ typedef struct dwexpr_libdw_place {
     Dwarf_Die function;  /* its entry, into which others may be inlined; `addr` is NULL if there is none */
 } dwexpr_libdw_place;
 
-/* Answers 0; DWEXPR_LIBDW_NO_UNIT; or DWEXPR_LIBDW_NO_MEMORY. `place` is written in each case. */
+/* Returns 0; DWEXPR_LIBDW_NO_UNIT; or DWEXPR_LIBDW_NO_MEMORY. `place` is written in each case. */
 uint32_t dwexpr_libdw_locate(dwexpr_libdw_frame *frame, dwexpr_libdw_place *place);
 
 /* The scopes at a frame's address, from the innermost to the unit, through inlined functions and the functions around
- * them. Answers as dwexpr_libdw_locate. Free `scopes`. */
+ * them. Returns what dwexpr_libdw_locate does. Free `scopes`. */
 uint32_t dwexpr_libdw_scopes(dwexpr_libdw_frame *frame, Dwarf_Die **scopes, size_t *count);
 
 /* An entry of a function, or of one of its variables or parameters that are in scope. */
@@ -199,20 +199,20 @@ typedef struct dwexpr_libdw_entry {
 
 /* The functions and variables at a frame's address: for each level the function, and then its variables, those of inner
  * blocks first. Constants are among them, variables of common blocks, and variables that are optimized away or only
- * declared. Answers as dwexpr_libdw_locate. Free `entries`. */
+ * declared. Returns what dwexpr_libdw_locate does. Free `entries`. */
 uint32_t dwexpr_libdw_variables(dwexpr_libdw_frame *frame, dwexpr_libdw_entry **entries, size_t *count);
 
 /* The variables and constants outside of functions, in this module or, if it is NULL, in all: those of the frame's unit
  * first, and then of its module. If `name` isn't NULL, only those with this name in the source or for the linker.
- * dwexpr_libdw_variable has their values in any frame. Answers 0 or DWEXPR_LIBDW_NO_MEMORY. Free `globals`. */
+ * dwexpr_libdw_variable has their values in any frame. Returns 0 or DWEXPR_LIBDW_NO_MEMORY. Free `globals`. */
 uint32_t dwexpr_libdw_globals(dwexpr_libdw_frame *frame, Dwfl_Module *module, const char *name, Dwarf_Die **globals,
                               size_t *count);
 
-/* A register of a frame, in the order of the target: of at most DWEXPR_LIBDW_REGISTER_SIZE bytes. Answers 0,
+/* A register of a frame, in the order of the target: of at most DWEXPR_LIBDW_REGISTER_SIZE bytes. Returns 0,
  * DWEXPR_LIBDW_NOT_READABLE or DWEXPR_LIBDW_BAD_REGISTER. */
 uint32_t dwexpr_libdw_register(const dwexpr_libdw_frame *frame, uint32_t number, uint8_t *bytes, size_t *size);
 
-/* Memory that a frame can read. Answers 0 or DWEXPR_LIBDW_NOT_READABLE. */
+/* Memory that a frame can read. Returns 0 or DWEXPR_LIBDW_NOT_READABLE. */
 uint32_t dwexpr_libdw_memory(const dwexpr_libdw_frame *frame, uint64_t address, uint8_t *bytes, size_t size);
 
 /* The value that a register of the caller has by the call frame information, or the CFA if the register is
@@ -241,11 +241,11 @@ void dwexpr_libdw_release(dwexpr_libdw_value *value);
 /* Evaluates an expression in a frame. Its requests are answered by the frame's registers and memory, and by libdw: the
  * frame base, the CFA, calls, entries of .debug_addr and base types; parameters and entry values by the call site in
  * the caller; thread-local storage by the frame. `object` is the address for DW_OP_push_object_address, and `initial`
-  * the value on the stack at the start; either may be NULL. At most 100,000 operations are done.
+ * the value on the stack at the start; either may be NULL. At most 100,000 operations are done.
  *
- * Answers 0; a fault; DWEXPR_TOO_MANY_TEXTS; DWEXPR_LIBDW_OPTIMIZED_AWAY if the expression is empty;
-  * DWEXPR_LIBDW_TOO_MANY_EXPRESSIONS; DWEXPR_LIBDW_NO_MEMORY; or DWEXPR_LIBDW_WANTS plus the request. Unless memory was
-  * lacking, there is a value. It uses the expression's bytes: free them after the value. */
+ * Returns 0; a fault; DWEXPR_TOO_MANY_TEXTS; DWEXPR_LIBDW_OPTIMIZED_AWAY if the expression is empty;
+ * DWEXPR_LIBDW_TOO_MANY_EXPRESSIONS; DWEXPR_LIBDW_NO_MEMORY; or DWEXPR_LIBDW_WANTS plus the request. Unless memory was
+ * lacking, there is a value. It uses the expression's bytes: free them after the value. */
 uint32_t dwexpr_libdw_evaluate(dwexpr_libdw_frame *frame, const dwexpr_libdw_text *expression, const uint64_t *object,
                                const uint64_t *initial, dwexpr_libdw_value **value);
 
@@ -254,61 +254,61 @@ uint32_t dwexpr_libdw_evaluate(dwexpr_libdw_frame *frame, const dwexpr_libdw_tex
  * Addresses are relocated as the variable's module is. A variable that is only declared, or of which the program has a
  * copy, is at the symbol of its name.
  *
- * Answers what dwexpr_libdw_expression or dwexpr_libdw_evaluate does; DWEXPR_LIBDW_OTHER_FUNCTION; or
+ * Returns what dwexpr_libdw_expression or dwexpr_libdw_evaluate does; DWEXPR_LIBDW_OTHER_FUNCTION; or
  * DWEXPR_LIBDW_NOT_DEFINED. */
 uint32_t dwexpr_libdw_variable(dwexpr_libdw_frame *frame, Dwarf_Die *variable, dwexpr_libdw_value **value);
 
-/* The value that a parameter had on entry of the function, if the caller's call site says it. Answers as above. */
+/* The value that a parameter had on entry of the function, if the caller's call site says it. Returns as above. */
 uint32_t dwexpr_libdw_on_entry(dwexpr_libdw_frame *frame, Dwarf_Die *parameter, dwexpr_libdw_value **value);
 
 /* The number of an attribute, as a bound, a size, a count or a member's place: a constant, the value of an expression,
  * or of the variable or the object's member that it names. `object` is the address of the object, or NULL.
  *
- * Answers 0; DWEXPR_LIBDW_NO_NUMBER; or what dwexpr_libdw_variable does. */
+ * Returns 0; DWEXPR_LIBDW_NO_NUMBER; or what dwexpr_libdw_variable does. */
 uint32_t dwexpr_libdw_number(dwexpr_libdw_frame *frame, Dwarf_Attribute *attribute, const uint64_t *object,
                              uint64_t *number);
 
 /* The entry that a piece of the kind DWEXPR_POINTS_INTO points into: a variable, whose value dwexpr_libdw_variable has.
- * The piece's byte_offset is the place within it. Answers 0 or DWEXPR_LIBDW_FAILED. */
+ * The piece's byte_offset is the place within it. Returns 0 or DWEXPR_LIBDW_FAILED. */
 uint32_t dwexpr_libdw_points_into(const dwexpr_libdw_value *value, const dwexpr_piece *piece, Dwarf_Die *variable);
 
 /* Reads the bytes of a value with this many bits, as they would be in memory; `frame` is the one that the value names.
  * Its pieces follow each other from the lowest bit of each byte in little endian, and from the highest in big endian.
  * The last byte is padded with zeros.
  *
-  * Answers 0 if every bit is known. Else the code says why the first unknown bit isn't: DWEXPR_LIBDW_OPTIMIZED_AWAY,
-  * _IMPLICIT_POINTER, _NOT_READABLE, _TOO_SMALL or _BAD_REGISTER. Unknown bits are zeros in `bytes` and ones in
-  * `unknown`, which may be NULL. Both have room for the bits; known bits are zeros in `unknown`. */
+ * Returns 0 if every bit is known. Else the code says why the first unknown bit isn't: DWEXPR_LIBDW_OPTIMIZED_AWAY,
+ * _IMPLICIT_POINTER, _NOT_READABLE, _TOO_SMALL or _BAD_REGISTER. Unknown bits are zeros in `bytes` and ones in
+ * `unknown`, which may be NULL. Both have room for the bits; known bits are zeros in `unknown`. */
 uint32_t dwexpr_libdw_read(const dwexpr_libdw_frame *frame, const dwexpr_libdw_value *value, uint64_t size_in_bits,
                            uint8_t *bytes, uint8_t *unknown);
 
 /* ---------------------------------------------------------------- types */
 
 /* The type of a variable, a parameter or a member without its typedefs and qualifiers, from its type unit if it has
- * one. Answers 0 or DWEXPR_LIBDW_FAILED if it has none. */
+ * one. Returns 0 or DWEXPR_LIBDW_FAILED if it has none. */
 uint32_t dwexpr_libdw_type(Dwarf_Die *variable, Dwarf_Die *type);
 
-/* The bytes of a type, which may be an array of variable length. Answers as dwexpr_libdw_number. */
+/* The bytes of a type, which may be an array of variable length. Returns what dwexpr_libdw_number does. */
 uint32_t dwexpr_libdw_size(dwexpr_libdw_frame *frame, Dwarf_Die *type, const uint64_t *object, uint64_t *bytes);
 
 /* The definition of a type that its unit only declares. It is found by its name, in the unit and then in the order of
- * dwexpr_libdw_globals. dwexpr_libdw_size does so by itself. Answers 0, DWEXPR_LIBDW_NOT_DEFINED, DWEXPR_LIBDW_FAILED
+ * dwexpr_libdw_globals. dwexpr_libdw_size does so by itself. Returns 0, DWEXPR_LIBDW_NOT_DEFINED, DWEXPR_LIBDW_FAILED
  * or DWEXPR_LIBDW_NO_MEMORY. */
 uint32_t dwexpr_libdw_definition(dwexpr_libdw_frame *frame, Dwarf_Die *type, Dwarf_Die *definition);
 
 /* Where the data of an object of a type is: at the object, or where DW_AT_data_location says, as for arrays in Fortran.
- * Answers as dwexpr_libdw_number; DWEXPR_LIBDW_OPTIMIZED_AWAY if it isn't allocated or associated. */
+ * Returns what dwexpr_libdw_number does; DWEXPR_LIBDW_OPTIMIZED_AWAY if it isn't allocated or associated. */
 uint32_t dwexpr_libdw_data(dwexpr_libdw_frame *frame, Dwarf_Die *type, uint64_t object, uint64_t *address);
 
 /* The bits of an array's element in the array's data: where they begin, counted as dwexpr_libdw_read places them, and
  * how many there are. There is an index for each dimension, as in the source; of an enumeration it is the value's
- * number. Answers as dwexpr_libdw_number: DWEXPR_LIBDW_NO_NUMBER if there is no such element. */
+ * number. Returns what dwexpr_libdw_number does: DWEXPR_LIBDW_NO_NUMBER if there is no such element. */
 uint32_t dwexpr_libdw_element(dwexpr_libdw_frame *frame, Dwarf_Die *array, const uint64_t *object,
                               const int64_t *indexes, size_t count, uint64_t *begin, uint64_t *bits);
 
 /* The bits of a member: where they begin, counted as dwexpr_libdw_read places them, and how many there are. `object` is
-  * the address of the whole, which a virtual base needs, or NULL. `bits` may be NULL if only the place is wanted.
-  * Answers as dwexpr_libdw_number; if only the number of bits isn't known, `begin` is written. */
+ * the address of the whole, which a virtual base needs, or NULL. `bits` may be NULL if only the place is wanted.
+ * Returns what dwexpr_libdw_number does; if only the number of bits isn't known, `begin` is written. */
 uint32_t dwexpr_libdw_member(dwexpr_libdw_frame *frame, Dwarf_Die *member, const uint64_t *object, uint64_t *begin,
                              uint64_t *bits);
 

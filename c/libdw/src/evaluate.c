@@ -91,7 +91,7 @@ static uint32_t find_rule(dwexpr_libdw_frame *frame, int number, dwexpr_libdw_te
     return code;
 }
 
-/* The number of a value: the value itself, or a register's content. */
+/* The number of a value that is one, or that is in a register. */
 static uint32_t number_of_value(const dwexpr_libdw_frame *frame, const dwexpr_libdw_value *value, uint64_t *number)
 {
     if (value->outcome.value_type != DWEXPR_NO_TYPE) {

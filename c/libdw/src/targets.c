@@ -13,8 +13,8 @@ const uint32_t dwexpr_libdw_note_types[SETS] = {NT_PRSTATUS, NT_FPREGSET, NT_PRX
 
 /* ---- memory */
 
-/* Reads bytes that were loaded from an ELF file, at most `size` of them, and sets it to how many there were. Gives back
- * 0; 1 if no segment has bytes for the address; or -1 if the file ends before them. */
+/* Reads at most `size` bytes that were loaded from an ELF file, and sets `size` to how many it read. Gives back 0; 1 if
+ * no segment has bytes for the address; or -1 if the file ends before them. */
 static int read_segments(Elf *elf, Dwarf_Addr bias, uint64_t address, uint8_t *bytes, size_t *size)
 {
     size_t count = 0, i, length;

@@ -17,7 +17,7 @@ static int find_segment(Dwfl_Module *module, unsigned type, GElf_Phdr *segment, 
 
 /* ---- what glibc keeps of other modules */
 
-/* Reads a process's memory. After a read that failed, all give 0. */
+/* Reads a process's memory. After a read has failed, every later one gives 0. */
 struct reader {
     const dwexpr_libdw_target *target;
     size_t word; /* the bytes of an address */

@@ -204,7 +204,7 @@ static void check_glibc(const char *name, unsigned word, int has_linker)
         dwexpr_libdw_unwind(target, (pid_t)(401 + i), 10, &stacks[i]);
     for (i = 0; i < 2 * COUNT(blocks); i++) {
         const unsigned at = i / 2, thread = i % 2;
-        /* the second thread's vector can't be read */
+        /* of the second thread the vector can't be read */
         const uint64_t block = has_linker && (!thread || !at) ? blocks[at] + 2 * word * thread : 0;
         Dwarf_Addr bias;
         dwexpr_libdw_value *value;

@@ -1,9 +1,9 @@
 #!/usr/bin/env python3
-"""Writes core dumps, and programs of which they are: for x86-64, i386 and a machine in big endian.
+"""Writes core dumps and the programs that they are dumps of, for x86-64, i386 and a big-endian machine.
 
     dumps.py FOLDER     writes FOLDER/MACHINE.core and FOLDER/MACHINE.program
 
-dumps.c has what they hold.
+dumps.c has their content.
 """
 
 import itertools

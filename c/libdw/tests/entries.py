@@ -3,7 +3,7 @@
 
     entries.py FOLDER     writes FOLDER/ADDRESS-OFFSET-VERSION-ORDER.entries
 
-A variable's name says what its value is, for entries.c: a few words, and then its bytes or what an answer's code says.
+A variable's name tells entries.c its value: a few words, and then its bytes or the message of a code.
 """
 
 import itertools

@@ -4,7 +4,7 @@
     every_operation.py FOLDER     writes FOLDER/ADDRESS-OFFSET-VERSION-ORDER.elf, and prints how many expressions
                                   they have
 
-Each file has one unit, with an entry for each expression, and two lists of locations with all of them.
+Each file has one unit, with an entry for each expression, and two location lists with all of them.
 """
 
 import itertools
@@ -62,7 +62,7 @@ class EveryOperation(Unit):
             yield b"\x9e" + unsigned_leb(1, length) + b"\x07" + b"\xa3" + unsigned_leb(1, length) + b"\x55\x9f"
 
     def list_of(self, expressions):
-        """A list of locations, in which each expression has an address."""
+        """A location list in which each expression has its own address."""
         made = b""
         for at, expression in enumerate(expressions):
             if self.version >= 5:

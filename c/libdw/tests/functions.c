@@ -1,5 +1,5 @@
-/* The functions of programs that functions.py wrote. A variable of the unit has in its name where frames stand, the
- * innermost first, and then what is said of their variables:
+/* The functions of programs that functions.py wrote. The name of a variable of the unit says where the frames are, the
+ * innermost first, and then what their variables have to be:
  *
  *     NAME in FRAME is VALUE      the value of a variable in that frame: four bytes, or the name of a code
  *     NAME of FUNCTION is VALUE   the same for a variable of a function, in the first frame

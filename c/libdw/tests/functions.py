@@ -3,7 +3,7 @@
 
     functions.py FOLDER     writes FOLDER/VERSION.functions
 
-Each function has 256 bytes of code, from 0x401000 on. A variable of the unit says in its name what functions.c checks.
+Each function has 256 bytes of code, from 0x401000 on. The name of a variable of the unit says what functions.c checks.
 """
 
 import pathlib
@@ -308,7 +308,7 @@ class Functions(Tree):
         return unknown
 
     def parts(self):
-        """A function of two ranges, the first of which has its entry; and one without any."""
+        """A function of two ranges, whose entry is in the first; and one without ranges."""
         if self.version >= 5:
             return
         function = self.function(is_placed=False, ranges=(0x17, self.offset(0)))
@@ -321,7 +321,7 @@ class Functions(Tree):
         self.row([function.begin + 0x50, caller.begin + 0x10], "given in 0 is missing")
 
     def lists(self):
-        """Lists of locations, which are of addresses in the module."""
+        """Location lists, which have addresses in the module."""
         function = self.function(linkage_name="listing")
         begin = function.begin
         if self.version >= 5:

@@ -1,6 +1,6 @@
-"""Runs in gdb, which is told PLACES and LEVELS before: prints a line of JSON for each place of a program, with the
-variables of each frame: its thread, its level, which of the functions that are inlined there, the function, a name, and
-bits as numbers: of the variable's value, which of them are known, and which were optimized away."""
+"""Runs in gdb, after PLACES and LEVELS were set. Prints a line of JSON for each place of a program, with the variables
+of each frame: the thread, the level, which of the functions inlined there, the function, the name, and three numbers:
+the value's bits, which of them are known, and which are optimized away."""
 
 import json
 import struct

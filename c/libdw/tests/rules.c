@@ -107,7 +107,7 @@ static int read_memory(void *context, uint64_t address, uint8_t *bytes, size_t s
     return 0;
 }
 
-/* Registers of the caller: those in memory from 0x4ff0 on aren't known. */
+/* Registers of the caller: those of memory from 0x4ff0 on aren't known. */
 static void check_registers(dwexpr_libdw_frame *frame)
 {
     static const struct {
@@ -138,7 +138,7 @@ static void check_registers(dwexpr_libdw_frame *frame)
     }
 }
 
-/* The call frame information at an address, or NULL, and its file. */
+/* What call frame information says at an address, or NULL, and its file. */
 static Dwarf_Frame *rules_at(Dwfl *dwfl, void (*function)(void), Elf **elf)
 {
     const Dwarf_Addr address = (Dwarf_Addr)(uintptr_t)function;

@@ -3,8 +3,8 @@
 
     types.py FOLDER     writes FOLDER/ADDRESS-OFFSET-VERSION-ORDER.types
 
-A variable's name says what is known of its type, in words that types.c reads. The object is at 0x1010, and each byte of
-memory is the lowest one of its address.
+A variable's name tells types.c what is known of its type. The object is at 0x1010, and each byte of memory is the
+lowest byte of its address.
 """
 
 import itertools
@@ -99,7 +99,7 @@ class Types(Tree):
         self.variable("size 32; at 16 240 16; data memory; without", bound)
 
     def orders(self):
-        """As the language has it: the first index of Fortran is the fastest, and begins at 1, as Ada's does."""
+        """Arrays as the language has them: Fortran's first index changes fastest, and begins at 1, as Ada's does."""
         pair = Entry("subrange", upper=2), Entry("subrange", upper=3)
         said = {ADA: "size 24; at 2,1 96 32", FORTRAN: "size 24; at 2,1 32 32"}
         self.variable(said.get(self.language, "size 48; at 1,0 128 32"), self.array(self.int, *pair))
@@ -201,8 +201,8 @@ class Types(Tree):
                           self.array(self.byte, Entry("subrange", lower=0, count=member)))
 
     def members(self):
-        """Of bit fields DWARF 3 counts from the highest bit of what holds them (5.6.6), and DWARF 4 from the lowest
-        address of the whole."""
+        """Bit fields: DWARF 3 counts from the highest bit of the bytes that hold them (5.6.6), and DWARF 4 from the
+        lowest address of the whole."""
         whole = self.root.add("structure", byte_size=16)
         unknown = self.root.add("structure", declaration=True)
         big = self.order == ">"

@@ -4,13 +4,13 @@ import struct
 
 
 def unsigned_leb(number, length=1):
-    """A number without a sign as LEB128, of at least so many bytes."""
+    """An unsigned LEB128 number of at least this many bytes."""
     count = max(length, -(-number.bit_length() // 7))
     return bytes(number >> 7 * at & 0x7F | 0x80 * (at + 1 < count) for at in range(count))
 
 
 def signed_leb(number, length=1):
-    """A number with a sign."""
+    """A signed LEB128 number."""
     count = max(length, max(number, ~number).bit_length() // 7 + 1)
     return unsigned_leb(number % (1 << 7 * count), count)
 
@@ -34,7 +34,7 @@ class Unit:
         return (b"" if self.offset_size == 4 else b"\xff" * 4) + self.offset(number)
 
     def header(self):
-        """What a unit's header has after its length; its abbreviations are at 0."""
+        """The rest of a unit's header after its length; its abbreviations are at 0."""
         if self.version >= 5:
             return self.pack("HBB", 5, 1, self.address_size) + self.offset(0)
         return self.pack("H", self.version) + self.offset(0) + bytes([self.address_size])

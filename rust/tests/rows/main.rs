@@ -134,7 +134,7 @@ fn cases() -> Vec<(String, Case)> {
         (0..).zip(vectors.items()).map(|(at, it)| (format!("vector {at}"), case_of_vector(it))).collect();
     for file in fs::read_dir(tests.join("rows")).unwrap() {
         let path = file.unwrap().path();
-        // An editor's file is left out.
+        // An editor's file is none.
         let name = path.file_name().unwrap().to_str().unwrap();
         if name.starts_with('.') || !name.ends_with(".json") {
             continue;

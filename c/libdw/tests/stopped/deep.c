@@ -1,4 +1,4 @@
-/* Many frames, and a parameter that goes through all of them. Its first word says where it stops. */
+/* Many frames, and a parameter that goes through all of them. Its argument says where it stops. */
 #include "../stop.h"
 
 __attribute__((noinline)) static long handed(int n, long given)

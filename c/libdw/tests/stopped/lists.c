@@ -1,4 +1,4 @@
-/* Lists, arrays and texts as programs have them. Its first word says where it stops. */
+/* Lists, arrays and texts as programs have them. Its argument says where it stops. */
 #include <stdio.h>
 #include <string.h>
 

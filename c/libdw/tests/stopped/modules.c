@@ -1,5 +1,5 @@
 /* Variables and functions of several modules: the library of ../library.c, and a second one that is opened.
- * Its first word says where it stops. */
+ * Its argument says where it stops. */
 #include <dlfcn.h>
 
 #include "../stop.h"

@@ -1,4 +1,4 @@
-/* Functions within functions, constants that aren't numbers, and variables that are only declared. Its first word says
+/* Functions within functions, constants that aren't numbers, and variables that are only declared. Its argument says
  * where it stops. */
 #include <stdlib.h>
 

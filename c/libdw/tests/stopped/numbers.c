@@ -1,4 +1,4 @@
-/* Variables of each integer type, in registers, in memory and as constants. Its first word says where it stops. */
+/* Variables of each integer type, in registers, in memory and as constants. Its argument says where it stops. */
 #include <stdint.h>
 
 #include "../stop.h"

@@ -1,5 +1,5 @@
-/* Variables in registers of each kind, atomic ones, characters, and thread-local storage with an alignment. Its first
- * word says where it stops. */
+/* Variables in registers of each kind, atomic ones, characters, and thread-local storage with an alignment. Its
+ * argument says where it stops. */
 #include <stdatomic.h>
 
 #include "../stop.h"

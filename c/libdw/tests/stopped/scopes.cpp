@@ -1,5 +1,5 @@
 // Variables of functions in namespaces, classes and other functions, of inlined ones, and of handlers of exceptions.
-// Its first word says where it stops.
+// Its argument says where it stops.
 #include <cstdlib>
 #include <stdexcept>
 

@@ -1,4 +1,4 @@
-//! Variables of functions in modules, of methods and of closures. Its first word says where it stops.
+//! Variables of functions in modules, of methods and of closures. Its argument says where it stops.
 #![allow(dead_code)]
 use std::hint::black_box;
 use std::sync::atomic::{AtomicU32, Ordering};

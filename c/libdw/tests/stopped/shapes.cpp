@@ -1,4 +1,4 @@
-// Pointers to members, and classes that another unit defines: ../shapes.cpp. Its first word says where it
+// Pointers to members, and classes that another unit defines: ../shapes.cpp. Its argument says where it
 // stops.
 #include "../shapes.h"
 #include "../stop.h"

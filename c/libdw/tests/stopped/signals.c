@@ -1,5 +1,5 @@
 /* The frames of a signal's handler, of the system's call that it interrupts, of tail calls, and of a function with two
- * names. Its first word says where it stops. */
+ * names. Its argument says where it stops. */
 #include <signal.h>
 #include <unistd.h>
 

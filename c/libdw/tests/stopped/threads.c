@@ -1,4 +1,4 @@
-/* Threads that wait while the first one stops. Its first word says where it stops. */
+/* Threads that wait while the first one stops. Its argument says where it stops. */
 #include <pthread.h>
 #include <unistd.h>
 

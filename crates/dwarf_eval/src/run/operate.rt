@@ -235,7 +235,12 @@ impl<R: Reader + Copy, S: EvaluationStorage<R>> Machine<R, S> {
 
     /// Requests the memory at the address on top; `has_space` tells whether the value below is its address space.
     #[inline(never)]
-    pub(crate) fn dereference(&mut self, base_type: UnitOffset<R::Offset>, size: u8, has_space: bool)
+    pub(crate) fn dereference(
+        &mut self,
+        base_type: UnitOffset<R::Offset>,
+        size: u8,
+        has_space: bool,
+    )
         ensures { Performs
             (act_of self.old (meaning.Deref (R.Offset.number base_type.0) size has_space))
             self.old self.new }

@@ -2,8 +2,7 @@
 
 ghost use Rattle.std.specs.Prelude.{◌≡◌, ◌+◌, ℕ};
 
-use std::marker::Model;
-use std::marker::PhantomData;
+use std::marker::{Model, PhantomData};
 
 /// A count that only contracts see; in a program it has no bytes.
 ///

@@ -57,7 +57,7 @@ static uint32_t memory_number(const struct job *job, uint64_t *content)
 
 static uint32_t find_base(dwexpr_libdw_frame *frame, uint32_t *left)
 {
-    const struct dwexpr_libdw_given given = {frame, NULL, NULL};
+    const struct dwexpr_libdw_given given = {frame, NULL, NULL, 0};
     Dwarf_Attribute attribute;
     uint32_t code;
     if (frame->has_base)
@@ -117,7 +117,7 @@ static uint32_t expression_number(enum purpose purpose, const struct dwexpr_libd
 
 static uint32_t find_cfa(dwexpr_libdw_frame *frame, uint32_t *left)
 {
-    const struct dwexpr_libdw_given given = {frame, NULL, NULL};
+    const struct dwexpr_libdw_given given = {frame, NULL, NULL, 0};
     dwexpr_libdw_text rule;
     uint32_t code;
     if (frame->has_cfa)
@@ -480,7 +480,7 @@ static uint32_t answer(struct job *job, uint32_t *left, struct job **next)
 /* Evaluates the first job, and all for which it waits. */
 static uint32_t run(struct job *first, const struct dwexpr_libdw_given *given, uint32_t *left)
 {
-    static const struct dwexpr_libdw_given nothing = {NULL, NULL, NULL};
+    static const struct dwexpr_libdw_given nothing = {NULL, NULL, NULL, 0};
     struct job *job = first;
     uint32_t code = start(first, given);
     for (;;) {
@@ -545,7 +545,7 @@ uint32_t dwexpr_libdw_evaluate(dwexpr_libdw_frame *frame, const dwexpr_libdw_tex
                                const uint64_t *initial, dwexpr_libdw_value **value)
 {
     const int takes_cfa = expression->on_cfa && !initial;
-    const struct dwexpr_libdw_given given = {frame, object, takes_cfa ? &frame->cfa : initial};
+    const struct dwexpr_libdw_given given = {frame, object, takes_cfa ? &frame->cfa : initial, 0};
     uint32_t left = frame->limit;
     left += left < UINT32_MAX;
     *value = NULL;
@@ -560,7 +560,7 @@ uint32_t dwexpr_libdw_evaluate(dwexpr_libdw_frame *frame, const dwexpr_libdw_tex
  * that function. GCC writes a link also if no caller sets it. NULL if it isn't known. */
 static dwexpr_libdw_frame *enclosing_frame(dwexpr_libdw_frame *inner, const Dwarf_Die *function)
 {
-    const struct dwexpr_libdw_given given = {inner, NULL, NULL};
+    const struct dwexpr_libdw_given given = {inner, NULL, NULL, 0};
     Dwarf_Attribute attribute;
     dwexpr_libdw_frame *frame, *found = NULL;
     uint32_t left = inner->limit;
@@ -896,7 +896,7 @@ uint32_t dwexpr_libdw_number(dwexpr_libdw_frame *frame, Dwarf_Attribute *attribu
 {
     const unsigned name = dwarf_whatattr(attribute);
     const int is_on_object = name == DW_AT_data_member_location || name == DW_AT_vtable_elem_location;
-    const struct dwexpr_libdw_given given = {frame, object, is_on_object ? object : NULL};
+    const struct dwexpr_libdw_given given = {frame, object, is_on_object ? object : NULL, 0};
     return dwexpr_libdw_number_with(&given, attribute, number);
 }
 

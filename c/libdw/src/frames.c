@@ -205,28 +205,17 @@ uint32_t dwexpr_libdw_find_place(dwexpr_libdw_frame *frame)
 
 /* ---- modules */
 
-/* A module that is passed, and the one after it. */
-struct modules {
-    Dwfl_Module *passed, *next;
-};
-
-static int on_module(Dwfl_Module *module, void **data, const char *name, Dwarf_Addr start, void *given)
+static int on_module(Dwfl_Module *module, void **data, const char *name, Dwarf_Addr start, void *found)
 {
-    struct modules *modules = (struct modules *)given;
     (void)data, (void)name, (void)start;
-    if (modules->passed) {
-        modules->passed = modules->passed == module ? NULL : modules->passed;
-        return DWARF_CB_OK;
-    }
-    modules->next = module;
+    *(Dwfl_Module **)found = module;
     return DWARF_CB_ABORT;
 }
 
-Dwfl_Module *dwexpr_libdw_next_module(Dwfl *dwfl, Dwfl_Module *passed)
+ptrdiff_t dwexpr_libdw_next_module(Dwfl *dwfl, ptrdiff_t at, Dwfl_Module **module)
 {
-    struct modules modules = {passed, NULL};
-    dwfl_getmodules(dwfl, on_module, &modules, 0);
-    return modules.next;
+    *module = NULL;
+    return dwfl_getmodules(dwfl, on_module, module, at);
 }
 
 /* Whether debug information belongs to a module; if `is_split`, as a separate file that one of its units names. */
@@ -245,6 +234,7 @@ int dwexpr_libdw_find_module(dwexpr_libdw_frame *frame, Dwarf_CU *unit, Dwfl_Mod
 {
     const Dwarf *wanted = dwarf_cu_getdwarf(unit);
     uint8_t kind = DW_UT_compile;
+    ptrdiff_t at = 0;
     dwexpr_libdw_find_place(frame);
     *module = frame->place.module;
     *bias = frame->place.bias;
@@ -252,11 +242,10 @@ int dwexpr_libdw_find_module(dwexpr_libdw_frame *frame, Dwarf_CU *unit, Dwfl_Mod
         (frame->place.unit.addr && dwarf_cu_getdwarf(frame->place.unit.cu) == wanted))
         return 0;
     dwarf_cu_info(unit, NULL, &kind, NULL, NULL, NULL, NULL, NULL);
-    *module = NULL;
     do
-        *module = dwexpr_libdw_next_module(frame->source.dwfl, *module);
-    while (*module && !is_of(*module, wanted, kind >= DW_UT_split_compile, bias));
-    return !*module;
+        at = dwexpr_libdw_next_module(frame->source.dwfl, at, module);
+    while (at > 0 && !is_of(*module, wanted, kind >= DW_UT_split_compile, bias));
+    return at <= 0;
 }
 
 int dwexpr_libdw_find_state(const dwexpr_libdw_frame *frame, int i, Dwarf_Frame **state, Elf **elf)

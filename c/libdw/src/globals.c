@@ -20,6 +20,7 @@ static int search_module(Dwfl_Module *module, const void *passed, unit_search *o
 static void search_units(dwexpr_libdw_frame *frame, Dwfl_Module *module, unit_search *on_unit, void *given)
 {
     Dwarf_Die *first = &frame->place.unit;
+    ptrdiff_t at = 0;
     int ends;
     dwexpr_libdw_find_place(frame);
     if (module) {
@@ -29,7 +30,7 @@ static void search_units(dwexpr_libdw_frame *frame, Dwfl_Module *module, unit_se
     ends = first->addr && on_unit(first, given);
     if (!ends && frame->place.module)
         ends = search_module(frame->place.module, first->addr, on_unit, given);
-    while (!ends && (module = dwexpr_libdw_next_module(frame->source.dwfl, module)) != NULL)
+    while (!ends && (at = dwexpr_libdw_next_module(frame->source.dwfl, at, &module)) > 0)
         ends = module != frame->place.module && search_module(module, first->addr, on_unit, given);
 }
 
@@ -147,41 +148,45 @@ uint32_t dwexpr_libdw_definition(dwexpr_libdw_frame *frame, Dwarf_Die *type, Dwa
 
 /* ---- symbols */
 
-/* The section of this type in a module's file, with its header and the bias of its addresses; NULL if there is none. */
-static Elf_Data *section_of(Dwfl_Module *module, unsigned type, GElf_Shdr *header, Dwarf_Addr *bias)
+int dwexpr_libdw_find_segment(Dwfl_Module *module, unsigned type, GElf_Phdr *segment, Dwarf_Addr *bias)
 {
     Elf *elf = dwfl_module_getelf(module, bias);
-    Elf_Scn *section = NULL;
-    header->sh_type = SHT_NULL;
-    while (header->sh_type != type && (section = elf_nextscn(elf, section)) != NULL)
-        gelf_getshdr(section, header);
-    return elf_getdata(section, NULL);
+    size_t count = 0, i;
+    elf_getphdrnum(elf, &count);
+    segment->p_type = PT_NULL;
+    for (i = 0; i < count && segment->p_type != type; i++)
+        gelf_getphdr(elf, (int)i, segment);
+    return segment->p_type == type;
 }
 
-/* Whether a module is the program: only its dynamic section has DT_DEBUG. */
-static int is_program(Dwfl_Module *module)
+int dwexpr_libdw_is_program(Dwfl_Module *module)
 {
-    GElf_Shdr header;
+    GElf_Phdr segment;
+    GElf_Dyn entry = {.d_tag = DT_NULL};
     Dwarf_Addr bias;
-    GElf_Dyn entry;
-    Elf_Data *entries = section_of(module, SHT_DYNAMIC, &header, &bias);
+    Elf_Data *entries;
     int i;
-    for (i = 0; gelf_getdyn(entries, i, &entry); i++)
-        if (entry.d_tag == DT_DEBUG)
-            return 1;
-    return 0;
+    if (!dwexpr_libdw_find_segment(module, PT_DYNAMIC, &segment, &bias))
+        return 1;
+    entries = elf_getdata_rawchunk(dwfl_module_getelf(module, &bias), (int64_t)segment.p_offset,
+                                   (size_t)segment.p_filesz, ELF_T_DYN);
+    for (i = 0; entry.d_tag != DT_DEBUG && gelf_getdyn(entries, i, &entry); i++)
+        ;
+    return entry.d_tag == DT_DEBUG;
 }
 
 /* Finds a symbol among those that a module exports. */
 static int is_exported(Dwfl_Module *module, struct dwexpr_libdw_symbol *symbol)
 {
-    GElf_Shdr header;
+    GElf_Shdr header = {.sh_type = SHT_NULL};
     Dwarf_Addr bias;
-    Elf_Data *symbols = section_of(module, SHT_DYNSYM, &header, &bias);
+    Elf *elf = dwfl_module_getelf(module, &bias);
+    Elf_Scn *section = NULL;
     int i;
-    for (i = 1; gelf_getsym(symbols, i, &symbol->symbol); i++) {
-        Dwarf_Addr unused;
-        const char *name = elf_strptr(dwfl_module_getelf(module, &unused), header.sh_link, symbol->symbol.st_name);
+    while (header.sh_type != SHT_DYNSYM && (section = elf_nextscn(elf, section)) != NULL)
+        gelf_getshdr(section, &header);
+    for (i = 1; gelf_getsym(elf_getdata(section, NULL), i, &symbol->symbol); i++) {
+        const char *name = elf_strptr(elf, header.sh_link, symbol->symbol.st_name);
         if (!name || symbol->symbol.st_shndx == SHN_UNDEF || strcmp(name, symbol->name))
             continue;
         symbol->module = module;
@@ -210,20 +215,21 @@ int dwexpr_libdw_find_symbol(Dwfl_Module *module, Dwarf_Addr address, struct dwe
 int dwexpr_libdw_resolve(Dwfl *dwfl, Dwfl_Module *module, int is_its_own, struct dwexpr_libdw_symbol *symbol)
 {
     struct dwexpr_libdw_symbol other = *symbol;
-    Dwfl_Module *exporter = NULL;
     const int own = module && is_exported(module, symbol);
+    Dwfl_Module *exporter;
+    ptrdiff_t at = 0;
     int count = 0;
     if (!own && is_its_own)
         return 0;
     if (!own && dwexpr_libdw_find_symbol(module, 0, symbol))
         return 1;
-    while ((exporter = dwexpr_libdw_next_module(dwfl, exporter)) != NULL) {
+    while ((at = dwexpr_libdw_next_module(dwfl, at, &exporter)) > 0) {
         if (!is_exported(exporter, &other))
             continue;
         count++;
-        if (!own || is_program(exporter))
+        if (!own || dwexpr_libdw_is_program(exporter))
             *symbol = other;
-        if (is_program(exporter))
+        if (dwexpr_libdw_is_program(exporter))
             return 1;
     }
     return own || count == 1;

@@ -81,6 +81,7 @@ int dwexpr_libdw_scalar(Dwarf_Die *type, Dwarf_Word *size, Dwarf_Word *encoding)
 struct dwexpr_libdw_given {
     dwexpr_libdw_frame *frame;
     const uint64_t *object, *initial;
+    uint32_t code; /* why the first number of several isn't known, else 0 */
 };
 
 uint32_t dwexpr_libdw_number_with(const struct dwexpr_libdw_given *given, Dwarf_Attribute *attribute, uint64_t *number);
@@ -92,8 +93,8 @@ uint32_t dwexpr_libdw_string_length(const struct dwexpr_libdw_given *given, Dwar
 
 /* The unit with the entries: that of the split debug information if the unit is split. */
 Dwarf_Die dwexpr_libdw_entries(Dwarf_Die *unit);
-/* The module after this one, the first one after NULL; NULL at the end. */
-Dwfl_Module *dwexpr_libdw_next_module(Dwfl *dwfl, Dwfl_Module *passed);
+/* The module at a place, 0 for the first one. Gives back the next place; 0 or less at the end, and then no module. */
+ptrdiff_t dwexpr_libdw_next_module(Dwfl *dwfl, ptrdiff_t at, Dwfl_Module **module);
 
 /* Finds the module, the unit and the function of a frame, the same each time. */
 uint32_t dwexpr_libdw_find_place(dwexpr_libdw_frame *frame);
@@ -128,6 +129,11 @@ int dwexpr_libdw_find_symbol(Dwfl_Module *module, Dwarf_Addr address, struct dwe
  * the program, the module's own, or that of the only module which exports it. If `is_its_own`, only if the module
  * exports it. Gives back whether there is one. */
 int dwexpr_libdw_resolve(Dwfl *dwfl, Dwfl_Module *module, int is_its_own, struct dwexpr_libdw_symbol *symbol);
+
+/* The first segment of a type that a module has, and the bias of its address. Gives back whether there is one. */
+int dwexpr_libdw_find_segment(Dwfl_Module *module, unsigned type, GElf_Phdr *segment, Dwarf_Addr *bias);
+/* Whether a module is the program: only its dynamic section has DT_DEBUG, or it has none. */
+int dwexpr_libdw_is_program(Dwfl_Module *module);
 
 /* The name that an entry has for the linker, or else in its source. */
 const char *dwexpr_libdw_linkage_name(Dwarf_Die *entry);

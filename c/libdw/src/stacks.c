@@ -211,7 +211,7 @@ static uint32_t trace_sets(dwexpr_libdw_stack *stack)
     int set;
     for (set = GENERAL; set < SETS && !code; set++) {
         struct iovec part = {bytes, room};
-        if (!ptrace(PTRACE_GETREGSET, stack->thread, (void *)(uintptr_t)dwexpr_libdw_note_types[set], &part))
+        if (!ptrace(PTRACE_GETREGSET, stack->thread, (void *)(uintptr_t)dwexpr_libdw_notes[set].type, &part))
             code = dwexpr_libdw_keep_set(&stack->sets, (enum set)set, bytes, part.iov_len);
     }
     free(bytes);
@@ -263,7 +263,7 @@ static int on_frame(Dwfl_Frame *state, void *given)
     else if (!stack->target->core)
         stack->code = trace_sets(stack);
     if (frame.is_guessed)
-        dwexpr_libdw_keep_error("a frame has no call frame information");
+        dwexpr_libdw_error = "a frame has no call frame information";
     stack->is_cut_off |= frame.is_guessed;
     if (!stack->code)
         stack->code = add_registers(stack, state, &frame);
@@ -286,7 +286,7 @@ uint32_t dwexpr_libdw_unwind(dwexpr_libdw_target *target, pid_t thread, size_t m
     if (target->core)
         found->code = dwexpr_libdw_read_notes(target, thread, &found->sets);
     if (!found->code && dwfl_getthread_frames(target->dwfl, thread, on_frame, found) < 0) {
-        dwexpr_libdw_keep_error(dwfl_errmsg(-1));
+        dwexpr_libdw_error = dwfl_errmsg(-1);
         found->is_cut_off = 1;
     }
     for (i = 0; i < found->frames.length; i++) {

@@ -30,29 +30,20 @@ int dwexpr_libdw_next_entry(struct dwexpr_libdw_walk *walk, int enters)
     return 0;
 }
 
-void dwexpr_libdw_find_path(struct dwexpr_libdw_walk *walk, const Dwarf_Die *first, const Dwarf_Die *entry)
+Dwarf_Die dwexpr_libdw_function_around(const Dwarf_Die *first, const Dwarf_Die *entry)
 {
-    dwexpr_libdw_begin_walk(walk, first);
-    while (!walk->code && dwexpr_libdw_here(walk)->addr != entry->addr) {
-        Dwarf_Die next, below;
+    Dwarf_Die here = *first, next, function = {.addr = NULL}, none = function;
+    while (here.addr && here.addr != entry->addr) {
+        if (dwarf_tag(&here) == DW_TAG_subprogram)
+            function = here;
         /* it stands below the last one that doesn't stand after it */
-        if (dwarf_child(dwexpr_libdw_here(walk), &next) || (const char *)next.addr > (const char *)entry->addr) {
-            walk->path.length = 0;
-            break;
-        }
+        if (dwarf_child(&here, &next) || (const char *)next.addr > (const char *)entry->addr)
+            return none;
         do
-            below = next;
+            here = next;
         while (!dwarf_siblingof(&next, &next) && (const char *)next.addr <= (const char *)entry->addr);
-        walk->code = dwexpr_libdw_add(&walk->path, &below, sizeof below);
     }
-}
-
-Dwarf_Die dwexpr_libdw_innermost_function(struct dwexpr_libdw_walk *walk)
-{
-    Dwarf_Die none = {.addr = NULL};
-    while (walk->path.length && dwarf_tag(dwexpr_libdw_here(walk)) != DW_TAG_subprogram)
-        walk->path.length--;
-    return walk->path.length ? *dwexpr_libdw_here(walk) : none;
+    return function;
 }
 
 /* ---- types */

@@ -13,17 +13,13 @@ enum purpose { FOR_VALUE, FOR_BASE, FOR_CFA };
  * values that go through many callers take no stack. */
 struct job {
     struct job *waits; /* the one that waits for this one's number, or NULL */
+    struct job *asks;  /* the one for which this one has to wait, or NULL */
     enum purpose purpose;
-    dwexpr_libdw_frame *frame;
     Dwarf_Attribute unit; /* its `cu`; nothing else of it is set */
     dwexpr_libdw_value *value;
     dwexpr_answer answer;
-    /* while it waits: the call site in the caller, and the place or the entry of what is passed */
-    Dwarf_Die site;
-    dwexpr_text place;
-    Dwarf_Die entry;     /* `addr` is NULL if it is a place */
-    int waits_for_target; /* it has to know first whether the call site called this function */
-    dwexpr_libdw_frame *between; /* of a function that left by a tail call, or NULL */
+    struct dwexpr_libdw_question question; /* in its frame */
+    uint32_t *left; /* how many more expressions may be evaluated */
     dwexpr_evaluation evaluation;
     uint64_t memory[DWEXPR_EVALUATION_SIZE / 8];
 };
@@ -50,7 +46,7 @@ static uint32_t memory_number(const struct job *job, uint64_t *content)
     const dwexpr_outcome *asked = &job->value->outcome;
     uint8_t bytes[UINT8_MAX] = {0};
     const uint32_t code = asked->flag ? DWEXPR_LIBDW_NOT_READABLE
-                                      : dwexpr_libdw_memory(job->frame, asked->number, bytes, asked->size);
+                                      : dwexpr_libdw_memory(job->question.frame, asked->number, bytes, asked->size);
     *content = dwexpr_libdw_number_of(bytes, asked->size, job->value->encoding.big_endian);
     return code;
 }
@@ -170,7 +166,7 @@ static uint32_t location_of(struct job *job, size_t *index)
     if (entry_of(&job->unit, asked->flag ? DW_OP_call_ref : DW_OP_call4, asked->number, &entry))
         return DWEXPR_LIBDW_FAILED;
     if (dwarf_attr_integrate(&entry, DW_AT_location, &attribute))
-        code = expression_in(job->frame, &attribute, &called);
+        code = expression_in(job->question.frame, &attribute, &called);
     if (code && code != DWEXPR_LIBDW_OPTIMIZED_AWAY)
         return code;
     /* a second call of the same entry is a call of the same text */
@@ -190,7 +186,7 @@ static int relocate(struct job *job, uint64_t *address)
 {
     Dwfl_Module *module;
     Dwarf_Addr bias = 0;
-    const int failed = dwexpr_libdw_find_module(job->frame, job->unit.cu, &module, &bias);
+    const int failed = dwexpr_libdw_find_module(job->question.frame, job->unit.cu, &module, &bias);
     *address += bias;
     return failed;
 }
@@ -206,8 +202,8 @@ static int thread_local_address(struct job *job, uint64_t *address)
 {
     Dwfl_Module *module;
     Dwarf_Addr bias;
-    return dwexpr_libdw_find_module(job->frame, job->unit.cu, &module, &bias) ||
-           find_tls(job->frame, module, job->value->outcome.number, address);
+    return dwexpr_libdw_find_module(job->question.frame, job->unit.cu, &module, &bias) ||
+           find_tls(job->question.frame, module, job->value->outcome.number, address);
 }
 
 static int indexed_address(struct job *job, uint64_t *address)
@@ -270,7 +266,7 @@ static void end_job(struct job *job)
 {
     if (job) {
         dwexpr_libdw_release(job->value);
-        free(job->between);
+        free(job->question.between);
     }
     free(job);
 }
@@ -292,7 +288,9 @@ static uint32_t make_job(enum purpose purpose, dwexpr_libdw_frame *frame, const 
         return DWEXPR_LIBDW_NO_MEMORY;
     }
     job->purpose = purpose;
-    job->frame = frame;
+    job->left = left;
+    job->question.frame = frame;
+    job->question.encoding = expression->encoding;
     job->unit.cu = expression->unit;
     job->value->unit = expression->unit;
     job->value->frame = frame;
@@ -316,7 +314,7 @@ static uint32_t start(struct job *job, const struct dwexpr_libdw_given *given)
     if (!value->texts[0].length)
         return DWEXPR_LIBDW_OPTIMIZED_AWAY;
     /* it has the bias of addresses */
-    dwexpr_libdw_find_place(job->frame);
+    dwexpr_libdw_find_place(job->question.frame);
     return dwexpr_evaluation_evaluate(&job->evaluation, value->texts, 1, value->encoding, &settings, &value->outcome,
                                       value->pieces, DWEXPR_MAX_PIECES);
 }
@@ -338,78 +336,33 @@ static uint32_t refused(const struct job *job, uint32_t why)
 
 /* ---- values on entry */
 
-/* Makes the job that evaluates an attribute in the caller. The first job waits for its number. */
-static uint32_t ask_caller(struct job *job, Dwarf_Attribute *attribute, uint32_t *left, struct job **next)
+/* Makes the job that evaluates an attribute for a question, unless a code says that there is none. The first job waits
+ * for its number. */
+static uint32_t ask_caller(struct job *job, uint32_t code, Dwarf_Attribute *attribute)
 {
-    dwexpr_libdw_frame *caller = job->between ? job->between : job->frame->source.caller;
-    dwexpr_libdw_text expression;
-    uint32_t code = expression_in(caller, attribute, &expression);
+    dwexpr_libdw_frame *frame = job->question.between ? job->question.between : job->question.frame->source.caller;
+    dwexpr_libdw_text expression = {.memory = NULL};
     if (!code)
-        code = make_job(FOR_VALUE, caller, &expression, left, next);
+        code = expression_in(frame, attribute, &expression);
+    if (!code)
+        code = make_job(FOR_VALUE, frame, &expression, job->left, &job->asks);
     if (code) {
         dwexpr_libdw_free_text(&expression);
         return refused(job, code);
     }
-    dwexpr_libdw_keep(&expression, &(*next)->value->memory);
-    (*next)->waits = job;
+    dwexpr_libdw_keep(&expression, &job->asks->value->memory);
+    job->asks->waits = job;
     return 0;
 }
 
-static uint32_t ask_passed(struct job *job, uint32_t *left, struct job **next)
-{
-    Dwarf_Attribute attribute;
-    if (!dwexpr_libdw_passed(&job->site, job->place, job->value->encoding, job->entry.addr ? &job->entry : NULL,
-                             &attribute))
-        return refused(job, 0);
-    return ask_caller(job, &attribute, left, next);
-}
-
-/* The caller called another function, at `address`, which then left for this one by a tail call. Asks for what that
- * function passed. Its own values are those that it had on entry. */
-static uint32_t ask_between(struct job *job, uint64_t address, uint32_t *left, struct job **next)
-{
-    job->between = (dwexpr_libdw_frame *)malloc(sizeof *job->between);
-    if (!job->between)
-        return DWEXPR_LIBDW_NO_MEMORY;
-    if (!dwexpr_libdw_enter(job->frame->source.caller, address, job->between))
-        return refused(job, 0);
-    job->between->source.caller = job->frame->source.caller;
-    if (!dwexpr_libdw_find_tail_call(job->between, job->frame, &job->site))
-        return refused(job, 0);
-    return ask_passed(job, left, next);
-}
-
-/* Asks for what the caller passed. If its call site computes the function's address, that is asked for first. */
-static uint32_t ask_call_site(struct job *job, uint32_t *left, struct job **next)
-{
-    Dwarf_Attribute attribute;
-    uint64_t address;
-    int is_named;
-    free(job->between);
-    job->between = NULL;
-    if (!dwexpr_libdw_find_call_site(job->frame, &job->site) || dwexpr_libdw_may_call_itself(job->frame))
-        return refused(job, 0);
-    is_named = dwexpr_libdw_names(&job->site, job->frame->source.caller, job->frame, &address);
-    if (is_named > 0)
-        return ask_passed(job, left, next);
-    if (is_named == 0)
-        return ask_between(job, address, left, next);
-    if (!dwexpr_libdw_call_target(&job->site, &attribute))
-        return refused(job, 0);
-    job->waits_for_target = 1;
-    return ask_caller(job, &attribute, left, next);
-}
-
 /* Goes on with a job that has waited for this number. */
-static uint32_t take(struct job *job, uint64_t number, uint32_t *left, struct job **next)
+static uint32_t take(struct job *job, uint64_t number)
 {
-    if (!job->waits_for_target) {
-        job->answer.number = number;
-        return resume(job);
-    }
-    job->waits_for_target = 0;
-    return dwexpr_libdw_entry_of(job->frame) == number ? ask_passed(job, left, next)
-                                                       : ask_between(job, number, left, next);
+    Dwarf_Attribute attribute;
+    if (job->question.waits_for_target)
+        return ask_caller(job, dwexpr_libdw_ask_target(&job->question, number, &attribute), &attribute);
+    job->answer.number = number;
+    return resume(job);
 }
 
 /* ---- requests */
@@ -432,9 +385,10 @@ static const struct {
 };
 
 /* Answers what a job asks for and goes on with it, or makes the job for which it has to wait. */
-static uint32_t answer(struct job *job, uint32_t *left, struct job **next)
+static uint32_t answer(struct job *job)
 {
     const dwexpr_outcome *asked = &job->value->outcome;
+    Dwarf_Attribute attribute;
     dwexpr_answer *answer = &job->answer;
     int failed = 0;
     uint32_t why = 0;
@@ -448,15 +402,15 @@ static uint32_t answer(struct job *job, uint32_t *left, struct job **next)
     switch (asked->request) {
     case DWEXPR_WANTS_MEMORY: why = memory_number(job, &answer->number); break;
     case DWEXPR_WANTS_REGISTER:
-        why = register_number(job->frame, asked->register_number, job->value->encoding.big_endian, &answer->number);
+        why = register_number(job->question.frame, asked->register_number, job->value->encoding.big_endian, &answer->number);
         break;
     case DWEXPR_WANTS_FRAME_BASE:
-        why = find_base(job->frame, left);
-        answer->number = job->frame->base;
+        why = find_base(job->question.frame, job->left);
+        answer->number = job->question.frame->base;
         break;
     case DWEXPR_WANTS_CFA:
-        why = find_cfa(job->frame, left);
-        answer->number = job->frame->cfa;
+        why = find_cfa(job->question.frame, job->left);
+        answer->number = job->question.frame->cfa;
         break;
     case DWEXPR_WANTS_TLS: failed = thread_local_address(job, &answer->number); break;
     case DWEXPR_WANTS_LOCATION: why = location_of(job, &answer->text); break;
@@ -466,40 +420,41 @@ static uint32_t answer(struct job *job, uint32_t *left, struct job **next)
         break;
     case DWEXPR_WANTS_INDEXED: failed = indexed_address(job, &answer->number); break;
     case DWEXPR_WANTS_ENTRY_VALUE:
-        job->place = dwexpr_outcome_block(asked, job->value->texts, job->value->texts_length);
-        job->entry.addr = NULL;
-        return ask_call_site(job, left, next);
+        job->question.place = dwexpr_outcome_block(asked, job->value->texts, job->value->texts_length);
+        job->question.entry.addr = NULL;
+        return ask_caller(job, dwexpr_libdw_ask(&job->question, &attribute), &attribute);
     case DWEXPR_WANTS_PARAMETER:
-        failed = entry_of(&job->unit, DW_OP_GNU_parameter_ref, asked->number, &job->entry);
-        return failed ? refused(job, 0) : ask_call_site(job, left, next);
+        failed = entry_of(&job->unit, DW_OP_GNU_parameter_ref, asked->number, &job->question.entry);
+        return failed ? refused(job, 0)
+                      : ask_caller(job, dwexpr_libdw_ask(&job->question, &attribute), &attribute);
     default: break; /* a base type */
     }
     return failed || why ? refused(job, why) : resume(job);
 }
 
 /* Evaluates the first job, and all for which it waits. */
-static uint32_t run(struct job *first, const struct dwexpr_libdw_given *given, uint32_t *left)
+static uint32_t run(struct job *first, const struct dwexpr_libdw_given *given)
 {
     static const struct dwexpr_libdw_given nothing = {NULL, NULL, NULL, 0};
     struct job *job = first;
     uint32_t code = start(first, given);
     for (;;) {
-        struct job *next = NULL;
         if (!code && job->value->outcome.request != DWEXPR_COMPLETE) {
-            code = answer(job, left, &next);
+            code = answer(job);
         } else if (job == first) {
             return code;
         } else {
             struct job *waits = job->waits;
             uint64_t number = 0;
             if (!code)
-                code = number_of_value(job->frame, job->value, &number);
+                code = number_of_value(job->question.frame, job->value, &number);
             end_job(job);
             job = waits;
-            code = code ? refused(job, code) : take(job, number, left, &next);
+            job->asks = NULL;
+            code = code ? refused(job, code) : take(job, number);
         }
-        if (next) {
-            job = next;
+        if (job->asks) {
+            job = job->asks;
             code = start(job, &nothing);
         }
     }
@@ -513,7 +468,7 @@ static uint32_t evaluate_for(enum purpose purpose, const struct dwexpr_libdw_giv
     *value = NULL;
     if (code)
         return code;
-    code = run(job, given, left);
+    code = run(job, given);
     *value = job->value;
     job->value = NULL;
     end_job(job);
@@ -581,46 +536,18 @@ static dwexpr_libdw_frame *enclosing_frame(dwexpr_libdw_frame *inner, const Dwar
     return count == 1 ? found : NULL;
 }
 
-/* Finds the frame of a function that encloses the frame's, through all that stand between them. */
-static uint32_t go_out(dwexpr_libdw_frame *frame, const Dwarf_Die *function, dwexpr_libdw_frame **owner)
-{
-    struct dwexpr_libdw_walk walk;
-    dwexpr_libdw_find_path(&walk, &frame->place.unit, &frame->place.function);
-    while (frame && frame->place.function.addr != function->addr && walk.path.length > 1) {
-        walk.path.length--;
-        if (dwarf_tag(dwexpr_libdw_here(&walk)) == DW_TAG_subprogram)
-            frame = enclosing_frame(frame, dwexpr_libdw_here(&walk));
-    }
-    free(walk.path.items);
-    *owner = frame;
-    if (walk.code)
-        return walk.code;
-    return frame && frame->place.function.addr == function->addr ? 0 : DWEXPR_LIBDW_OTHER_FUNCTION;
-}
-
-/* The innermost function in which an entry stands; its `addr` is NULL if there is none. */
-static uint32_t function_of(const Dwarf_Die *first, const Dwarf_Die *entry, Dwarf_Die *function)
-{
-    struct dwexpr_libdw_walk walk;
-    dwexpr_libdw_find_path(&walk, first, entry);
-    *function = dwexpr_libdw_innermost_function(&walk);
-    free(walk.path.items);
-    return walk.code;
-}
-
-/* The frame in which a variable's location is evaluated: that of the function in which it stands. */
+/* The frame in which a variable's location is evaluated: that of the function in which it stands, through all that stand
+ * between them. */
 static uint32_t find_owner(dwexpr_libdw_frame *frame, Dwarf_Die *variable, dwexpr_libdw_frame **owner)
 {
-    Dwarf_Die unit, function = {.addr = NULL}, *own = &frame->place.function;
-    uint32_t code = 0;
+    Dwarf_Die unit, outer, function = dwexpr_libdw_function_around(&frame->place.function, variable);
+    if (!function.addr)
+        function = dwexpr_libdw_function_around(dwarf_diecu(variable, &unit, NULL, NULL), variable);
+    for (; frame && function.addr && frame->place.function.addr != function.addr;
+         frame = outer.addr ? enclosing_frame(frame, &outer) : NULL)
+        outer = dwexpr_libdw_function_around(&frame->place.unit, &frame->place.function);
     *owner = frame;
-    if (own->addr && own->cu == variable->cu)
-        code = function_of(own, variable, &function);
-    if (!code && !function.addr)
-        code = function_of(dwarf_diecu(variable, &unit, NULL, NULL), variable, &function);
-    if (code || !function.addr || function.addr == own->addr)
-        return code;
-    return own->addr ? go_out(frame, &function, owner) : DWEXPR_LIBDW_OTHER_FUNCTION;
+    return frame ? 0 : DWEXPR_LIBDW_OTHER_FUNCTION;
 }
 
 /* Whether a location is the same in each frame. */

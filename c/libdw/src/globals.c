@@ -1,37 +1,64 @@
 /* What is looked for by its name: variables of modules, symbols, and the definitions of what is only declared. */
 #include "private.h"
 
-/* Looks at a unit. Gives back whether the search ends there. */
-typedef int unit_search(Dwarf_Die *unit, void *given);
+/* A search through units. */
+struct search {
+    /* looks at the entry where a walk is, and gives back whether to look at its children too */
+    int (*visit)(struct search *search, const struct dwexpr_libdw_walk *walk);
+    const char *name;              /* of a variable; NULL for all */
+    struct dwexpr_libdw_walk type; /* the path to a declaration of a type */
+    struct dwexpr_libdw_list found;
+    int ends;
+    uint32_t code;
+};
 
-static int search_module(Dwfl_Module *module, const void *passed, unit_search *on_unit, void *given)
+static void add_found(struct search *search, const Dwarf_Die *entry)
+{
+    search->code = dwexpr_libdw_add(&search->found, entry, sizeof *entry);
+    search->ends |= search->code != 0;
+}
+
+static void search_unit(struct search *search, const Dwarf_Die *unit)
+{
+    struct dwexpr_libdw_walk walk;
+    int enters = 1;
+    dwexpr_libdw_begin_walk(&walk, unit);
+    while (!search->ends && dwexpr_libdw_next_entry(&walk, enters))
+        enters = search->visit(search, &walk);
+    free(walk.path.items);
+    if (walk.code)
+        search->code = walk.code;
+    search->ends |= walk.code != 0;
+}
+
+static void search_module(struct search *search, Dwfl_Module *module, const void *passed)
 {
     Dwarf_Die *unit = NULL;
     Dwarf_Addr bias;
-    while ((unit = dwfl_module_nextcu(module, unit, &bias)) != NULL) {
-        Dwarf_Die entries = dwexpr_libdw_entries(unit);
-        if (entries.addr != passed && on_unit(&entries, given))
-            return 1;
+    while (!search->ends && (unit = dwfl_module_nextcu(module, unit, &bias)) != NULL) {
+        const Dwarf_Die entries = dwexpr_libdw_entries(unit);
+        if (entries.addr != passed)
+            search_unit(search, &entries);
     }
-    return 0;
 }
 
 /* Searches the units of a module; or of all if that is NULL, the frame's unit first, and then its module. */
-static void search_units(dwexpr_libdw_frame *frame, Dwfl_Module *module, unit_search *on_unit, void *given)
+static void search_units(struct search *search, dwexpr_libdw_frame *frame, Dwfl_Module *module)
 {
-    Dwarf_Die *first = &frame->place.unit;
+    const Dwarf_Die *first = &frame->place.unit;
     ptrdiff_t at = 0;
-    int ends;
     dwexpr_libdw_find_place(frame);
     if (module) {
-        search_module(module, NULL, on_unit, given);
+        search_module(search, module, NULL);
         return;
     }
-    ends = first->addr && on_unit(first, given);
-    if (!ends && frame->place.module)
-        ends = search_module(frame->place.module, first->addr, on_unit, given);
-    while (!ends && (at = dwexpr_libdw_next_module(frame->source.dwfl, at, &module)) > 0)
-        ends = module != frame->place.module && search_module(module, first->addr, on_unit, given);
+    if (first->addr)
+        search_unit(search, first);
+    if (frame->place.module)
+        search_module(search, frame->place.module, first->addr);
+    while (!search->ends && (at = dwexpr_libdw_next_module(frame->source.dwfl, at, &module)) > 0)
+        if (module != frame->place.module)
+            search_module(search, module, first->addr);
 }
 
 const char *dwexpr_libdw_linkage_name(Dwarf_Die *entry)
@@ -51,54 +78,27 @@ static int has_name(Dwarf_Die *entry, const char *name)
 
 /* ---- variables of modules */
 
-struct globals {
-    const char *name;
-    struct dwexpr_libdw_list found;
-    uint32_t code;
-};
-
-static int is_global(Dwarf_Die *entry, const char *name)
-{
-    const int tag = dwarf_tag(entry);
-    return (tag == DW_TAG_constant || (tag == DW_TAG_variable && !dwarf_hasattr(entry, DW_AT_declaration))) &&
-           (!name || has_name(entry, name));
-}
-
 /* Adds what stands in a unit, its namespaces, modules and common blocks. */
-static int add_globals(Dwarf_Die *unit, void *given)
+static int visit_global(struct search *search, const struct dwexpr_libdw_walk *walk)
 {
-    struct globals *globals = (struct globals *)given;
-    struct dwexpr_libdw_walk walk;
-    int enters = 1;
-    dwexpr_libdw_begin_walk(&walk, unit);
-    while (!globals->code && dwexpr_libdw_next_entry(&walk, enters)) {
-        Dwarf_Die *entry = dwexpr_libdw_here(&walk);
-        const int tag = dwarf_tag(entry);
-        enters = tag == DW_TAG_namespace || tag == DW_TAG_module;
-        if (is_global(entry, globals->name))
-            globals->code = dwexpr_libdw_add(&globals->found, entry, sizeof *entry);
-    }
-    free(walk.path.items);
-    globals->code = globals->code ? globals->code : walk.code;
-    return globals->code != 0;
+    Dwarf_Die *entry = dwexpr_libdw_here(walk);
+    const int tag = dwarf_tag(entry);
+    if ((tag == DW_TAG_constant || (tag == DW_TAG_variable && !dwarf_hasattr(entry, DW_AT_declaration))) &&
+        (!search->name || has_name(entry, search->name)))
+        add_found(search, entry);
+    return tag == DW_TAG_namespace || tag == DW_TAG_module;
 }
 
 uint32_t dwexpr_libdw_globals(dwexpr_libdw_frame *frame, Dwfl_Module *module, const char *name, Dwarf_Die **globals,
                               size_t *count)
 {
-    struct globals search = {.name = name};
-    search_units(frame, module, add_globals, &search);
+    struct search search = {.visit = visit_global, .name = name};
+    search_units(&search, frame, module);
     *globals = dwexpr_libdw_give(search.code, &search.found, count);
     return search.code;
 }
 
 /* ---- types that are only declared */
-
-struct definition {
-    struct dwexpr_libdw_walk declared; /* the path to the declaration */
-    Dwarf_Die found;
-    uint32_t code;
-};
 
 static int is_class(int tag)
 {
@@ -113,37 +113,40 @@ static int is_same(Dwarf_Die *first, Dwarf_Die *second)
     return (tag == other || (is_class(tag) && is_class(other))) && name && wanted && !strcmp(name, wanted);
 }
 
-/* Looks for a definition in a unit, in namespaces and classes of the same names. */
-static int find_definition(Dwarf_Die *unit, void *given)
+/* Looks for a definition in namespaces and classes of the same names. */
+static int visit_type(struct search *search, const struct dwexpr_libdw_walk *walk)
 {
-    struct definition *definition = (struct definition *)given;
-    const struct dwexpr_libdw_list *declared = &definition->declared.path;
-    struct dwexpr_libdw_walk walk;
-    int enters = 1;
-    dwexpr_libdw_begin_walk(&walk, unit);
-    while (!definition->found.addr && dwexpr_libdw_next_entry(&walk, enters)) {
-        Dwarf_Die *entry = dwexpr_libdw_here(&walk);
-        const int same = is_same(entry, (Dwarf_Die *)declared->items + walk.path.length - 1);
-        enters = same && walk.path.length < declared->length;
-        if (same && !enters && !dwarf_hasattr(entry, DW_AT_declaration))
-            definition->found = *entry;
+    const size_t depth = walk->path.length, wanted = search->type.path.length;
+    Dwarf_Die *entry = dwexpr_libdw_here(walk);
+    const int same = depth <= wanted && is_same(entry, (Dwarf_Die *)search->type.path.items + depth - 1);
+    if (same && depth == wanted && !dwarf_hasattr(entry, DW_AT_declaration)) {
+        search->ends = 1;
+        add_found(search, entry);
     }
-    free(walk.path.items);
-    definition->code = walk.code;
-    return walk.code || definition->found.addr;
+    return same && depth < wanted;
 }
 
 uint32_t dwexpr_libdw_definition(dwexpr_libdw_frame *frame, Dwarf_Die *type, Dwarf_Die *definition)
 {
-    struct definition search = {.found = {.addr = NULL}};
-    Dwarf_Die unit;
-    dwexpr_libdw_find_path(&search.declared, dwarf_diecu(type, &unit, NULL, NULL), type);
-    search.code = search.declared.code;
-    if (!search.code && search.declared.path.length > 1 && !find_definition(&unit, &search))
-        search_units(frame, NULL, find_definition, &search);
-    free(search.declared.path.items);
-    *definition = search.found;
-    return search.code ? search.code : search.found.addr ? 0 : DWEXPR_LIBDW_NOT_DEFINED;
+    struct search search = {.visit = visit_type};
+    Dwarf_Die unit, *found;
+    size_t count;
+    dwarf_diecu(type, &unit, NULL, NULL);
+    dwexpr_libdw_begin_walk(&search.type, &unit);
+    while (!search.type.code && dwexpr_libdw_here(&search.type)->addr != type->addr &&
+           dwexpr_libdw_next_entry(&search.type, 1))
+        ;
+    search.code = search.type.code;
+    if (!search.code)
+        search_unit(&search, &unit);
+    if (!search.ends && !search.code)
+        search_units(&search, frame, NULL);
+    found = dwexpr_libdw_give(search.code, &search.found, &count);
+    if (count)
+        *definition = *found;
+    free(found);
+    free(search.type.path.items);
+    return search.code ? search.code : count ? 0 : DWEXPR_LIBDW_NOT_DEFINED;
 }
 
 /* ---- symbols */

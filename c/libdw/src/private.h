@@ -65,10 +65,8 @@ void dwexpr_libdw_begin_walk(struct dwexpr_libdw_walk *walk, const Dwarf_Die *fi
 Dwarf_Die *dwexpr_libdw_here(const struct dwexpr_libdw_walk *walk);
 /* Goes to the next entry, into the children if `enters`. Gives back whether there is one. */
 int dwexpr_libdw_next_entry(struct dwexpr_libdw_walk *walk, int enters);
-/* Walks straight down to an entry, so that the path has the entry's parents; it is empty if the entry isn't there. */
-void dwexpr_libdw_find_path(struct dwexpr_libdw_walk *walk, const Dwarf_Die *first, const Dwarf_Die *entry);
-/* Goes up to the innermost function of the path. Its `addr` is NULL if there is none. */
-Dwarf_Die dwexpr_libdw_innermost_function(struct dwexpr_libdw_walk *walk);
+/* The innermost function in which an entry stands, of `first` and what is in it. Its `addr` is NULL if there is none. */
+Dwarf_Die dwexpr_libdw_function_around(const Dwarf_Die *first, const Dwarf_Die *entry);
 
 /* The bytes of a number and its encoding, as a type says them, or that of which it is a range. Gives back 0 if both are
  * known. */
@@ -140,24 +138,23 @@ const char *dwexpr_libdw_linkage_name(Dwarf_Die *entry);
 
 /* ---- calls.c */
 
-/* The call site that led to a frame, which is in its caller. Gives back whether there is one. */
-int dwexpr_libdw_find_call_site(dwexpr_libdw_frame *frame, Dwarf_Die *site);
-/* The attribute of the address that a call site computes. */
-int dwexpr_libdw_call_target(Dwarf_Die *site, Dwarf_Attribute *target);
-/* Whether a call site in `caller` names the function of a frame: 1; 0 if it names another one, whose address is 0 if
- * it isn't known; or -1 if it computes an address. */
-int dwexpr_libdw_names(Dwarf_Die *site, const dwexpr_libdw_frame *caller, const dwexpr_libdw_frame *called,
-                       uint64_t *address);
-/* A frame of the function at an address that the caller called, and that isn't there any more: none of its registers is
- * known. Gives back whether a function begins there. */
-int dwexpr_libdw_enter(const dwexpr_libdw_frame *caller, uint64_t address, dwexpr_libdw_frame *entered);
-/* The tail call by which a function left for that of a frame. Gives back whether there is one, and no other. */
-int dwexpr_libdw_find_tail_call(const dwexpr_libdw_frame *between, const dwexpr_libdw_frame *called, Dwarf_Die *site);
-/* Whether the function of a frame may have called itself by tail calls: then its caller's call site tells nothing. */
-int dwexpr_libdw_may_call_itself(dwexpr_libdw_frame *frame);
-/* The attribute of the value that a call site passes at a place, or in a parameter's entry if that isn't NULL. */
-int dwexpr_libdw_passed(Dwarf_Die *site, dwexpr_text place, dwexpr_encoding encoding, const Dwarf_Die *entry,
-                        Dwarf_Attribute *value);
+/* A question for what the caller passed to a frame's function. */
+struct dwexpr_libdw_question {
+    dwexpr_libdw_frame *frame;
+    Dwarf_Die entry;          /* the parameter for which it was passed; or its `addr` is NULL, */
+    dwexpr_text place;        /* and it was passed in this place, on entry of the function */
+    dwexpr_encoding encoding;
+    /* what is found: the call site, and the frame of a function that left by a tail call, or NULL */
+    Dwarf_Die site;
+    dwexpr_libdw_frame *between; /* to be freed */
+    int waits_for_target; /* whether the call site called this function has to be known first */
+};
+
+/* Finds the attribute whose number, in the frame between or else in the caller, is the answer: or what the call site
+ * called, if it `waits_for_target`. Answers 0, DWEXPR_LIBDW_NO_MEMORY or DWEXPR_LIBDW_NO_NUMBER. */
+uint32_t dwexpr_libdw_ask(struct dwexpr_libdw_question *question, Dwarf_Attribute *value);
+/* Goes on if that is known. Answers likewise. */
+uint32_t dwexpr_libdw_ask_target(struct dwexpr_libdw_question *question, uint64_t address, Dwarf_Attribute *value);
 
 #pragma GCC visibility pop
 

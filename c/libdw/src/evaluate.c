@@ -26,8 +26,6 @@ struct job {
 
 static uint32_t evaluate_for(enum purpose purpose, const struct dwexpr_libdw_given *given,
                              const dwexpr_libdw_text *expression, uint32_t *left, dwexpr_libdw_value **value);
-static uint32_t attribute_number(enum purpose purpose, const struct dwexpr_libdw_given *given,
-                                 Dwarf_Attribute *attribute, uint32_t *left, uint64_t *number);
 
 /* ---- answers from the frame */
 
@@ -48,42 +46,6 @@ static uint32_t memory_number(const struct job *job, uint64_t *content)
     const uint32_t code = asked->flag ? DWEXPR_LIBDW_NOT_READABLE
                                       : dwexpr_libdw_memory(job->question.frame, asked->number, bytes, asked->size);
     *content = dwexpr_libdw_number_of(bytes, asked->size, job->value->encoding.big_endian);
-    return code;
-}
-
-static uint32_t find_base(dwexpr_libdw_frame *frame, uint32_t *left)
-{
-    const struct dwexpr_libdw_given given = {frame, NULL, NULL, 0};
-    Dwarf_Attribute attribute;
-    uint32_t code;
-    if (frame->has_base)
-        return 0;
-    dwexpr_libdw_find_place(frame);
-    if (!frame->place.function.addr ||
-        !dwarf_attr_integrate(&frame->place.function, DW_AT_frame_base, &attribute))
-        return DWEXPR_LIBDW_OPTIMIZED_AWAY;
-    code = attribute_number(FOR_BASE, &given, &attribute, left, &frame->base);
-    frame->has_base = !code;
-    return code;
-}
-
-/* The rule of a register, or of the CFA, at the frame's address. Answers DWEXPR_LIBDW_NO_UNIT if there is none. */
-static uint32_t find_rule(dwexpr_libdw_frame *frame, int number, dwexpr_libdw_text *rule)
-{
-    uint32_t code = DWEXPR_LIBDW_NO_UNIT;
-    int i;
-    memset(rule, 0, sizeof *rule);
-    for (i = 0; i < 2; i++) {
-        Dwarf_Frame *state;
-        Elf *elf;
-        if (dwexpr_libdw_find_state(frame, i, &state, &elf))
-            continue;
-        dwexpr_libdw_free_text(rule);
-        code = dwexpr_libdw_rule(state, elf, number, rule);
-        free(state);
-        if (!code || code == DWEXPR_LIBDW_SAME_VALUE || code == DWEXPR_LIBDW_OPTIMIZED_AWAY)
-            break;
-    }
     return code;
 }
 
@@ -111,14 +73,60 @@ static uint32_t expression_number(enum purpose purpose, const struct dwexpr_libd
     return code;
 }
 
+/* The expression of an attribute at a frame's address, in the addresses of the attribute's module. */
+static uint32_t expression_in(dwexpr_libdw_frame *frame, Dwarf_Attribute *attribute, dwexpr_libdw_text *expression)
+{
+    Dwfl_Module *module;
+    Dwarf_Addr bias;
+    Dwarf_Block block;
+    memset(expression, 0, sizeof *expression);
+    /* a list has addresses of its module */
+    if (dwexpr_libdw_find_module(frame, attribute->cu, &module, &bias) && dwarf_formblock(attribute, &block))
+        return DWEXPR_LIBDW_WANTS + DWEXPR_WANTS_RELOCATED;
+    return dwexpr_libdw_expression(attribute, frame->place.address + frame->place.bias - bias, expression);
+}
+
+/* The number that an attribute's expression comes to. */
+static uint32_t attribute_number(enum purpose purpose, const struct dwexpr_libdw_given *given,
+                                 Dwarf_Attribute *attribute, uint32_t *left, uint64_t *number)
+{
+    dwexpr_libdw_text expression;
+    uint32_t code = expression_in(given->frame, attribute, &expression);
+    if (!code)
+        code = expression_number(purpose, given, &expression, left, number);
+    dwexpr_libdw_free_text(&expression);
+    return code;
+}
+
+static uint32_t find_base(dwexpr_libdw_frame *frame, uint32_t *left)
+{
+    const struct dwexpr_libdw_given given = {frame, NULL, NULL, 0};
+    Dwarf_Attribute attribute;
+    uint32_t code;
+    if (frame->has_base)
+        return 0;
+    dwexpr_libdw_find_place(frame);
+    if (!frame->place.function.addr ||
+        !dwarf_attr_integrate(&frame->place.function, DW_AT_frame_base, &attribute))
+        return DWEXPR_LIBDW_OPTIMIZED_AWAY;
+    code = attribute_number(FOR_BASE, &given, &attribute, left, &frame->base);
+    frame->has_base = !code;
+    return code;
+}
+
 static uint32_t find_cfa(dwexpr_libdw_frame *frame, uint32_t *left)
 {
     const struct dwexpr_libdw_given given = {frame, NULL, NULL, 0};
+    Dwarf_Frame *state;
+    Elf *elf;
     dwexpr_libdw_text rule;
     uint32_t code;
     if (frame->has_cfa)
         return 0;
-    code = find_rule(frame, DWEXPR_LIBDW_CFA, &rule);
+    if (dwexpr_libdw_find_state(frame, &state, &elf))
+        return DWEXPR_LIBDW_NO_UNIT;
+    code = dwexpr_libdw_rule(state, elf, DWEXPR_LIBDW_CFA, &rule);
+    free(state);
     if (!code)
         code = expression_number(FOR_CFA, &given, &rule, left, &frame->cfa);
     frame->has_cfa = !code;
@@ -133,19 +141,6 @@ static int entry_of(Dwarf_Attribute *unit, uint8_t opcode, uint64_t offset, Dwar
 {
     Dwarf_Op operation = {opcode, offset, 0, 0};
     return !unit->cu || dwarf_getlocation_die(unit, &operation, entry);
-}
-
-/* The expression of an attribute at a frame's address, in the addresses of the attribute's module. */
-static uint32_t expression_in(dwexpr_libdw_frame *frame, Dwarf_Attribute *attribute, dwexpr_libdw_text *expression)
-{
-    Dwfl_Module *module;
-    Dwarf_Addr bias;
-    Dwarf_Block block;
-    memset(expression, 0, sizeof *expression);
-    /* a list has addresses of its module */
-    if (dwexpr_libdw_find_module(frame, attribute->cu, &module, &bias) && dwarf_formblock(attribute, &block))
-        return DWEXPR_LIBDW_WANTS + DWEXPR_WANTS_RELOCATED;
-    return dwexpr_libdw_expression(attribute, frame->place.address + frame->place.bias - bias, expression);
 }
 
 static int has_bytes(dwexpr_text text, const uint8_t *bytes, size_t length)
@@ -475,18 +470,6 @@ static uint32_t evaluate_for(enum purpose purpose, const struct dwexpr_libdw_giv
     return code;
 }
 
-/* The number that an attribute's expression comes to. */
-static uint32_t attribute_number(enum purpose purpose, const struct dwexpr_libdw_given *given,
-                                 Dwarf_Attribute *attribute, uint32_t *left, uint64_t *number)
-{
-    dwexpr_libdw_text expression;
-    uint32_t code = expression_in(given->frame, attribute, &expression);
-    if (!code)
-        code = expression_number(purpose, given, &expression, left, number);
-    dwexpr_libdw_free_text(&expression);
-    return code;
-}
-
 /* ---- calls */
 
 void dwexpr_libdw_release(dwexpr_libdw_value *value)
@@ -591,24 +574,18 @@ static void hold_bytes(dwexpr_libdw_value *value, const uint8_t *bytes, size_t l
 }
 
 /* Makes the one piece of a value a number, of more than 64 bits if its type has more. */
-static uint32_t hold_number(dwexpr_libdw_frame *frame, Dwarf_Die *variable, Dwarf_Attribute *attribute, uint64_t number,
-                            dwexpr_libdw_value *value)
+static uint32_t hold_number(Dwarf_Die *variable, Dwarf_Attribute *attribute, uint64_t number, dwexpr_libdw_value *value)
 {
     const unsigned form = dwarf_whatform(attribute);
     const int big_endian = value->encoding.big_endian;
-    Dwarf_Attribute encoding;
     Dwarf_Die type;
-    Dwarf_Word kind = 0;
-    uint64_t size = 0;
+    Dwarf_Word size, kind;
     uint8_t *bytes;
-    if (!dwexpr_libdw_type(variable, &type)) {
-        dwexpr_libdw_size(frame, &type, NULL, &size);
-        dwarf_formudata(dwarf_attr_integrate(&type, DW_AT_encoding, &encoding), &kind);
-    }
     value->pieces[0].kind = DWEXPR_HOLDS_VALUE;
     value->pieces[0].value_type = DWEXPR_U64;
     value->pieces[0].number = number;
-    if (size <= 8 || size > DWEXPR_LIBDW_REGISTER_SIZE)
+    if (dwexpr_libdw_type(variable, &type) || dwexpr_libdw_scalar(&type, &size, &kind) || size <= 8 ||
+        size > DWEXPR_LIBDW_REGISTER_SIZE)
         return 0;
     bytes = dwexpr_libdw_take(&value->memory, (size_t)size);
     if (!bytes)
@@ -621,8 +598,7 @@ static uint32_t hold_number(dwexpr_libdw_frame *frame, Dwarf_Die *variable, Dwar
 }
 
 /* The value of DW_AT_const_value. */
-static uint32_t constant(dwexpr_libdw_frame *frame, Dwarf_Die *variable, Dwarf_Attribute *attribute,
-                         dwexpr_libdw_value *value)
+static uint32_t constant(Dwarf_Die *variable, Dwarf_Attribute *attribute, dwexpr_libdw_value *value)
 {
     const char *string;
     Dwarf_Block block;
@@ -632,7 +608,7 @@ static uint32_t constant(dwexpr_libdw_frame *frame, Dwarf_Die *variable, Dwarf_A
         return 0;
     }
     if (!dwarf_formudata(attribute, &number))
-        return hold_number(frame, variable, attribute, number, value);
+        return hold_number(variable, attribute, number, value);
     string = dwarf_formstring(attribute);
     if (!string)
         return DWEXPR_LIBDW_FAILED;
@@ -685,7 +661,7 @@ uint32_t dwexpr_libdw_variable(dwexpr_libdw_frame *frame, Dwarf_Die *variable, d
         return code;
     if (dwarf_attr_integrate(variable, DW_AT_const_value, &attribute)) {
         code = make_value(frame, attribute.cu, 0, value);
-        return code ? code : constant(frame, variable, &attribute, *value);
+        return code ? code : constant(variable, &attribute, *value);
     }
     if (!dwarf_attr_integrate(variable, DW_AT_location, &attribute))
         return dwarf_hasattr(variable, DW_AT_declaration) ? named(frame, variable, 1, value)
@@ -709,32 +685,30 @@ uint32_t dwexpr_libdw_variable(dwexpr_libdw_frame *frame, Dwarf_Die *variable, d
 uint32_t dwexpr_libdw_on_entry(dwexpr_libdw_frame *frame, Dwarf_Die *parameter, dwexpr_libdw_value **value)
 {
     Dwarf_Attribute attribute;
-    dwexpr_libdw_text place, expression;
-    uint8_t bytes[32];
+    dwexpr_libdw_text expression;
+    uint8_t bytes[32] = {DW_OP_entry_value};
+    size_t length;
     uint32_t code = dwexpr_libdw_find_place(frame);
     *value = NULL;
     if (code)
         return code;
     if (!frame->place.function.addr || !dwarf_attr_integrate(parameter, DW_AT_location, &attribute))
         return DWEXPR_LIBDW_OPTIMIZED_AWAY;
-    code = dwexpr_libdw_expression(&attribute, dwexpr_libdw_entry_of(frame) - frame->place.bias, &place);
-    if (!code && place.text.length > sizeof bytes - 3)
+    code = dwexpr_libdw_expression(&attribute, dwexpr_libdw_entry_of(frame) - frame->place.bias, &expression);
+    length = expression.text.length;
+    if (!code && length > sizeof bytes - 3)
         code = DWEXPR_LIBDW_NOT_ENCODABLE;
     if (!code) {
-        expression = place;
-        expression.memory = NULL;
-        expression.text.bytes = bytes;
-        expression.text.length = place.text.length + 3;
-        bytes[0] = DW_OP_entry_value;
-        bytes[1] = (uint8_t)place.text.length;
-        memcpy(bytes + 2, place.text.bytes, place.text.length);
-        bytes[2 + place.text.length] = DW_OP_stack_value;
+        bytes[1] = (uint8_t)length;
+        memcpy(bytes + 2, expression.text.bytes, length);
+        bytes[2 + length] = DW_OP_stack_value;
+        expression.text = (dwexpr_text){bytes, length + 3};
         code = dwexpr_libdw_evaluate(frame, &expression, NULL, NULL, value);
         /* its piece is a number; the bytes end with this call */
         if (*value)
             (*value)->texts_length = 0;
     }
-    dwexpr_libdw_free_text(&place);
+    dwexpr_libdw_free_text(&expression);
     return code;
 }
 
@@ -802,14 +776,18 @@ static int is_location(Dwarf_Attribute *attribute)
 
 uint32_t dwexpr_libdw_number_with(const struct dwexpr_libdw_given *given, Dwarf_Attribute *attribute, uint64_t *number)
 {
+    const unsigned name = dwarf_whatattr(attribute);
+    struct dwexpr_libdw_given own = *given;
     uint32_t left = given->frame->limit, code = dwexpr_libdw_find_place(given->frame);
     Dwarf_Die entry;
     Dwarf_Word found;
     *number = 0;
+    if (name == DW_AT_data_member_location || name == DW_AT_vtable_elem_location)
+        own.initial = given->object;
     if (code == DWEXPR_LIBDW_NO_MEMORY)
         return code;
     if (is_location(attribute))
-        return attribute_number(FOR_VALUE, given, attribute, &left, number);
+        return attribute_number(FOR_VALUE, &own, attribute, &left, number);
     if (dwarf_formref_die(attribute, &entry))
         return variable_number(given, &entry, number);
     if (dwarf_formudata(attribute, &found))
@@ -821,9 +799,7 @@ uint32_t dwexpr_libdw_number_with(const struct dwexpr_libdw_given *given, Dwarf_
 uint32_t dwexpr_libdw_number(dwexpr_libdw_frame *frame, Dwarf_Attribute *attribute, const uint64_t *object,
                              uint64_t *number)
 {
-    const unsigned name = dwarf_whatattr(attribute);
-    const int is_on_object = name == DW_AT_data_member_location || name == DW_AT_vtable_elem_location;
-    const struct dwexpr_libdw_given given = {frame, object, is_on_object ? object : NULL, 0};
+    const struct dwexpr_libdw_given given = {frame, object, NULL, 0};
     return dwexpr_libdw_number_with(&given, attribute, number);
 }
 
@@ -846,45 +822,5 @@ uint32_t dwexpr_libdw_string_length(const struct dwexpr_libdw_given *given, Dwar
         code = read_number(given->frame, value, count, 0, bytes);
     dwexpr_libdw_release(value);
     dwexpr_libdw_free_text(&place);
-    return code;
-}
-
-uint32_t dwexpr_libdw_caller_register(dwexpr_libdw_frame *frame, int register_number, uint8_t *bytes, size_t *size)
-{
-    dwexpr_libdw_text rule;
-    dwexpr_libdw_value *value = NULL;
-    uint32_t code, left = frame->limit;
-    *size = 0;
-    if (register_number == DWEXPR_LIBDW_CFA) {
-        code = find_cfa(frame, &left);
-        if (!code && !(code = find_rule(frame, DWEXPR_LIBDW_CFA, &rule))) {
-            *size = rule.encoding.address_size;
-            dwexpr_libdw_bytes_of(frame->cfa, *size, rule.encoding.big_endian, bytes);
-            dwexpr_libdw_free_text(&rule);
-        }
-        return code;
-    }
-    code = find_rule(frame, register_number, &rule);
-    if (code == DWEXPR_LIBDW_SAME_VALUE)
-        return dwexpr_libdw_register(frame, (uint32_t)register_number, bytes, size);
-    if (!code)
-        code = dwexpr_libdw_evaluate(frame, &rule, NULL, NULL, &value);
-    if (!code && value->outcome.pieces == 1) {
-        dwexpr_piece *piece = &value->pieces[0];
-        if (rule.is_value && piece->kind == DWEXPR_AT_ADDRESS) {
-            piece->kind = DWEXPR_HOLDS_VALUE;
-            piece->value_type = DWEXPR_GENERIC;
-        }
-        if (piece->kind == DWEXPR_IN_REGISTER) {
-            code = dwexpr_libdw_register(frame, (uint32_t)piece->number, bytes, size);
-        } else {
-            *size = rule.encoding.address_size;
-            code = dwexpr_libdw_read(frame, value, 8 * *size, bytes, NULL);
-        }
-    } else if (!code) {
-        code = DWEXPR_LIBDW_NO_NUMBER;
-    }
-    dwexpr_libdw_release(value);
-    dwexpr_libdw_free_text(&rule);
     return code;
 }

@@ -218,13 +218,19 @@ int dwexpr_libdw_find_module(dwexpr_libdw_frame *frame, Dwarf_CU *unit, Dwfl_Mod
     return at <= 0;
 }
 
-int dwexpr_libdw_find_state(const dwexpr_libdw_frame *frame, int i, Dwarf_Frame **state, Elf **elf)
+int dwexpr_libdw_find_state(const dwexpr_libdw_frame *frame, Dwarf_Frame **state, Elf **elf)
 {
     Dwfl_Module *module = module_of(frame);
+    const Dwarf_Addr address = address_of(frame);
     Dwarf_Addr bias, bias_of_elf;
-    Dwarf_CFI *table = i ? dwfl_module_dwarf_cfi(module, &bias) : dwfl_module_eh_cfi(module, &bias);
+    Dwarf_CFI *table = dwfl_module_eh_cfi(module, &bias);
+    int failed = !table || dwarf_cfi_addrframe(table, address - bias, state);
+    if (failed) {
+        table = dwfl_module_dwarf_cfi(module, &bias);
+        failed = !table || dwarf_cfi_addrframe(table, address - bias, state);
+    }
     *elf = dwfl_module_getelf(module, &bias_of_elf);
-    return !table || dwarf_cfi_addrframe(table, address_of(frame) - bias, state);
+    return failed;
 }
 
 uint32_t dwexpr_libdw_locate(dwexpr_libdw_frame *frame, dwexpr_libdw_place *place)

@@ -106,9 +106,9 @@ int dwexpr_libdw_has_entry(Dwarf_Die *function, Dwarf_Addr *address);
 /* The same of a frame's function in the process; 0 if there is none. */
 uint64_t dwexpr_libdw_entry_of(const dwexpr_libdw_frame *frame);
 
-/* The call frame information at a frame's address, of .eh_frame or, if `i` is 1, of .debug_frame. Gives back 0, and
- * then `state` is to be freed. */
-int dwexpr_libdw_find_state(const dwexpr_libdw_frame *frame, int i, Dwarf_Frame **state, Elf **elf);
+/* The call frame information at a frame's address, of .eh_frame or else of .debug_frame. Gives back 0, and then `state`
+ * is to be freed. */
+int dwexpr_libdw_find_state(const dwexpr_libdw_frame *frame, Dwarf_Frame **state, Elf **elf);
 
 /* ---- globals.c */
 

@@ -109,7 +109,7 @@ static int is_interrupted(const dwexpr_libdw_stack *stack, size_t index)
     Dwarf_Frame *state;
     Elf *elf;
     bool is_signal = false;
-    if (!dwexpr_libdw_find_state(&frames_of(stack)[index - 1].frame, 0, &state, &elf)) {
+    if (!dwexpr_libdw_find_state(&frames_of(stack)[index - 1].frame, &state, &elf)) {
         dwarf_frame_info(state, NULL, NULL, &is_signal);
         free(state);
     }
@@ -232,16 +232,12 @@ static uint32_t add_registers(dwexpr_libdw_stack *stack, Dwfl_Frame *state, stru
 
 static int has_rules(const dwexpr_libdw_frame *frame)
 {
-    int i;
-    for (i = 0; i < 2; i++) {
-        Dwarf_Frame *state;
-        Elf *elf;
-        if (!dwexpr_libdw_find_state(frame, i, &state, &elf)) {
-            free(state);
-            return 1;
-        }
-    }
-    return 0;
+    Dwarf_Frame *state;
+    Elf *elf;
+    const int failed = dwexpr_libdw_find_state(frame, &state, &elf);
+    if (!failed)
+        free(state);
+    return !failed;
 }
 
 static int on_frame(Dwfl_Frame *state, void *given)

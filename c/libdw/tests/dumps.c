@@ -122,6 +122,9 @@ static void end(void)
 
 static void check_core(const char *machine, pid_t first, size_t count)
 {
+    static const uint8_t cfa[] = {DW_OP_call_frame_cfa};
+    const dwexpr_libdw_text text = {.text = {cfa, sizeof cfa}, .encoding = LE8};
+    dwexpr_libdw_value *value;
     char path[4096];
     uint8_t got[DWEXPR_LIBDW_REGISTER_SIZE], wanted[64];
     const pid_t *threads;
@@ -163,12 +166,10 @@ static void check_core(const char *machine, pid_t first, size_t count)
             else
                 check(code == UNKNOWN, machine, path);
         }
-        /* no rule names register 3, which a call keeps */
-        code = dwexpr_libdw_caller_register(dwexpr_libdw_frame_at(stack, 0), 3, got, &size);
-        check(!code && size == (count == 7 ? 8 : 4), machine, "a register that no rule names");
         /* the CFA is a word above the stack's pointer */
-        code = dwexpr_libdw_caller_register(dwexpr_libdw_frame_at(stack, 0), DWEXPR_LIBDW_CFA, got, &size);
-        check(!code && got[0] == 8 + size && got[2] == 0x50 && size == (count == 7 ? 8 : 4), machine, "the CFA");
+        code = dwexpr_libdw_evaluate(dwexpr_libdw_frame_at(stack, 0), &text, NULL, NULL, &value);
+        check(!code && value->pieces[0].number == (count == 7 ? 0x500010 : 0x50000c), machine, "the CFA");
+        dwexpr_libdw_release(value);
         dwexpr_libdw_free_stack(stack);
         check_local(first, 0x600000u + (unsigned)first);
         /* of i386 the segment that gs selects may not be there */

@@ -176,29 +176,10 @@ static uint32_t location_of(struct job *job, size_t *index)
     return i < TEXTS ? 0 : DWEXPR_TOO_MANY_TEXTS;
 }
 
-/* Makes an address in the debug information one of the process. */
-static int relocate(struct job *job, uint64_t *address)
-{
-    Dwfl_Module *module;
-    Dwarf_Addr bias = 0;
-    const int failed = dwexpr_libdw_find_module(job->question.frame, job->unit.cu, &module, &bias);
-    *address += bias;
-    return failed;
-}
-
 static int find_tls(const dwexpr_libdw_frame *frame, Dwfl_Module *module, uint64_t offset, uint64_t *address)
 {
     const dwexpr_libdw_source *source = &frame->source;
     return !module || !source->find_tls || source->find_tls(source->context, module, offset, address);
-}
-
-/* The address of an offset in the thread-local storage of the expression's module. */
-static int thread_local_address(struct job *job, uint64_t *address)
-{
-    Dwfl_Module *module;
-    Dwarf_Addr bias;
-    return dwexpr_libdw_find_module(job->question.frame, job->unit.cu, &module, &bias) ||
-           find_tls(job->question.frame, module, job->value->outcome.number, address);
 }
 
 static int indexed_address(struct job *job, uint64_t *address)
@@ -206,7 +187,7 @@ static int indexed_address(struct job *job, uint64_t *address)
     Dwarf_Op operation = {DW_OP_addrx, job->value->outcome.number, 0, 0};
     Dwarf_Attribute attribute;
     return !job->unit.cu || dwarf_getlocation_attr(&job->unit, &operation, &attribute) ||
-           dwarf_formaddr(&attribute, address) || (job->value->outcome.flag && relocate(job, address));
+           dwarf_formaddr(&attribute, address);
 }
 
 /* Whether an expression has no operations but of these kinds. */
@@ -385,6 +366,8 @@ static uint32_t answer(struct job *job)
     const dwexpr_outcome *asked = &job->value->outcome;
     Dwarf_Attribute attribute;
     dwexpr_answer *answer = &job->answer;
+    Dwfl_Module *module;
+    Dwarf_Addr bias = 0;
     int failed = 0;
     uint32_t why = 0;
     if (asked->request > DWEXPR_WANTS_BASE_TYPE || job->purpose > requests[asked->request].last_purpose)
@@ -407,13 +390,20 @@ static uint32_t answer(struct job *job)
         why = find_cfa(job->question.frame, job->left);
         answer->number = job->question.frame->cfa;
         break;
-    case DWEXPR_WANTS_TLS: failed = thread_local_address(job, &answer->number); break;
+    case DWEXPR_WANTS_TLS:
+        failed = dwexpr_libdw_find_module(job->question.frame, job->unit.cu, &module, &bias) ||
+                 find_tls(job->question.frame, module, asked->number, &answer->number);
+        break;
     case DWEXPR_WANTS_LOCATION: why = location_of(job, &answer->text); break;
     case DWEXPR_WANTS_RELOCATED:
-        answer->number = asked->number;
-        failed = relocate(job, &answer->number);
+        failed = dwexpr_libdw_find_module(job->question.frame, job->unit.cu, &module, &bias);
+        answer->number = asked->number + bias;
         break;
-    case DWEXPR_WANTS_INDEXED: failed = indexed_address(job, &answer->number); break;
+    case DWEXPR_WANTS_INDEXED:
+        failed = indexed_address(job, &answer->number) ||
+                 (asked->flag && dwexpr_libdw_find_module(job->question.frame, job->unit.cu, &module, &bias));
+        answer->number += bias;
+        break;
     case DWEXPR_WANTS_ENTRY_VALUE:
         job->question.place = dwexpr_outcome_block(asked, job->value->texts, job->value->texts_length);
         job->question.entry.addr = NULL;
@@ -720,32 +710,33 @@ uint32_t dwexpr_libdw_points_into(const dwexpr_libdw_value *value, const dwexpr_
                : 0;
 }
 
-/* The value of a member of an object, in whole bytes at a place that is a number: a discriminant in Ada. */
-static uint32_t member_value(dwexpr_libdw_frame *frame, Dwarf_Die *member, const uint64_t *object,
-                             dwexpr_libdw_value **value)
-{
-    Dwarf_Attribute attribute;
-    Dwarf_Word place;
-    *value = NULL;
-    if (!object || dwarf_hasattr(member, DW_AT_bit_size) || dwarf_hasattr(member, DW_AT_data_bit_offset) ||
-        dwarf_formudata(dwarf_attr(member, DW_AT_data_member_location, &attribute), &place))
-        return DWEXPR_LIBDW_NO_NUMBER;
-    return make_value(frame, attribute.cu, *object + place, value);
-}
-
 /* Reads a value of so many bytes as a number. */
-static uint32_t read_number(const dwexpr_libdw_frame *frame, const dwexpr_libdw_value *value, Dwarf_Word size,
-                            int is_signed, uint64_t *number)
+static uint32_t read_number(const dwexpr_libdw_value *value, Dwarf_Word size, int is_signed, uint64_t *number)
 {
     uint8_t bytes[8];
     const unsigned unused = 64 - 8 * (unsigned)size;
     const uint32_t code = !size || size > sizeof bytes ? DWEXPR_LIBDW_NO_NUMBER
-                                                       : dwexpr_libdw_read(frame, value, 8 * size, bytes, NULL);
+                                                       : dwexpr_libdw_read(value->frame, value, 8 * size, bytes, NULL);
     if (code)
         return code;
     *number = dwexpr_libdw_number_of(bytes, (size_t)size, value->encoding.big_endian) << unused;
     *number = is_signed ? (uint64_t)((int64_t)*number >> unused) : *number >> unused;
     return 0;
+}
+
+/* The value of a variable, or of a member of an object, in whole bytes at a place that is a number: a discriminant in
+ * Ada. */
+static uint32_t value_of(const struct dwexpr_libdw_given *given, Dwarf_Die *variable, dwexpr_libdw_value **value)
+{
+    Dwarf_Attribute attribute;
+    Dwarf_Word place;
+    *value = NULL;
+    if (dwarf_tag(variable) != DW_TAG_member)
+        return dwexpr_libdw_variable(given->frame, variable, value);
+    if (!given->object || dwarf_hasattr(variable, DW_AT_bit_size) || dwarf_hasattr(variable, DW_AT_data_bit_offset) ||
+        dwarf_formudata(dwarf_attr(variable, DW_AT_data_member_location, &attribute), &place))
+        return DWEXPR_LIBDW_NO_NUMBER;
+    return make_value(given->frame, attribute.cu, *given->object + place, value);
 }
 
 /* The number that a variable has, or a member of an object, as a bound of an array. */
@@ -757,11 +748,9 @@ static uint32_t variable_number(const struct dwexpr_libdw_given *given, Dwarf_Di
     uint32_t code;
     if (dwexpr_libdw_type(variable, &type) || dwexpr_libdw_scalar(&type, &size, &encoding))
         return DWEXPR_LIBDW_NO_NUMBER;
-    code = dwarf_tag(variable) == DW_TAG_member ? member_value(given->frame, variable, given->object, &value)
-                                                : dwexpr_libdw_variable(given->frame, variable, &value);
+    code = value_of(given, variable, &value);
     if (!code)
-        code = read_number(given->frame, value, size, encoding == DW_ATE_signed || encoding == DW_ATE_signed_char,
-                           number);
+        code = read_number(value, size, encoding == DW_ATE_signed || encoding == DW_ATE_signed_char, number);
     dwexpr_libdw_release(value);
     return code;
 }
@@ -819,7 +808,7 @@ uint32_t dwexpr_libdw_string_length(const struct dwexpr_libdw_given *given, Dwar
     if (dwarf_formudata(dwarf_attr_integrate(type, DW_AT_string_length_byte_size, &size), &count))
         count = place.encoding.address_size;
     if (!code)
-        code = read_number(given->frame, value, count, 0, bytes);
+        code = read_number(value, count, 0, bytes);
     dwexpr_libdw_release(value);
     dwexpr_libdw_free_text(&place);
     return code;

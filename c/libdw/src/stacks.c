@@ -21,6 +21,7 @@ struct stack_frame {
     dwexpr_libdw_stack *stack;
     size_t registers, register_count; /* in those of the stack */
     int is_guessed; /* the one that it called has no call frame information: libdwfl takes its frame pointer */
+    bool is_interrupted; /* by a signal: the one that it called is the kernel's, whose call frame information says so */
 };
 
 struct dwexpr_libdw_stack {
@@ -102,20 +103,6 @@ static int is_kept(dwexpr_libdw_frame *caller, unsigned machine, uint32_t number
     return producer && !strncmp(producer, "GNU ", 4);
 }
 
-/* Whether a signal interrupted a frame. Then the frame before it is the kernel's, whose call frame information says
- * so. */
-static int is_interrupted(const dwexpr_libdw_stack *stack, size_t index)
-{
-    Dwarf_Frame *state;
-    Elf *elf;
-    bool is_signal = false;
-    if (!dwexpr_libdw_find_state(&frames_of(stack)[index - 1].frame, &state, &elf)) {
-        dwarf_frame_info(state, NULL, NULL, &is_signal);
-        free(state);
-    }
-    return is_signal;
-}
-
 /* A register as libdwfl tells it. Of x86-64 it mixes up two: in a caller's frame it takes rax, which a call may change,
  * for rbx, which a call keeps (elfutils 0.188). */
 static int is_known(const dwexpr_libdw_stack *stack, size_t index, uint32_t number, Dwarf_Word *content)
@@ -123,7 +110,7 @@ static int is_known(const dwexpr_libdw_stack *stack, size_t index, uint32_t numb
     const struct stack_frame *frame = &frames_of(stack)[index];
     const struct known_register *registers = (const struct known_register *)stack->registers.items;
     size_t i;
-    if (index && stack->target->machine == EM_X86_64 && number == RAX && !is_interrupted(stack, index))
+    if (index && stack->target->machine == EM_X86_64 && number == RAX && !frame->is_interrupted)
         return 0;
     for (i = frame->registers; i < frame->registers + frame->register_count; i++)
         if (registers[i].number == number) {
@@ -230,22 +217,14 @@ static uint32_t add_registers(dwexpr_libdw_stack *stack, Dwfl_Frame *state, stru
     return code;
 }
 
-static int has_rules(const dwexpr_libdw_frame *frame)
-{
-    Dwarf_Frame *state;
-    Elf *elf;
-    const int failed = dwexpr_libdw_find_state(frame, &state, &elf);
-    if (!failed)
-        free(state);
-    return !failed;
-}
-
 static int on_frame(Dwfl_Frame *state, void *given)
 {
     dwexpr_libdw_stack *stack = (dwexpr_libdw_stack *)given;
     struct stack_frame frame = {.stack = stack};
     dwexpr_libdw_source source = {.dwfl = stack->target->dwfl, .read_register = read_register,
                                   .read_memory = read_memory, .find_tls = find_tls};
+    Dwarf_Frame *rules;
+    Elf *elf;
     bool is_activation = false;
     if (stack->frames.length == stack->most) {
         stack->code = DWEXPR_LIBDW_TOO_MANY_FRAMES;
@@ -254,10 +233,15 @@ static int on_frame(Dwfl_Frame *state, void *given)
     dwfl_frame_pc(state, &source.pc, &is_activation);
     source.is_activation = is_activation;
     dwexpr_libdw_begin_frame(&frame.frame, &source);
-    if (stack->frames.length)
-        frame.is_guessed = !has_rules(&frames_of(stack)[stack->frames.length - 1].frame);
-    else if (!stack->target->core)
+    if (stack->frames.length) {
+        frame.is_guessed = dwexpr_libdw_find_state(&frames_of(stack)[stack->frames.length - 1].frame, &rules, &elf);
+        if (!frame.is_guessed) {
+            dwarf_frame_info(rules, NULL, NULL, &frame.is_interrupted);
+            free(rules);
+        }
+    } else if (!stack->target->core) {
         stack->code = trace_sets(stack);
+    }
     if (frame.is_guessed)
         dwexpr_libdw_error = "a frame has no call frame information";
     stack->is_cut_off |= frame.is_guessed;

@@ -85,16 +85,6 @@ uint32_t dwexpr_libdw_keep_set(struct dwexpr_libdw_sets *sets, enum set set, con
     return 0;
 }
 
-/* The notes of a core dump's segment, or NULL if it has none. */
-static Elf_Data *notes_of(Elf *core, size_t index)
-{
-    GElf_Phdr segment = {.p_type = PT_NULL};
-    gelf_getphdr(core, (int)index, &segment);
-    if (segment.p_type != PT_NOTE || (size_t)segment.p_filesz != segment.p_filesz)
-        return NULL;
-    return elf_getdata_rawchunk(core, (int64_t)segment.p_offset, (size_t)segment.p_filesz, ELF_T_NHDR);
-}
-
 /* The register set that a note has, or SETS if it has none. */
 static int set_of(const GElf_Nhdr *header, const char *name)
 {
@@ -136,8 +126,11 @@ uint32_t dwexpr_libdw_read_notes(const dwexpr_libdw_target *target, pid_t thread
     uint32_t code = 0;
     elf_getphdrnum(target->core, &count);
     for (i = 0; i < count && !code; i++) {
-        Elf_Data *notes = notes_of(target->core, i);
-        code = notes ? take_sets(target, notes, thread, sets) : 0;
+        GElf_Phdr segment = {.p_type = PT_NULL};
+        gelf_getphdr(target->core, (int)i, &segment);
+        if (segment.p_type == PT_NOTE && (size_t)segment.p_filesz == segment.p_filesz)
+            code = take_sets(target, elf_getdata_rawchunk(target->core, (int64_t)segment.p_offset,
+                                                          (size_t)segment.p_filesz, ELF_T_NHDR), thread, sets);
     }
     return code;
 }

@@ -364,6 +364,7 @@ static const struct {
 static uint32_t answer(struct job *job)
 {
     const dwexpr_outcome *asked = &job->value->outcome;
+    dwexpr_libdw_frame *frame = job->question.frame;
     Dwarf_Attribute attribute;
     dwexpr_answer *answer = &job->answer;
     Dwfl_Module *module;
@@ -380,28 +381,28 @@ static uint32_t answer(struct job *job)
     switch (asked->request) {
     case DWEXPR_WANTS_MEMORY: why = memory_number(job, &answer->number); break;
     case DWEXPR_WANTS_REGISTER:
-        why = register_number(job->question.frame, asked->register_number, job->value->encoding.big_endian, &answer->number);
+        why = register_number(frame, asked->register_number, job->value->encoding.big_endian, &answer->number);
         break;
     case DWEXPR_WANTS_FRAME_BASE:
-        why = find_base(job->question.frame, job->left);
-        answer->number = job->question.frame->base;
+        why = find_base(frame, job->left);
+        answer->number = frame->base;
         break;
     case DWEXPR_WANTS_CFA:
-        why = find_cfa(job->question.frame, job->left);
-        answer->number = job->question.frame->cfa;
+        why = find_cfa(frame, job->left);
+        answer->number = frame->cfa;
         break;
     case DWEXPR_WANTS_TLS:
-        failed = dwexpr_libdw_find_module(job->question.frame, job->unit.cu, &module, &bias) ||
-                 find_tls(job->question.frame, module, asked->number, &answer->number);
+        failed = dwexpr_libdw_find_module(frame, job->unit.cu, &module, &bias) ||
+                 find_tls(frame, module, asked->number, &answer->number);
         break;
     case DWEXPR_WANTS_LOCATION: why = location_of(job, &answer->text); break;
     case DWEXPR_WANTS_RELOCATED:
-        failed = dwexpr_libdw_find_module(job->question.frame, job->unit.cu, &module, &bias);
+        failed = dwexpr_libdw_find_module(frame, job->unit.cu, &module, &bias);
         answer->number = asked->number + bias;
         break;
     case DWEXPR_WANTS_INDEXED:
         failed = indexed_address(job, &answer->number) ||
-                 (asked->flag && dwexpr_libdw_find_module(job->question.frame, job->unit.cu, &module, &bias));
+                 (asked->flag && dwexpr_libdw_find_module(frame, job->unit.cu, &module, &bias));
         answer->number += bias;
         break;
     case DWEXPR_WANTS_ENTRY_VALUE:
@@ -509,7 +510,7 @@ static dwexpr_libdw_frame *enclosing_frame(dwexpr_libdw_frame *inner, const Dwar
     return count == 1 ? found : NULL;
 }
 
-/* The frame in which a variable's location is evaluated: that of the function in which it stands, through all that stand
+/* The frame in which a variable's location is evaluated: that of the function in which it stands, through all those
  * between them. */
 static uint32_t find_owner(dwexpr_libdw_frame *frame, Dwarf_Die *variable, dwexpr_libdw_frame **owner)
 {

@@ -100,17 +100,14 @@ uint32_t dwexpr_libdw_globals(dwexpr_libdw_frame *frame, Dwfl_Module *module, co
 
 /* ---- types that are only declared */
 
-static int is_class(int tag)
-{
-    return tag == DW_TAG_structure_type || tag == DW_TAG_class_type;
-}
-
 /* Whether two entries have the same name, and are of the same kind. */
 static int is_same(Dwarf_Die *first, Dwarf_Die *second)
 {
     const int tag = dwarf_tag(first), other = dwarf_tag(second);
+    const int are_classes = (tag == DW_TAG_structure_type || tag == DW_TAG_class_type) &&
+                            (other == DW_TAG_structure_type || other == DW_TAG_class_type);
     const char *name = dwarf_diename(first), *wanted = dwarf_diename(second);
-    return (tag == other || (is_class(tag) && is_class(other))) && name && wanted && !strcmp(name, wanted);
+    return (tag == other || are_classes) && name && wanted && !strcmp(name, wanted);
 }
 
 /* Looks for a definition in namespaces and classes of the same names. */

@@ -65,7 +65,7 @@ void dwexpr_libdw_begin_walk(struct dwexpr_libdw_walk *walk, const Dwarf_Die *fi
 Dwarf_Die *dwexpr_libdw_here(const struct dwexpr_libdw_walk *walk);
 /* Goes to the next entry, into the children if `enters`. Gives back whether there is one. */
 int dwexpr_libdw_next_entry(struct dwexpr_libdw_walk *walk, int enters);
-/* The innermost function in which an entry stands, of `first` and what is in it. Its `addr` is NULL if there is none. */
+/* The innermost function in which an entry stands, of `first` and those in it. Its `addr` is NULL if there is none. */
 Dwarf_Die dwexpr_libdw_function_around(const Dwarf_Die *first, const Dwarf_Die *entry);
 
 /* The bytes of a number and its encoding, as a type says them, or that of which it is a range. Gives back 0 if both are

@@ -10,7 +10,8 @@
 #include <unistd.h>
 
 const struct dwexpr_libdw_note dwexpr_libdw_notes[SETS] = {
-    {"CORE", NT_PRSTATUS}, {"CORE", NT_FPREGSET}, {"LINUX", NT_PRXFPREG}, {"LINUX", NT_X86_XSTATE}, {"LINUX", NT_386_TLS},
+    [GENERAL] = {"CORE", NT_PRSTATUS}, [FLOATING] = {"CORE", NT_FPREGSET}, [FXSAVE] = {"LINUX", NT_PRXFPREG},
+    [XSAVE] = {"LINUX", NT_X86_XSTATE}, [SEGMENTS] = {"LINUX", NT_386_TLS},
 };
 
 /* ---- memory */

@@ -42,9 +42,11 @@ static uint64_t find_map(struct reader *reader, Dwfl_Module *module)
 {
     GElf_Phdr segment;
     Dwarf_Addr bias;
-    const uint64_t dynamic = dwexpr_libdw_find_segment(module, PT_DYNAMIC, &segment, &bias) ? segment.p_vaddr + bias : 0;
-    uint64_t map = dynamic ? word_at(reader, symbol_at(reader, "_r_debug") + reader->word) : 0;
+    uint64_t dynamic, map = word_at(reader, symbol_at(reader, "_r_debug") + reader->word);
     int i;
+    /* only the program may have none */
+    dwexpr_libdw_find_segment(module, PT_DYNAMIC, &segment, &bias);
+    dynamic = segment.p_vaddr + bias;
     for (i = 0; i < 10000 && map && word_at(reader, map + 2 * reader->word) != dynamic; i++)
         map = word_at(reader, map + 3 * reader->word);
     return i < 10000 ? map : 0;

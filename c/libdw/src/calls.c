@@ -117,14 +117,12 @@ static int is_named(Dwarf_Die *site, const dwexpr_libdw_frame *caller, const dwe
 
 /* Makes a frame of the function at an address that the caller called, and that isn't there any more: none of its
  * registers is known. Gives back whether a function begins there. */
-static int enter(const dwexpr_libdw_frame *caller, uint64_t address, dwexpr_libdw_frame *entered)
+static int enter(dwexpr_libdw_frame *caller, uint64_t address, dwexpr_libdw_frame *entered)
 {
-    dwexpr_libdw_source source = caller->source;
-    source.pc = address;
-    source.is_activation = 1;
-    source.unit = NULL;
-    source.frame_base = source.cfa = NULL;
-    source.read_register = NULL;
+    const dwexpr_libdw_source *given = &caller->source;
+    const dwexpr_libdw_source source = {.dwfl = given->dwfl, .pc = address, .is_activation = 1, .caller = caller,
+                                        .read_memory = given->read_memory, .find_tls = given->find_tls,
+                                        .context = given->context};
     dwexpr_libdw_begin_frame(entered, &source);
     return address && !dwexpr_libdw_find_place(entered) && dwexpr_libdw_entry_of(entered) == address;
 }
@@ -236,15 +234,13 @@ static uint32_t find_passed(struct dwexpr_libdw_question *question, Dwarf_Attrib
  * function passed. Its own values are those that it had on entry. */
 static uint32_t ask_between(struct dwexpr_libdw_question *question, uint64_t address, Dwarf_Attribute *value)
 {
-    dwexpr_libdw_frame *caller = question->frame->source.caller;
     question->between = (dwexpr_libdw_frame *)malloc(sizeof *question->between);
     if (!question->between)
         return DWEXPR_LIBDW_NO_MEMORY;
-    if (!enter(caller, address, question->between))
+    if (!enter(question->frame->source.caller, address, question->between) ||
+        !find_tail_call(question->between, question->frame, &question->site))
         return DWEXPR_LIBDW_NO_NUMBER;
-    question->between->source.caller = caller;
-    return find_tail_call(question->between, question->frame, &question->site) ? find_passed(question, value)
-                                                                              : DWEXPR_LIBDW_NO_NUMBER;
+    return find_passed(question, value);
 }
 
 uint32_t dwexpr_libdw_ask(struct dwexpr_libdw_question *question, Dwarf_Attribute *value)

@@ -591,19 +591,16 @@ static uint32_t hold_number(Dwarf_Die *variable, Dwarf_Attribute *attribute, uin
 /* The value of DW_AT_const_value. */
 static uint32_t constant(Dwarf_Die *variable, Dwarf_Attribute *attribute, dwexpr_libdw_value *value)
 {
-    const char *string;
+    const char *string = dwarf_formstring(attribute);
     Dwarf_Block block;
     Dwarf_Word number;
-    if (!dwarf_formblock(attribute, &block)) {
+    if (string)
+        hold_bytes(value, (const uint8_t *)string, strlen(string) + 1);
+    else if (!dwarf_formblock(attribute, &block))
         hold_bytes(value, block.data, (size_t)block.length);
-        return 0;
-    }
-    if (!dwarf_formudata(attribute, &number))
-        return hold_number(variable, attribute, number, value);
-    string = dwarf_formstring(attribute);
-    if (!string)
-        return DWEXPR_LIBDW_FAILED;
-    hold_bytes(value, (const uint8_t *)string, strlen(string) + 1);
+    else
+        return dwarf_formudata(attribute, &number) ? DWEXPR_LIBDW_FAILED
+                                                   : hold_number(variable, attribute, number, value);
     return 0;
 }
 

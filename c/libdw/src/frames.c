@@ -61,10 +61,7 @@ uint64_t dwexpr_libdw_entry_of(const dwexpr_libdw_frame *frame)
 {
     Dwarf_Die function = frame->place.function;
     Dwarf_Addr entry;
-    if (!function.addr)
-        return 0;
-    dwexpr_libdw_has_entry(&function, &entry);
-    return entry + frame->place.bias;
+    return function.addr && dwexpr_libdw_has_entry(&function, &entry) ? entry + frame->place.bias : 0;
 }
 
 /* ---- scopes */

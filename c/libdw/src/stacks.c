@@ -30,6 +30,7 @@ struct dwexpr_libdw_stack {
     size_t most;
     struct dwexpr_libdw_list frames, registers; /* of stack_frame, of known_register */
     struct dwexpr_libdw_sets sets; /* of the innermost frame */
+    uint8_t *traced; /* the bytes of a process's sets */
     int is_cut_off;
     uint32_t code;
 };
@@ -105,12 +106,12 @@ static int is_kept(dwexpr_libdw_frame *caller, unsigned machine, uint32_t number
 
 /* A register as libdwfl tells it. Of x86-64 it mixes up two: in a caller's frame it takes rax, which a call may change,
  * for rbx, which a call keeps (elfutils 0.188). */
-static int is_known(const dwexpr_libdw_stack *stack, size_t index, uint32_t number, Dwarf_Word *content)
+static int is_known(const struct stack_frame *frame, uint32_t number, Dwarf_Word *content)
 {
-    const struct stack_frame *frame = &frames_of(stack)[index];
+    const dwexpr_libdw_stack *stack = frame->stack;
     const struct known_register *registers = (const struct known_register *)stack->registers.items;
     size_t i;
-    if (index && stack->target->machine == EM_X86_64 && number == RAX && !frame->is_interrupted)
+    if (frame != frames_of(stack) && stack->target->machine == EM_X86_64 && number == RAX && !frame->is_interrupted)
         return 0;
     for (i = frame->registers; i < frame->registers + frame->register_count; i++)
         if (registers[i].number == number) {
@@ -122,24 +123,20 @@ static int is_known(const dwexpr_libdw_stack *stack, size_t index, uint32_t numb
 
 static int read_register(void *context, uint32_t number, uint8_t *bytes, size_t *size)
 {
-    const struct stack_frame *frame = (const struct stack_frame *)context;
-    const dwexpr_libdw_stack *stack = frame->stack;
-    const dwexpr_libdw_target *target = stack->target;
-    const struct stack_frame *frames = frames_of(stack);
-    const size_t first = (size_t)(frame - frames);
+    struct stack_frame *first = (struct stack_frame *)context, *frame;
+    const dwexpr_libdw_target *target = first->stack->target;
     Dwarf_Word content;
-    size_t i;
-    for (i = first;; i--) {
-        if (is_known(stack, i, number, &content)) {
+    for (frame = first;; frame--) {
+        if (is_known(frame, number, &content)) {
             *size = target->word;
             dwexpr_libdw_bytes_of(content, *size, target->big_endian, bytes);
             return 0;
         }
-        if (!i)
-            return read_set(stack, number, bytes, size);
+        if (frame == frames_of(frame->stack))
+            return read_set(frame->stack, number, bytes, size);
         /* a signal's handler keeps nothing */
-        if (frames[i].frame.source.is_activation || frames[i].is_guessed ||
-            (i == first && !is_kept(&frames_of(stack)[first].frame, target->machine, number)))
+        if (frame->frame.source.is_activation || frame->is_guessed ||
+            (frame == first && !is_kept(&frame->frame, target->machine, number)))
             return 1;
     }
 }
@@ -192,17 +189,21 @@ static int find_tls(void *context, Dwfl_Module *module, uint64_t offset, uint64_
 /* Reads the thread's register sets by ptrace; libdwfl keeps it stopped during the walk. */
 static uint32_t trace_sets(dwexpr_libdw_stack *stack)
 {
-    const size_t room = 16384;
-    uint8_t *bytes = (uint8_t *)malloc(room);
-    uint32_t code = bytes ? 0 : DWEXPR_LIBDW_NO_MEMORY;
+    size_t room = 65536;
+    uint8_t *bytes = stack->traced = (uint8_t *)malloc(room);
     int set;
-    for (set = GENERAL; set < SETS && !code; set++) {
+    if (!bytes)
+        return DWEXPR_LIBDW_NO_MEMORY;
+    for (set = GENERAL; set < SETS; set++) {
         struct iovec part = {bytes, room};
-        if (!ptrace(PTRACE_GETREGSET, stack->thread, (void *)(uintptr_t)dwexpr_libdw_notes[set].type, &part))
-            code = dwexpr_libdw_keep_set(&stack->sets, (enum set)set, bytes, part.iov_len);
+        if (ptrace(PTRACE_GETREGSET, stack->thread, (void *)(uintptr_t)dwexpr_libdw_notes[set].type, &part))
+            continue;
+        stack->sets.bytes[set] = bytes;
+        stack->sets.lengths[set] = part.iov_len;
+        bytes += part.iov_len;
+        room -= part.iov_len;
     }
-    free(bytes);
-    return code;
+    return 0;
 }
 
 static uint32_t add_registers(dwexpr_libdw_stack *stack, Dwfl_Frame *state, struct stack_frame *frame)
@@ -264,8 +265,8 @@ uint32_t dwexpr_libdw_unwind(dwexpr_libdw_target *target, pid_t thread, size_t m
     found->thread = thread;
     found->most = most;
     if (target->core)
-        found->code = dwexpr_libdw_read_notes(target, thread, &found->sets);
-    if (!found->code && dwfl_getthread_frames(target->dwfl, thread, on_frame, found) < 0) {
+        dwexpr_libdw_read_notes(target, thread, &found->sets);
+    if (dwfl_getthread_frames(target->dwfl, thread, on_frame, found) < 0) {
         dwexpr_libdw_error = dwfl_errmsg(-1);
         found->is_cut_off = 1;
     }
@@ -288,11 +289,9 @@ uint32_t dwexpr_libdw_unwind(dwexpr_libdw_target *target, pid_t thread, size_t m
 
 void dwexpr_libdw_free_stack(dwexpr_libdw_stack *stack)
 {
-    int set;
     if (!stack)
         return;
-    for (set = 0; set < SETS; set++)
-        free(stack->sets.bytes[set]);
+    free(stack->traced);
     free(stack->registers.items);
     free(stack->frames.items);
     free(stack);

@@ -75,17 +75,6 @@ int dwexpr_libdw_read_memory(const dwexpr_libdw_target *target, uint64_t address
 
 /* ---- the notes of a core dump */
 
-uint32_t dwexpr_libdw_keep_set(struct dwexpr_libdw_sets *sets, enum set set, const uint8_t *bytes, size_t length)
-{
-    free(sets->bytes[set]);
-    sets->bytes[set] = (uint8_t *)malloc(length + 1);
-    sets->lengths[set] = sets->bytes[set] ? length : 0;
-    if (!sets->bytes[set])
-        return DWEXPR_LIBDW_NO_MEMORY;
-    memcpy(sets->bytes[set], bytes, length);
-    return 0;
-}
-
 /* The register set that a note has, or SETS if it has none. */
 static int set_of(const GElf_Nhdr *header, const char *name)
 {
@@ -98,16 +87,14 @@ static int set_of(const GElf_Nhdr *header, const char *name)
 }
 
 /* Takes the register sets of a thread. A thread's notes begin with NT_PRSTATUS. */
-static uint32_t take_sets(const dwexpr_libdw_target *target, Elf_Data *notes, pid_t thread,
-                          struct dwexpr_libdw_sets *sets)
+static void take_sets(const dwexpr_libdw_target *target, Elf_Data *notes, pid_t thread, struct dwexpr_libdw_sets *sets)
 {
     /* in NT_PRSTATUS: the thread's number, and its general registers */
     const size_t thread_at = target->word == 4 ? 24 : 32, registers_at = target->word == 4 ? 72 : 112;
     GElf_Nhdr header;
     size_t at = 0, name_at, bytes_at;
-    uint32_t code = 0;
     int is_thread = 0;
-    while (!code && (at = gelf_getnote(notes, at, &header, &name_at, &bytes_at)) > 0) {
+    while ((at = gelf_getnote(notes, at, &header, &name_at, &bytes_at)) > 0) {
         const uint8_t *bytes = (const uint8_t *)notes->d_buf + bytes_at;
         const int set = set_of(&header, (const char *)notes->d_buf + name_at);
         const size_t front = set == GENERAL ? registers_at : 0;
@@ -115,25 +102,24 @@ static uint32_t take_sets(const dwexpr_libdw_target *target, Elf_Data *notes, pi
             continue;
         if (set == GENERAL)
             is_thread = (pid_t)dwexpr_libdw_number_of(bytes + thread_at, 4, target->big_endian) == thread;
-        if (is_thread)
-            code = dwexpr_libdw_keep_set(sets, (enum set)set, bytes + front, header.n_descsz - front);
+        if (is_thread) {
+            sets->bytes[set] = bytes + front;
+            sets->lengths[set] = header.n_descsz - front;
+        }
     }
-    return code;
 }
 
-uint32_t dwexpr_libdw_read_notes(const dwexpr_libdw_target *target, pid_t thread, struct dwexpr_libdw_sets *sets)
+void dwexpr_libdw_read_notes(const dwexpr_libdw_target *target, pid_t thread, struct dwexpr_libdw_sets *sets)
 {
     size_t count = 0, i;
-    uint32_t code = 0;
     elf_getphdrnum(target->core, &count);
-    for (i = 0; i < count && !code; i++) {
+    for (i = 0; i < count; i++) {
         GElf_Phdr segment = {.p_type = PT_NULL};
         gelf_getphdr(target->core, (int)i, &segment);
         if (segment.p_type == PT_NOTE && (size_t)segment.p_filesz == segment.p_filesz)
-            code = take_sets(target, elf_getdata_rawchunk(target->core, (int64_t)segment.p_offset,
-                                                          (size_t)segment.p_filesz, ELF_T_NHDR), thread, sets);
+            take_sets(target, elf_getdata_rawchunk(target->core, (int64_t)segment.p_offset, (size_t)segment.p_filesz,
+                                                   ELF_T_NHDR), thread, sets);
     }
-    return code;
 }
 
 /* ---- why there is no target */

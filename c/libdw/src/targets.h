@@ -32,13 +32,12 @@ extern _Thread_local const char *dwexpr_libdw_error;
 
 /* The register sets of a thread, as bytes. */
 struct dwexpr_libdw_sets {
-    uint8_t *bytes[SETS];
+    const uint8_t *bytes[SETS];
     size_t lengths[SETS];
 };
 
-uint32_t dwexpr_libdw_keep_set(struct dwexpr_libdw_sets *sets, enum set set, const uint8_t *bytes, size_t length);
-/* Reads the sets of a thread from the notes of a core dump. */
-uint32_t dwexpr_libdw_read_notes(const dwexpr_libdw_target *target, pid_t thread, struct dwexpr_libdw_sets *sets);
+/* Finds the sets of a thread in the notes of a core dump. */
+void dwexpr_libdw_read_notes(const dwexpr_libdw_target *target, pid_t thread, struct dwexpr_libdw_sets *sets);
 /* The address of an offset in a module's thread-local storage, of the thread with a thread pointer. */
 int dwexpr_libdw_find_block(const dwexpr_libdw_target *target, Dwfl_Module *module, uint64_t pointer, uint64_t offset,
                             uint64_t *address);

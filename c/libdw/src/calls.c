@@ -208,8 +208,8 @@ static int is_passed_in(dwexpr_text wanted, const Dwarf_Block *place, dwexpr_enc
            second.kind == DWEXPR_OP_REGISTER && first.register_number == second.register_number;
 }
 
-/* The attribute of the value that a call site passes. */
-static uint32_t find_passed(struct dwexpr_libdw_question *question, Dwarf_Attribute *value)
+/* Finds the attribute of the value that a call site passes. */
+static int find_passed(struct dwexpr_libdw_question *question, Dwarf_Attribute *value)
 {
     Dwarf_Die parameter;
     int more;
@@ -223,44 +223,35 @@ static uint32_t find_passed(struct dwexpr_libdw_question *question, Dwarf_Attrib
                                        origin.addr == question->entry.addr
                                  : !dwarf_formblock(dwarf_attr(&parameter, DW_AT_location, &attribute), &block) &&
                                        is_passed_in(question->place, &block, question->encoding))
-            return dwarf_attr(&parameter, is_old ? DW_AT_GNU_call_site_value : DW_AT_call_value, value)
-                       ? 0
-                       : DWEXPR_LIBDW_NO_NUMBER;
+            return dwarf_attr(&parameter, is_old ? DW_AT_GNU_call_site_value : DW_AT_call_value, value) != NULL;
     }
-    return DWEXPR_LIBDW_NO_NUMBER;
+    return 0;
 }
 
 /* The caller called another function, at `address`, which then left for this one by a tail call. Asks for what that
  * function passed. Its own values are those that it had on entry. */
-static uint32_t ask_between(struct dwexpr_libdw_question *question, uint64_t address, Dwarf_Attribute *value)
+static int ask_between(struct dwexpr_libdw_question *question, uint64_t address, Dwarf_Attribute *value)
 {
-    question->between = (dwexpr_libdw_frame *)malloc(sizeof *question->between);
-    if (!question->between)
-        return DWEXPR_LIBDW_NO_MEMORY;
-    if (!enter(question->frame->source.caller, address, question->between) ||
-        !find_tail_call(question->between, question->frame, &question->site))
-        return DWEXPR_LIBDW_NO_NUMBER;
-    return find_passed(question, value);
+    question->asked = &question->between;
+    return enter(question->frame->source.caller, address, &question->between) &&
+           find_tail_call(&question->between, question->frame, &question->site) && find_passed(question, value);
 }
 
-uint32_t dwexpr_libdw_ask(struct dwexpr_libdw_question *question, Dwarf_Attribute *value)
+int dwexpr_libdw_ask(struct dwexpr_libdw_question *question, Dwarf_Attribute *value)
 {
+    dwexpr_libdw_frame *caller = question->asked = question->frame->source.caller;
     uint64_t address;
     int is_called;
-    free(question->between);
-    question->between = NULL;
     if (!find_call_site(question->frame, &question->site) || may_call_itself(question->frame))
-        return DWEXPR_LIBDW_NO_NUMBER;
-    is_called = is_named(&question->site, question->frame->source.caller, question->frame, &address);
+        return 0;
+    is_called = is_named(&question->site, caller, question->frame, &address);
     if (is_called >= 0)
         return is_called ? find_passed(question, value) : ask_between(question, address, value);
     question->waits_for_target = 1;
-    return attribute_of(&question->site, DW_AT_call_target, DW_AT_GNU_call_site_target, value)
-               ? 0
-               : DWEXPR_LIBDW_NO_NUMBER;
+    return attribute_of(&question->site, DW_AT_call_target, DW_AT_GNU_call_site_target, value) != NULL;
 }
 
-uint32_t dwexpr_libdw_ask_target(struct dwexpr_libdw_question *question, uint64_t address, Dwarf_Attribute *value)
+int dwexpr_libdw_ask_target(struct dwexpr_libdw_question *question, uint64_t address, Dwarf_Attribute *value)
 {
     question->waits_for_target = 0;
     return dwexpr_libdw_entry_of(question->frame) == address ? find_passed(question, value)

@@ -240,10 +240,8 @@ static int base_type_of(struct job *job, uint64_t offset, uint32_t *value_type)
 
 static void end_job(struct job *job)
 {
-    if (job) {
+    if (job)
         dwexpr_libdw_release(job->value);
-        free(job->question.between);
-    }
     free(job);
 }
 
@@ -312,16 +310,13 @@ static uint32_t refused(const struct job *job, uint32_t why)
 
 /* ---- values on entry */
 
-/* Makes the job that evaluates an attribute for a question, unless a code says that there is none. The first job waits
- * for its number. */
-static uint32_t ask_caller(struct job *job, uint32_t code, Dwarf_Attribute *attribute)
+/* Makes the job that evaluates an attribute for a question, if it is found. The first job waits for its number. */
+static uint32_t ask(struct job *job, int is_found, Dwarf_Attribute *attribute)
 {
-    dwexpr_libdw_frame *frame = job->question.between ? job->question.between : job->question.frame->source.caller;
     dwexpr_libdw_text expression = {.memory = NULL};
+    uint32_t code = is_found ? expression_in(job->question.asked, attribute, &expression) : DWEXPR_LIBDW_NO_NUMBER;
     if (!code)
-        code = expression_in(frame, attribute, &expression);
-    if (!code)
-        code = make_job(FOR_VALUE, frame, &expression, job->left, &job->asks);
+        code = make_job(FOR_VALUE, job->question.asked, &expression, job->left, &job->asks);
     if (code) {
         dwexpr_libdw_free_text(&expression);
         return refused(job, code);
@@ -336,7 +331,7 @@ static uint32_t take(struct job *job, uint64_t number)
 {
     Dwarf_Attribute attribute;
     if (job->question.waits_for_target)
-        return ask_caller(job, dwexpr_libdw_ask_target(&job->question, number, &attribute), &attribute);
+        return ask(job, dwexpr_libdw_ask_target(&job->question, number, &attribute), &attribute);
     job->answer.number = number;
     return resume(job);
 }
@@ -408,11 +403,10 @@ static uint32_t answer(struct job *job)
     case DWEXPR_WANTS_ENTRY_VALUE:
         job->question.place = dwexpr_outcome_block(asked, job->value->texts, job->value->texts_length);
         job->question.entry.addr = NULL;
-        return ask_caller(job, dwexpr_libdw_ask(&job->question, &attribute), &attribute);
+        return ask(job, dwexpr_libdw_ask(&job->question, &attribute), &attribute);
     case DWEXPR_WANTS_PARAMETER:
         failed = entry_of(&job->unit, DW_OP_GNU_parameter_ref, asked->number, &job->question.entry);
-        return failed ? refused(job, 0)
-                      : ask_caller(job, dwexpr_libdw_ask(&job->question, &attribute), &attribute);
+        return ask(job, !failed && dwexpr_libdw_ask(&job->question, &attribute), &attribute);
     default: break; /* a base type */
     }
     return failed || why ? refused(job, why) : resume(job);

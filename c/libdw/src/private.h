@@ -144,17 +144,18 @@ struct dwexpr_libdw_question {
     Dwarf_Die entry;          /* the parameter for which it was passed; or its `addr` is NULL, */
     dwexpr_text place;        /* and it was passed in this place, on entry of the function */
     dwexpr_encoding encoding;
-    /* what is found: the call site, and the frame of a function that left by a tail call, or NULL */
+    /* what is found: the call site, and the frame that it is in: the caller's, or that of a function which left by a
+     * tail call */
     Dwarf_Die site;
-    dwexpr_libdw_frame *between; /* to be freed */
+    dwexpr_libdw_frame *asked, between;
     int waits_for_target; /* whether the call site called this function has to be known first */
 };
 
-/* Finds the attribute whose number, in the frame between or else in the caller, is the answer: or what the call site
- * called, if it `waits_for_target`. Answers 0, DWEXPR_LIBDW_NO_MEMORY or DWEXPR_LIBDW_NO_NUMBER. */
-uint32_t dwexpr_libdw_ask(struct dwexpr_libdw_question *question, Dwarf_Attribute *value);
-/* Goes on if that is known. Answers likewise. */
-uint32_t dwexpr_libdw_ask_target(struct dwexpr_libdw_question *question, uint64_t address, Dwarf_Attribute *value);
+/* Finds the attribute whose number, in the frame that is asked, is the answer: or what the call site called, if it
+ * `waits_for_target`. Gives back whether there is one. */
+int dwexpr_libdw_ask(struct dwexpr_libdw_question *question, Dwarf_Attribute *value);
+/* Goes on if that is known. Gives back likewise. */
+int dwexpr_libdw_ask_target(struct dwexpr_libdw_question *question, uint64_t address, Dwarf_Attribute *value);
 
 #pragma GCC visibility pop
 

@@ -108,7 +108,7 @@ static uint64_t number_of(struct dwexpr_libdw_given *given, Dwarf_Die *entry, un
 /* The product of two numbers. It isn't known if it has more than 64 bits. */
 static uint64_t product(struct dwexpr_libdw_given *given, uint64_t number, uint64_t factor)
 {
-    if (__builtin_mul_overflow(number, factor, &number) && !given->code)
+    if (__builtin_mul_overflow(number, factor, &number))
         given->code = DWEXPR_LIBDW_NO_NUMBER;
     return given->code ? 0 : number;
 }

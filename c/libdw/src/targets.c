@@ -32,8 +32,7 @@ static int read_segments(Elf *elf, Dwarf_Addr bias, uint64_t address, uint8_t *b
             continue;
         if (*size > segment.p_filesz - offset)
             *size = (size_t)(segment.p_filesz - offset);
-        if (segment.p_offset > length || offset > length - segment.p_offset ||
-            *size > length - segment.p_offset - offset)
+        if (segment.p_offset > length || offset + *size > length - segment.p_offset)
             return -1;
         memcpy(bytes, file + segment.p_offset + offset, *size);
         return 0;

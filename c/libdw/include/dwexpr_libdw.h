@@ -215,13 +215,6 @@ uint32_t dwexpr_libdw_register(const dwexpr_libdw_frame *frame, uint32_t number,
 /* Memory that a frame can read. Returns 0 or DWEXPR_LIBDW_NOT_READABLE. */
 uint32_t dwexpr_libdw_memory(const dwexpr_libdw_frame *frame, uint64_t address, uint8_t *bytes, size_t size);
 
-/* The value that a register of the caller has by the call frame information, or the CFA if the register is
- * DWEXPR_LIBDW_CFA: `size` bytes of at most DWEXPR_LIBDW_REGISTER_SIZE, in the order of the target.
- *
- * Answers 0; what dwexpr_libdw_rule or dwexpr_libdw_evaluate does; DWEXPR_LIBDW_NOT_READABLE; or DWEXPR_LIBDW_NO_UNIT
- * if there is no call frame information. */
-uint32_t dwexpr_libdw_caller_register(dwexpr_libdw_frame *frame, int register_number, uint8_t *bytes, size_t *size);
-
 /* ---------------------------------------------------------------- values */
 
 /* The value of an expression. It is made by the calls below, and only read. Free it by dwexpr_libdw_release. */

@@ -38,7 +38,8 @@ static int origin_of(Dwarf_Die *site, Dwarf_Die *origin)
     return dwarf_formref_die(attribute_of(site, DW_AT_call_origin, DW_AT_abstract_origin, &attribute), origin) != NULL;
 }
 
-int dwexpr_libdw_find_call_site(dwexpr_libdw_frame *frame, Dwarf_Die *site)
+/* Finds the call site that led to a frame, which is in its caller. Gives back whether there is one. */
+static int find_call_site(dwexpr_libdw_frame *frame, Dwarf_Die *site)
 {
     dwexpr_libdw_frame *caller = frame->source.caller;
     struct dwexpr_libdw_walk walk;
@@ -58,11 +59,6 @@ int dwexpr_libdw_find_call_site(dwexpr_libdw_frame *frame, Dwarf_Die *site)
     }
     free(walk.path.items);
     return found;
-}
-
-int dwexpr_libdw_call_target(Dwarf_Die *site, Dwarf_Attribute *target)
-{
-    return attribute_of(site, DW_AT_call_target, DW_AT_GNU_call_site_target, target) != NULL;
 }
 
 /* ---- which function a call site names */
@@ -88,8 +84,10 @@ static const char *external_name(Dwarf_Die *function)
     return name != plain || dwarf_attr_integrate(function, DW_AT_external, &attribute) ? name : NULL;
 }
 
-int dwexpr_libdw_names(Dwarf_Die *site, const dwexpr_libdw_frame *caller, const dwexpr_libdw_frame *called,
-                       uint64_t *address)
+/* Whether a call site in `caller` names the function of a frame: 1; 0 if it names another one, whose address is 0 if
+ * it isn't known; or -1 if it computes an address. */
+static int is_named(Dwarf_Die *site, const dwexpr_libdw_frame *caller, const dwexpr_libdw_frame *called,
+                    uint64_t *address)
 {
     Dwarf_Die origin, function = called->place.function;
     const uint64_t entry = dwexpr_libdw_entry_of(called);
@@ -117,19 +115,20 @@ int dwexpr_libdw_names(Dwarf_Die *site, const dwexpr_libdw_frame *caller, const 
 
 /* ---- tail calls */
 
-int dwexpr_libdw_enter(const dwexpr_libdw_frame *caller, uint64_t address, dwexpr_libdw_frame *entered)
+/* Makes a frame of the function at an address that the caller called, and that isn't there any more: none of its
+ * registers is known. Gives back whether a function begins there. */
+static int enter(dwexpr_libdw_frame *caller, uint64_t address, dwexpr_libdw_frame *entered)
 {
-    dwexpr_libdw_source source = caller->source;
-    source.pc = address;
-    source.is_activation = 1;
-    source.unit = NULL;
-    source.frame_base = source.cfa = NULL;
-    source.read_register = NULL;
+    const dwexpr_libdw_source *given = &caller->source;
+    const dwexpr_libdw_source source = {.dwfl = given->dwfl, .pc = address, .is_activation = 1, .caller = caller,
+                                        .read_memory = given->read_memory, .find_tls = given->find_tls,
+                                        .context = given->context};
     dwexpr_libdw_begin_frame(entered, &source);
     return address && !dwexpr_libdw_find_place(entered) && dwexpr_libdw_entry_of(entered) == address;
 }
 
-int dwexpr_libdw_find_tail_call(const dwexpr_libdw_frame *between, const dwexpr_libdw_frame *called, Dwarf_Die *site)
+/* Finds the tail call by which a function left for that of a frame. Gives back whether there is one, and no other. */
+static int find_tail_call(const dwexpr_libdw_frame *between, const dwexpr_libdw_frame *called, Dwarf_Die *site)
 {
     struct dwexpr_libdw_walk walk;
     Dwarf_Die other;
@@ -142,7 +141,7 @@ int dwexpr_libdw_find_tail_call(const dwexpr_libdw_frame *between, const dwexpr_
             count++;
         }
     free(walk.path.items);
-    return !walk.code && count == 1 && dwexpr_libdw_names(site, between, called, &address) > 0;
+    return !walk.code && count == 1 && is_named(site, between, called, &address) > 0;
 }
 
 /* How many functions are followed at most, in search of a tail call of the first one. */
@@ -162,9 +161,9 @@ static int add_tail_calls(dwexpr_libdw_frame *functions, int at, int *count)
         if (!is_tail_call(&site))
             continue;
         next = &functions[*count];
-        if (dwexpr_libdw_names(&site, &functions[at], &functions[0], &address) || *count == MOST_FUNCTIONS)
+        if (is_named(&site, &functions[at], &functions[0], &address) || *count == MOST_FUNCTIONS)
             found = 1;
-        else if (!dwexpr_libdw_enter(&functions[at], address, next))
+        else if (!enter(&functions[at], address, next))
             found = next->code == DWEXPR_LIBDW_NO_MEMORY;
         else {
             for (i = 0; functions[i].place.function.addr != next->place.function.addr; i++)
@@ -176,7 +175,8 @@ static int add_tail_calls(dwexpr_libdw_frame *functions, int at, int *count)
     return found || walk.code;
 }
 
-int dwexpr_libdw_may_call_itself(dwexpr_libdw_frame *frame)
+/* Whether the function of a frame may have called itself by tail calls: then its caller's call site tells nothing. */
+static int may_call_itself(dwexpr_libdw_frame *frame)
 {
     dwexpr_libdw_frame *functions;
     int count = 1, i;
@@ -208,21 +208,52 @@ static int is_passed_in(dwexpr_text wanted, const Dwarf_Block *place, dwexpr_enc
            second.kind == DWEXPR_OP_REGISTER && first.register_number == second.register_number;
 }
 
-int dwexpr_libdw_passed(Dwarf_Die *site, dwexpr_text place, dwexpr_encoding encoding, const Dwarf_Die *entry,
-                        Dwarf_Attribute *value)
+/* Finds the attribute of the value that a call site passes. */
+static int find_passed(struct dwexpr_libdw_question *question, Dwarf_Attribute *value)
 {
     Dwarf_Die parameter;
     int more;
-    for (more = dwarf_child(site, &parameter); more == 0; more = dwarf_siblingof(&parameter, &parameter)) {
+    for (more = dwarf_child(&question->site, &parameter); more == 0; more = dwarf_siblingof(&parameter, &parameter)) {
         const int is_old = dwarf_tag(&parameter) == DW_TAG_GNU_call_site_parameter;
         const unsigned names = is_old ? DW_AT_abstract_origin : DW_AT_call_parameter;
         Dwarf_Attribute attribute;
         Dwarf_Block block;
         Dwarf_Die origin;
-        if (entry ? dwarf_formref_die(dwarf_attr(&parameter, names, &attribute), &origin) && origin.addr == entry->addr
-                  : !dwarf_formblock(dwarf_attr(&parameter, DW_AT_location, &attribute), &block) &&
-                        is_passed_in(place, &block, encoding))
+        if (question->entry.addr ? dwarf_formref_die(dwarf_attr(&parameter, names, &attribute), &origin) &&
+                                       origin.addr == question->entry.addr
+                                 : !dwarf_formblock(dwarf_attr(&parameter, DW_AT_location, &attribute), &block) &&
+                                       is_passed_in(question->place, &block, question->encoding))
             return dwarf_attr(&parameter, is_old ? DW_AT_GNU_call_site_value : DW_AT_call_value, value) != NULL;
     }
     return 0;
+}
+
+/* The caller called another function, at `address`, which then left for this one by a tail call. Asks for what that
+ * function passed. Its own values are those that it had on entry. */
+static int ask_between(struct dwexpr_libdw_question *question, uint64_t address, Dwarf_Attribute *value)
+{
+    question->asked = &question->between;
+    return enter(question->frame->source.caller, address, &question->between) &&
+           find_tail_call(&question->between, question->frame, &question->site) && find_passed(question, value);
+}
+
+int dwexpr_libdw_ask(struct dwexpr_libdw_question *question, Dwarf_Attribute *value)
+{
+    dwexpr_libdw_frame *caller = question->asked = question->frame->source.caller;
+    uint64_t address;
+    int is_called;
+    if (!find_call_site(question->frame, &question->site) || may_call_itself(question->frame))
+        return 0;
+    is_called = is_named(&question->site, caller, question->frame, &address);
+    if (is_called >= 0)
+        return is_called ? find_passed(question, value) : ask_between(question, address, value);
+    question->waits_for_target = 1;
+    return attribute_of(&question->site, DW_AT_call_target, DW_AT_GNU_call_site_target, value) != NULL;
+}
+
+int dwexpr_libdw_ask_target(struct dwexpr_libdw_question *question, uint64_t address, Dwarf_Attribute *value)
+{
+    question->waits_for_target = 0;
+    return dwexpr_libdw_entry_of(question->frame) == address ? find_passed(question, value)
+                                                             : ask_between(question, address, value);
 }

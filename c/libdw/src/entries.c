@@ -30,29 +30,20 @@ int dwexpr_libdw_next_entry(struct dwexpr_libdw_walk *walk, int enters)
     return 0;
 }
 
-void dwexpr_libdw_find_path(struct dwexpr_libdw_walk *walk, const Dwarf_Die *first, const Dwarf_Die *entry)
+Dwarf_Die dwexpr_libdw_function_around(const Dwarf_Die *first, const Dwarf_Die *entry)
 {
-    dwexpr_libdw_begin_walk(walk, first);
-    while (!walk->code && dwexpr_libdw_here(walk)->addr != entry->addr) {
-        Dwarf_Die next, below;
+    Dwarf_Die here = *first, next, function = {.addr = NULL}, none = function;
+    while (here.addr && here.addr != entry->addr) {
+        if (dwarf_tag(&here) == DW_TAG_subprogram)
+            function = here;
         /* it stands below the last one that doesn't stand after it */
-        if (dwarf_child(dwexpr_libdw_here(walk), &next) || (const char *)next.addr > (const char *)entry->addr) {
-            walk->path.length = 0;
-            break;
-        }
+        if (dwarf_child(&here, &next) || (const char *)next.addr > (const char *)entry->addr)
+            return none;
         do
-            below = next;
+            here = next;
         while (!dwarf_siblingof(&next, &next) && (const char *)next.addr <= (const char *)entry->addr);
-        walk->code = dwexpr_libdw_add(&walk->path, &below, sizeof below);
     }
-}
-
-Dwarf_Die dwexpr_libdw_innermost_function(struct dwexpr_libdw_walk *walk)
-{
-    Dwarf_Die none = {.addr = NULL};
-    while (walk->path.length && dwarf_tag(dwexpr_libdw_here(walk)) != DW_TAG_subprogram)
-        walk->path.length--;
-    return walk->path.length ? *dwexpr_libdw_here(walk) : none;
+    return function;
 }
 
 /* ---- types */
@@ -103,23 +94,56 @@ int dwexpr_libdw_scalar(Dwarf_Die *type, Dwarf_Word *size, Dwarf_Word *encoding)
            !has_in_base(type, DW_AT_encoding, &attribute) || dwarf_formudata(&attribute, encoding);
 }
 
+/* ---- numbers of attributes */
+
+/* The number of an attribute, or `other` if the entry has none. After one that isn't known each is 0. */
+static uint64_t number_of(struct dwexpr_libdw_given *given, Dwarf_Die *entry, unsigned name, uint64_t other)
+{
+    Dwarf_Attribute attribute;
+    if (!given->code && dwarf_attr_integrate(entry, name, &attribute))
+        given->code = dwexpr_libdw_number_with(given, &attribute, &other);
+    return given->code ? 0 : other;
+}
+
+/* The product of two numbers. It isn't known if it has more than 64 bits. */
+static uint64_t product(struct dwexpr_libdw_given *given, uint64_t number, uint64_t factor)
+{
+    if (__builtin_mul_overflow(number, factor, &number))
+        given->code = DWEXPR_LIBDW_NO_NUMBER;
+    return given->code ? 0 : number;
+}
+
+static uint64_t bytes_of(uint64_t bits)
+{
+    return bits / 8 + (bits % 8 != 0);
+}
+
+/* The bits between two elements, or two indexes, as an entry says them; 0 if it doesn't. */
+static uint64_t stride_of(struct dwexpr_libdw_given *given, Dwarf_Die *entry)
+{
+    const uint64_t bytes = number_of(given, entry, DW_AT_byte_stride, 0);
+    return number_of(given, entry, DW_AT_bit_stride, 8 * bytes);
+}
+
 /* ---- arrays */
 
 /* A dimension of an array. */
 struct dimension {
     uint64_t lower, count;
     int has_count;      /* an array of C may have no bound */
-    Dwarf_Die index;    /* an enumeration whose values are the indexes; its `addr` is NULL if it is none */
+    Dwarf_Die index;    /* the type of the indexes: if it is an enumeration, its values alone are some */
     uint64_t stride;    /* bits from one index to the next; 0 if the elements follow each other */
 };
 
-/* How many values of an enumeration are below a number, and not below a lower one. */
-static uint64_t values_between(Dwarf_Die *enumeration, uint64_t lower, uint64_t number)
+/* How many indexes are below a number, and not below a lower one. */
+static uint64_t indexes_between(Dwarf_Die *type, uint64_t lower, uint64_t number)
 {
     Dwarf_Die value;
     uint64_t count = 0;
     int more;
-    for (more = dwarf_child(enumeration, &value); more == 0; more = dwarf_siblingof(&value, &value)) {
+    if (dwarf_tag(type) != DW_TAG_enumeration_type)
+        return number - lower;
+    for (more = dwarf_child(type, &value); more == 0; more = dwarf_siblingof(&value, &value)) {
         Dwarf_Attribute attribute;
         Dwarf_Sword found;
         if (dwarf_tag(&value) == DW_TAG_enumerator &&
@@ -127,35 +151,6 @@ static uint64_t values_between(Dwarf_Die *enumeration, uint64_t lower, uint64_t 
             count += found >= (int64_t)lower && found < (int64_t)number;
     }
     return count;
-}
-
-/* Sets a number to that of an attribute. It stays as it is if the entry has none. */
-static uint32_t number_of(const struct dwexpr_libdw_given *given, Dwarf_Die *entry, unsigned name, uint64_t *number)
-{
-    Dwarf_Attribute attribute;
-    return dwarf_attr_integrate(entry, name, &attribute) ? dwexpr_libdw_number_with(given, &attribute, number) : 0;
-}
-
-/* The bits between two elements, or two indexes, as an entry says them; 0 if it doesn't. */
-static uint32_t stride_of(const struct dwexpr_libdw_given *given, Dwarf_Die *entry, uint64_t *bits)
-{
-    uint32_t code;
-    *bits = 0;
-    if (dwarf_hasattr_integrate(entry, DW_AT_bit_stride))
-        return number_of(given, entry, DW_AT_bit_stride, bits);
-    code = number_of(given, entry, DW_AT_byte_stride, bits);
-    *bits *= 8;
-    return code;
-}
-
-static int is_enumeration(Dwarf_Die *range, Dwarf_Die *enumeration)
-{
-    int steps;
-    *enumeration = *range;
-    for (steps = 0; steps < 64 && dwarf_tag(enumeration) == DW_TAG_subrange_type; steps++)
-        if (dwexpr_libdw_type(enumeration, enumeration))
-            return 0;
-    return dwarf_tag(enumeration) == DW_TAG_enumeration_type;
 }
 
 /* The language of an entry's unit, DW_LANG_*; -1 if it isn't known. */
@@ -166,124 +161,100 @@ static int language_of(Dwarf_Die *entry)
     return dwarf_srclang(&unit);
 }
 
-static uint32_t dimension(const struct dwexpr_libdw_given *given, Dwarf_Die *range, struct dimension *found)
+static void read_dimension(struct dwexpr_libdw_given *given, Dwarf_Die *range, struct dimension *found)
 {
+    const int is_whole = dwarf_tag(range) == DW_TAG_enumeration_type; /* each of its values is an index */
     Dwarf_Sword first = 0;
-    uint64_t upper;
-    uint32_t code = stride_of(given, range, &found->stride);
-    found->count = 0;
-    found->has_count = 1;
+    uint64_t end = INT64_MAX;
+    int steps;
     dwarf_default_lower_bound(language_of(range), &first);
-    found->lower = (uint64_t)first;
-    if (!is_enumeration(range, &found->index))
-        found->index.addr = NULL;
-    if (!code)
-        code = number_of(given, range, DW_AT_lower_bound, &found->lower);
-    if (code)
-        return code;
-    if (dwarf_hasattr_integrate(range, DW_AT_count))
-        return number_of(given, range, DW_AT_count, &found->count);
-    if (dwarf_tag(range) == DW_TAG_enumeration_type) {
-        found->lower = (uint64_t)INT64_MIN;
-        found->count = values_between(range, found->lower, INT64_MAX);
-        return 0;
-    }
-    found->has_count = dwarf_hasattr_integrate(range, DW_AT_upper_bound);
-    upper = found->lower - 1;
-    code = number_of(given, range, DW_AT_upper_bound, &upper);
+    found->stride = stride_of(given, range);
+    found->lower = is_whole ? (uint64_t)INT64_MIN : number_of(given, range, DW_AT_lower_bound, (uint64_t)first);
+    found->has_count = is_whole || dwarf_hasattr_integrate(range, DW_AT_upper_bound);
+    found->index = *range;
+    for (steps = 0; steps < 64 && dwarf_tag(&found->index) == DW_TAG_subrange_type; steps++)
+        dwexpr_libdw_type(&found->index, &found->index);
+    if (!is_whole)
+        end = number_of(given, range, DW_AT_upper_bound, found->lower - 1) + 1;
     /* an upper bound below the lower one is an array without elements */
-    if (!code && (int64_t)(upper - found->lower) >= -1)
-        found->count = found->index.addr ? values_between(&found->index, found->lower, upper + 1)
-                                         : upper - found->lower + 1;
-    return code;
+    found->count = (int64_t)end < (int64_t)found->lower ? 0 : indexes_between(&found->index, found->lower, end);
+    if (dwarf_hasattr_integrate(range, DW_AT_count)) {
+        found->count = number_of(given, range, DW_AT_count, 0);
+        found->has_count = 1;
+    }
 }
 
 enum { MOST_DIMENSIONS = 64 };
 
-/* The dimensions of an array: an entry for each, or one for all, whose number is computed (DW_AT_rank). */
-static uint32_t dimensions(struct dwexpr_libdw_given given, Dwarf_Die *array, struct dimension *found, size_t *count)
+/* Reads the dimensions of an array: an entry for each, or one for all, whose number is computed (DW_AT_rank). Gives
+ * back how many there are. */
+static size_t read_dimensions(struct dwexpr_libdw_given *given, Dwarf_Die *array, struct dimension *found)
 {
+    const uint64_t rank = number_of(given, array, DW_AT_rank, 1);
     Dwarf_Die range;
-    uint64_t rank = 1, i;
-    uint32_t code = number_of(&given, array, DW_AT_rank, &rank);
+    size_t count = 0;
     int more;
-    *count = 0;
-    for (more = dwarf_child(array, &range); more == 0 && !code; more = dwarf_siblingof(&range, &range)) {
+    for (more = dwarf_child(array, &range); more == 0; more = dwarf_siblingof(&range, &range)) {
         const int tag = dwarf_tag(&range);
         const int is_generic = tag == DW_TAG_generic_subrange;
+        uint64_t i;
         if (tag != DW_TAG_subrange_type && tag != DW_TAG_enumeration_type && !is_generic)
             continue;
-        given.initial = is_generic ? &i : NULL;
-        for (i = 0; i < (is_generic ? rank : 1) && !code; i++)
-            code = *count < MOST_DIMENSIONS ? dimension(&given, &range, &found[(*count)++]) : DWEXPR_LIBDW_NO_NUMBER;
+        given->initial = is_generic ? &i : NULL;
+        for (i = 0; i < (is_generic ? rank : 1) && !given->code; i++)
+            if (count < MOST_DIMENSIONS)
+                read_dimension(given, &range, &found[count++]);
+            else
+                given->code = DWEXPR_LIBDW_NO_NUMBER;
+        given->initial = NULL;
     }
-    return code;
-}
-
-/* Multiplies a number. Answers DWEXPR_LIBDW_NO_NUMBER if the product has more than 64 bits. */
-static uint32_t multiply(uint64_t *number, uint64_t factor)
-{
-    return __builtin_mul_overflow(*number, factor, number) ? DWEXPR_LIBDW_NO_NUMBER : 0;
-}
-
-/* How many elements an array has in all its dimensions. */
-static uint32_t elements(const struct dimension *found, size_t dimensions, uint64_t *count)
-{
-    uint32_t code = 0;
-    size_t i;
-    *count = 1;
-    for (i = 0; i < dimensions && !code; i++)
-        code = found[i].has_count ? multiply(count, found[i].count) : DWEXPR_LIBDW_NO_NUMBER;
-    return code;
+    return count;
 }
 
 /* Whether the first index of an array is the one that changes fastest (DW_AT_ordering, else as the language has it). */
-static int is_first_fastest(Dwarf_Die *array)
+static int is_first_fastest(struct dwexpr_libdw_given *given, Dwarf_Die *array)
 {
-    Dwarf_Attribute attribute;
-    Dwarf_Word ordering;
-    if (!dwarf_formudata(dwarf_attr_integrate(array, DW_AT_ordering, &attribute), &ordering))
-        return ordering == DW_ORD_col_major;
-    switch (language_of(array)) {
-    case DW_LANG_Fortran77: case DW_LANG_Fortran90: case DW_LANG_Fortran95: case DW_LANG_Fortran03:
-    case DW_LANG_Fortran08: return 1;
-    default: return 0;
-    }
+    static const int fortran[] = {DW_LANG_Fortran77, DW_LANG_Fortran90, DW_LANG_Fortran95, DW_LANG_Fortran03,
+                                  DW_LANG_Fortran08};
+    uint64_t usual = DW_ORD_row_major;
+    size_t i;
+    for (i = 0; i < sizeof fortran / sizeof *fortran; i++)
+        if (language_of(array) == fortran[i])
+            usual = DW_ORD_col_major;
+    return number_of(given, array, DW_AT_ordering, usual) == DW_ORD_col_major;
 }
 
+static uint64_t size_of(struct dwexpr_libdw_given *given, const Dwarf_Die *type);
+
 /* The bytes of the type of an entry. */
-static uint32_t size_of(const struct dwexpr_libdw_given *given, Dwarf_Die *entry, uint64_t *bytes)
+static uint64_t size_of_entry(struct dwexpr_libdw_given *given, Dwarf_Die *entry)
 {
     Dwarf_Die type;
-    const uint32_t code = dwexpr_libdw_type(entry, &type);
-    return code ? code : dwexpr_libdw_size(given->frame, &type, given->object, bytes);
+    if (!given->code)
+        given->code = dwexpr_libdw_type(entry, &type);
+    return given->code ? 0 : size_of(given, &type);
 }
 
 uint32_t dwexpr_libdw_element(dwexpr_libdw_frame *frame, Dwarf_Die *array, const uint64_t *object,
                               const int64_t *indexes, size_t count, uint64_t *begin, uint64_t *bits)
 {
-    const struct dwexpr_libdw_given given = {frame, object, NULL};
+    struct dwexpr_libdw_given given = {frame, object, NULL, 0};
     struct dimension found[MOST_DIMENSIONS];
-    uint64_t next;
-    size_t length, i;
-    uint32_t code = dimensions(given, array, found, &length);
-    *begin = *bits = 0;
-    if (!code)
-        code = size_of(&given, array, bits);
-    *bits *= 8;
-    if (!code)
-        code = stride_of(&given, array, &next);
-    if (code || count != length)
-        return code ? code : DWEXPR_LIBDW_NO_NUMBER;
+    const size_t length = read_dimensions(&given, array, found);
+    const int is_reversed = !is_first_fastest(&given, array);
+    uint64_t next = stride_of(&given, array);
+    size_t i;
+    *begin = 0;
+    *bits = 8 * size_of_entry(&given, array);
+    if (given.code || count != length)
+        return given.code ? given.code : DWEXPR_LIBDW_NO_NUMBER;
     if (next && next < *bits)
         *bits = next;
     next = next ? next : *bits;
     for (i = 0; i < length; i++) {
-        const size_t at = is_first_fastest(array) ? i : length - 1 - i;
+        const size_t at = is_reversed ? length - 1 - i : i;
         struct dimension *here = &found[at];
-        const uint64_t place = here->index.addr
-                                   ? values_between(&here->index, here->lower, (uint64_t)indexes[at])
-                                   : (uint64_t)indexes[at] - here->lower;
+        const uint64_t place = indexes_between(&here->index, here->lower, (uint64_t)indexes[at]);
         if (indexes[at] < (int64_t)here->lower || (here->has_count ? place >= here->count : i + 1 < length))
             return DWEXPR_LIBDW_NO_NUMBER;
         *begin += place * (here->stride ? here->stride : next);
@@ -294,144 +265,135 @@ uint32_t dwexpr_libdw_element(dwexpr_libdw_frame *frame, Dwarf_Die *array, const
 
 uint32_t dwexpr_libdw_data(dwexpr_libdw_frame *frame, Dwarf_Die *type, uint64_t object, uint64_t *address)
 {
-    const struct dwexpr_libdw_given given = {frame, &object, NULL};
-    uint64_t is_allocated = 1, is_associated = 1;
-    uint32_t code = number_of(&given, type, DW_AT_allocated, &is_allocated);
-    if (!code)
-        code = number_of(&given, type, DW_AT_associated, &is_associated);
-    if (code || !is_allocated || !is_associated)
-        return code ? code : DWEXPR_LIBDW_OPTIMIZED_AWAY;
-    *address = object;
-    return number_of(&given, type, DW_AT_data_location, address);
+    struct dwexpr_libdw_given given = {frame, &object, NULL, 0};
+    const uint64_t is_allocated = number_of(&given, type, DW_AT_allocated, 1);
+    const uint64_t is_associated = number_of(&given, type, DW_AT_associated, 1);
+    if (!given.code && (!is_allocated || !is_associated))
+        return DWEXPR_LIBDW_OPTIMIZED_AWAY;
+    *address = number_of(&given, type, DW_AT_data_location, object);
+    return given.code;
 }
 
 /* ---- sizes */
 
-/* The bytes of a type that isn't an array and has no DW_AT_byte_size. */
-static uint32_t other_size(const struct dwexpr_libdw_given *given, Dwarf_Die *type, uint64_t *bytes)
+/* The bytes of a type that isn't an array, or that has DW_AT_byte_size. */
+static uint64_t other_size(struct dwexpr_libdw_given *given, Dwarf_Die *type)
 {
     Dwarf_Attribute attribute;
     Dwarf_Die unit, target;
     uint8_t address_size = 0;
-    uint32_t code;
-    if (has_in_base(type, DW_AT_byte_size, &attribute))
-        return dwexpr_libdw_number_with(given, &attribute, bytes);
+    uint64_t bytes;
+    if (has_in_base(type, DW_AT_byte_size, &attribute)) {
+        given->code = dwexpr_libdw_number_with(given, &attribute, &bytes);
+        return bytes;
+    }
     dwarf_diecu(type, &unit, &address_size, NULL);
-    *bytes = address_size;
     switch (dwarf_tag(type)) {
-    case DW_TAG_pointer_type: case DW_TAG_reference_type: case DW_TAG_rvalue_reference_type: return 0;
+    case DW_TAG_pointer_type: case DW_TAG_reference_type: case DW_TAG_rvalue_reference_type: return address_size;
     case DW_TAG_ptr_to_member_type: /* of a function it has a second word */
-        if (!dwexpr_libdw_type(type, &target) && dwarf_tag(&target) == DW_TAG_subroutine_type)
-            *bytes *= 2;
-        return 0;
+        return !dwexpr_libdw_type(type, &target) && dwarf_tag(&target) == DW_TAG_subroutine_type ? 2u * address_size
+                                                                                                 : address_size;
     case DW_TAG_string_type:
-        if (dwarf_attr_integrate(type, DW_AT_string_length, &attribute))
-            return dwexpr_libdw_string_length(given, type, &attribute, bytes);
+        if (dwarf_attr_integrate(type, DW_AT_string_length, &attribute)) {
+            given->code = dwexpr_libdw_string_length(given, type, &attribute, &bytes);
+            return bytes;
+        }
         break;
     default: break;
     }
     if (!dwarf_hasattr_integrate(type, DW_AT_bit_size))
-        return DWEXPR_LIBDW_NO_NUMBER;
-    code = number_of(given, type, DW_AT_bit_size, bytes);
-    *bytes = *bytes / 8 + (*bytes % 8 != 0);
-    return code;
+        given->code = DWEXPR_LIBDW_NO_NUMBER;
+    return bytes_of(number_of(given, type, DW_AT_bit_size, 0));
+}
+
+static uint64_t size_of(struct dwexpr_libdw_given *given, const Dwarf_Die *type)
+{
+    Dwarf_Die kind = *type;
+    uint64_t factor = 1;
+    int steps;
+    /* the sizes of arrays of arrays are multiplied */
+    for (steps = 0; steps < 64 && !given->code; steps++) {
+        struct dimension found[MOST_DIMENSIONS];
+        uint64_t count = 1, stride;
+        size_t length, i;
+        if (is_left_out(dwarf_tag(&kind)))
+            given->code = dwexpr_libdw_type(&kind, &kind);
+        if (!given->code && dwarf_hasattr(&kind, DW_AT_declaration))
+            given->code = dwexpr_libdw_definition(given->frame, &kind, &kind);
+        if (given->code)
+            return 0;
+        if (dwarf_hasattr_integrate(&kind, DW_AT_byte_size) || dwarf_tag(&kind) != DW_TAG_array_type)
+            return product(given, other_size(given, &kind), factor);
+        length = read_dimensions(given, &kind, found);
+        for (i = 0; i < length && found[i].has_count; i++)
+            count = product(given, count, found[i].count);
+        if (!given->code && i < length)
+            given->code = DWEXPR_LIBDW_NO_NUMBER;
+        stride = stride_of(given, &kind);
+        if (stride)
+            return product(given, bytes_of(product(given, stride, count)), factor);
+        factor = product(given, factor, count);
+        if (!given->code)
+            given->code = dwexpr_libdw_type(&kind, &kind);
+    }
+    given->code = given->code ? given->code : DWEXPR_LIBDW_NO_NUMBER;
+    return 0;
 }
 
 uint32_t dwexpr_libdw_size(dwexpr_libdw_frame *frame, Dwarf_Die *type, const uint64_t *object, uint64_t *bytes)
 {
-    const struct dwexpr_libdw_given given = {frame, object, NULL};
-    Dwarf_Die kind = *type;
-    uint64_t factor = 1;
-    uint32_t code = 0;
-    int steps;
-    *bytes = 0;
-    /* the sizes of arrays of arrays are multiplied */
-    for (steps = 0; steps < 64 && !code; steps++) {
-        struct dimension found[MOST_DIMENSIONS];
-        uint64_t count, stride;
-        size_t length;
-        if (is_left_out(dwarf_tag(&kind)))
-            code = dwexpr_libdw_type(&kind, &kind);
-        if (!code && dwarf_hasattr(&kind, DW_AT_declaration))
-            code = dwexpr_libdw_definition(frame, &kind, &kind);
-        if (code)
-            return code;
-        if (dwarf_hasattr_integrate(&kind, DW_AT_byte_size) || dwarf_tag(&kind) != DW_TAG_array_type) {
-            code = other_size(&given, &kind, bytes);
-            return code ? code : multiply(bytes, factor);
-        }
-        code = dimensions(given, &kind, found, &length);
-        if (!code)
-            code = elements(found, length, &count);
-        if (!code)
-            code = stride_of(&given, &kind, &stride);
-        if (!code && stride) {
-            code = multiply(&stride, count);
-            *bytes = stride / 8 + (stride % 8 != 0);
-            return code ? code : multiply(bytes, factor);
-        }
-        if (!code)
-            code = multiply(&factor, count);
-        if (!code)
-            code = dwexpr_libdw_type(&kind, &kind);
-    }
-    return code ? code : DWEXPR_LIBDW_NO_NUMBER;
+    struct dwexpr_libdw_given given = {frame, object, NULL, 0};
+    *bytes = size_of(&given, type);
+    return given.code;
 }
 
-/* Adds to where the bytes begin that hold a bit field. DWARF 3 counts its bits from their highest one (5.6.6). */
-static uint32_t add_old_offset(const struct dwexpr_libdw_given *given, Dwarf_Die *member, uint64_t bits,
-                               uint64_t *begin)
+/* ---- members */
+
+/* Where the bits begin of a bit field, in the bytes that hold it. DWARF 3 counts them from the highest one (5.6.6). */
+static uint64_t old_offset(struct dwexpr_libdw_given *given, Dwarf_Die *member, uint64_t bits)
 {
-    dwexpr_encoding encoding;
-    uint64_t highest = 0, bytes = 0;
-    uint32_t code = number_of(given, member, DW_AT_bit_offset, &highest);
-    if (!code)
-        code = dwarf_hasattr(member, DW_AT_byte_size) ? number_of(given, member, DW_AT_byte_size, &bytes)
-                                                      : size_of(given, member, &bytes);
-    if (!code)
-        code = dwexpr_libdw_encoding(member->cu, &encoding);
-    if (!code)
-        *begin += encoding.big_endian ? highest : 8 * bytes - highest - bits;
-    return code;
+    const uint64_t highest = number_of(given, member, DW_AT_bit_offset, 0);
+    const uint64_t bytes = dwarf_hasattr(member, DW_AT_byte_size) ? number_of(given, member, DW_AT_byte_size, 0)
+                                                                  : size_of_entry(given, member);
+    dwexpr_encoding encoding = {.big_endian = 0};
+    if (!given->code)
+        given->code = dwexpr_libdw_encoding(member->cu, &encoding);
+    return encoding.big_endian ? highest : 8 * bytes - highest - bits;
 }
 
 /* Where a member begins, or the bytes that hold it if DW_AT_bit_offset counts in them. */
-static uint32_t member_begin(dwexpr_libdw_frame *frame, Dwarf_Die *member, const uint64_t *object, uint64_t *begin)
+static uint64_t member_begin(struct dwexpr_libdw_given *given, Dwarf_Die *member)
 {
-    /* an expression gives the member's address */
-    const uint64_t whole = object ? *object : 0;
+    const uint64_t whole = given->object ? *given->object : 0;
     Dwarf_Attribute attribute;
     Dwarf_Block block;
-    uint32_t code;
-    *begin = 0;
+    uint64_t place = 0;
     /* that of a class, which no object holds */
     if (dwarf_hasattr(member, DW_AT_declaration))
-        return DWEXPR_LIBDW_NO_NUMBER;
-    if (dwarf_attr(member, DW_AT_data_bit_offset, &attribute))
-        return dwexpr_libdw_number(frame, &attribute, NULL, begin);
-    if (!dwarf_attr(member, DW_AT_data_member_location, &attribute))
-        return 0;
-    code = dwexpr_libdw_number(frame, &attribute, &whole, begin);
-    *begin = 8 * (*begin - (dwarf_formblock(&attribute, &block) ? 0 : whole));
-    return code;
+        given->code = DWEXPR_LIBDW_NO_NUMBER;
+    else if (dwarf_attr(member, DW_AT_data_member_location, &attribute)) {
+        given->code = dwexpr_libdw_number(given->frame, &attribute, &whole, &place);
+        /* an expression gives the member's address */
+        place -= dwarf_formblock(&attribute, &block) ? 0 : whole;
+    }
+    return number_of(given, member, DW_AT_data_bit_offset, 8 * place);
 }
 
 uint32_t dwexpr_libdw_member(dwexpr_libdw_frame *frame, Dwarf_Die *member, const uint64_t *object, uint64_t *begin,
                              uint64_t *bits)
 {
-    const struct dwexpr_libdw_given given = {frame, object, NULL};
+    struct dwexpr_libdw_given given = {frame, object, NULL, 0};
     const int is_old = dwarf_hasattr(member, DW_AT_bit_offset);
-    uint64_t unused;
-    uint32_t code = member_begin(frame, member, object, begin);
-    if (code || (!bits && !is_old))
-        return code;
-    bits = bits ? bits : &unused;
-    *bits = 0;
-    if (dwarf_hasattr(member, DW_AT_bit_size)) {
-        code = number_of(&given, member, DW_AT_bit_size, bits);
-    } else {
-        code = size_of(&given, member, bits);
-        *bits *= 8;
-    }
-    return code || !is_old ? code : add_old_offset(&given, member, *bits, begin);
+    uint64_t count;
+    *begin = member_begin(&given, member);
+    if (given.code || (!bits && !is_old))
+        return given.code;
+    count = dwarf_hasattr(member, DW_AT_bit_size) ? number_of(&given, member, DW_AT_bit_size, 0)
+                                                  : 8 * size_of_entry(&given, member);
+    if (bits)
+        *bits = count;
+    if (is_old)
+        count = old_offset(&given, member, count);
+    *begin += is_old && !given.code ? count : 0;
+    return given.code;
 }

@@ -13,25 +13,19 @@ enum purpose { FOR_VALUE, FOR_BASE, FOR_CFA };
  * values that go through many callers take no stack. */
 struct job {
     struct job *waits; /* the one that waits for this one's number, or NULL */
+    struct job *asks;  /* the one for which this one has to wait, or NULL */
     enum purpose purpose;
-    dwexpr_libdw_frame *frame;
     Dwarf_Attribute unit; /* its `cu`; nothing else of it is set */
     dwexpr_libdw_value *value;
     dwexpr_answer answer;
-    /* while it waits: the call site in the caller, and the place or the entry of what is passed */
-    Dwarf_Die site;
-    dwexpr_text place;
-    Dwarf_Die entry;     /* `addr` is NULL if it is a place */
-    int waits_for_target; /* it has to know first whether the call site called this function */
-    dwexpr_libdw_frame *between; /* of a function that left by a tail call, or NULL */
+    struct dwexpr_libdw_question question; /* in its frame */
+    uint32_t *left; /* how many more expressions may be evaluated */
     dwexpr_evaluation evaluation;
     uint64_t memory[DWEXPR_EVALUATION_SIZE / 8];
 };
 
 static uint32_t evaluate_for(enum purpose purpose, const struct dwexpr_libdw_given *given,
                              const dwexpr_libdw_text *expression, uint32_t *left, dwexpr_libdw_value **value);
-static uint32_t attribute_number(enum purpose purpose, const struct dwexpr_libdw_given *given,
-                                 Dwarf_Attribute *attribute, uint32_t *left, uint64_t *number);
 
 /* ---- answers from the frame */
 
@@ -50,44 +44,8 @@ static uint32_t memory_number(const struct job *job, uint64_t *content)
     const dwexpr_outcome *asked = &job->value->outcome;
     uint8_t bytes[UINT8_MAX] = {0};
     const uint32_t code = asked->flag ? DWEXPR_LIBDW_NOT_READABLE
-                                      : dwexpr_libdw_memory(job->frame, asked->number, bytes, asked->size);
+                                      : dwexpr_libdw_memory(job->question.frame, asked->number, bytes, asked->size);
     *content = dwexpr_libdw_number_of(bytes, asked->size, job->value->encoding.big_endian);
-    return code;
-}
-
-static uint32_t find_base(dwexpr_libdw_frame *frame, uint32_t *left)
-{
-    const struct dwexpr_libdw_given given = {frame, NULL, NULL};
-    Dwarf_Attribute attribute;
-    uint32_t code;
-    if (frame->has_base)
-        return 0;
-    dwexpr_libdw_find_place(frame);
-    if (!frame->place.function.addr ||
-        !dwarf_attr_integrate(&frame->place.function, DW_AT_frame_base, &attribute))
-        return DWEXPR_LIBDW_OPTIMIZED_AWAY;
-    code = attribute_number(FOR_BASE, &given, &attribute, left, &frame->base);
-    frame->has_base = !code;
-    return code;
-}
-
-/* The rule of a register, or of the CFA, at the frame's address. Answers DWEXPR_LIBDW_NO_UNIT if there is none. */
-static uint32_t find_rule(dwexpr_libdw_frame *frame, int number, dwexpr_libdw_text *rule)
-{
-    uint32_t code = DWEXPR_LIBDW_NO_UNIT;
-    int i;
-    memset(rule, 0, sizeof *rule);
-    for (i = 0; i < 2; i++) {
-        Dwarf_Frame *state;
-        Elf *elf;
-        if (dwexpr_libdw_find_state(frame, i, &state, &elf))
-            continue;
-        dwexpr_libdw_free_text(rule);
-        code = dwexpr_libdw_rule(state, elf, number, rule);
-        free(state);
-        if (!code || code == DWEXPR_LIBDW_SAME_VALUE || code == DWEXPR_LIBDW_OPTIMIZED_AWAY)
-            break;
-    }
     return code;
 }
 
@@ -115,14 +73,60 @@ static uint32_t expression_number(enum purpose purpose, const struct dwexpr_libd
     return code;
 }
 
+/* The expression of an attribute at a frame's address, in the addresses of the attribute's module. */
+static uint32_t expression_in(dwexpr_libdw_frame *frame, Dwarf_Attribute *attribute, dwexpr_libdw_text *expression)
+{
+    Dwfl_Module *module;
+    Dwarf_Addr bias;
+    Dwarf_Block block;
+    memset(expression, 0, sizeof *expression);
+    /* a list has addresses of its module */
+    if (dwexpr_libdw_find_module(frame, attribute->cu, &module, &bias) && dwarf_formblock(attribute, &block))
+        return DWEXPR_LIBDW_WANTS + DWEXPR_WANTS_RELOCATED;
+    return dwexpr_libdw_expression(attribute, frame->place.address + frame->place.bias - bias, expression);
+}
+
+/* The number that an attribute's expression comes to. */
+static uint32_t attribute_number(enum purpose purpose, const struct dwexpr_libdw_given *given,
+                                 Dwarf_Attribute *attribute, uint32_t *left, uint64_t *number)
+{
+    dwexpr_libdw_text expression;
+    uint32_t code = expression_in(given->frame, attribute, &expression);
+    if (!code)
+        code = expression_number(purpose, given, &expression, left, number);
+    dwexpr_libdw_free_text(&expression);
+    return code;
+}
+
+static uint32_t find_base(dwexpr_libdw_frame *frame, uint32_t *left)
+{
+    const struct dwexpr_libdw_given given = {frame, NULL, NULL, 0};
+    Dwarf_Attribute attribute;
+    uint32_t code;
+    if (frame->has_base)
+        return 0;
+    dwexpr_libdw_find_place(frame);
+    if (!frame->place.function.addr ||
+        !dwarf_attr_integrate(&frame->place.function, DW_AT_frame_base, &attribute))
+        return DWEXPR_LIBDW_OPTIMIZED_AWAY;
+    code = attribute_number(FOR_BASE, &given, &attribute, left, &frame->base);
+    frame->has_base = !code;
+    return code;
+}
+
 static uint32_t find_cfa(dwexpr_libdw_frame *frame, uint32_t *left)
 {
-    const struct dwexpr_libdw_given given = {frame, NULL, NULL};
+    const struct dwexpr_libdw_given given = {frame, NULL, NULL, 0};
+    Dwarf_Frame *state;
+    Elf *elf;
     dwexpr_libdw_text rule;
     uint32_t code;
     if (frame->has_cfa)
         return 0;
-    code = find_rule(frame, DWEXPR_LIBDW_CFA, &rule);
+    if (dwexpr_libdw_find_state(frame, &state, &elf))
+        return DWEXPR_LIBDW_NO_UNIT;
+    code = dwexpr_libdw_rule(state, elf, DWEXPR_LIBDW_CFA, &rule);
+    free(state);
     if (!code)
         code = expression_number(FOR_CFA, &given, &rule, left, &frame->cfa);
     frame->has_cfa = !code;
@@ -137,19 +141,6 @@ static int entry_of(Dwarf_Attribute *unit, uint8_t opcode, uint64_t offset, Dwar
 {
     Dwarf_Op operation = {opcode, offset, 0, 0};
     return !unit->cu || dwarf_getlocation_die(unit, &operation, entry);
-}
-
-/* The expression of an attribute at a frame's address, in the addresses of the attribute's module. */
-static uint32_t expression_in(dwexpr_libdw_frame *frame, Dwarf_Attribute *attribute, dwexpr_libdw_text *expression)
-{
-    Dwfl_Module *module;
-    Dwarf_Addr bias;
-    Dwarf_Block block;
-    memset(expression, 0, sizeof *expression);
-    /* a list has addresses of its module */
-    if (dwexpr_libdw_find_module(frame, attribute->cu, &module, &bias) && dwarf_formblock(attribute, &block))
-        return DWEXPR_LIBDW_WANTS + DWEXPR_WANTS_RELOCATED;
-    return dwexpr_libdw_expression(attribute, frame->place.address + frame->place.bias - bias, expression);
 }
 
 static int has_bytes(dwexpr_text text, const uint8_t *bytes, size_t length)
@@ -170,7 +161,7 @@ static uint32_t location_of(struct job *job, size_t *index)
     if (entry_of(&job->unit, asked->flag ? DW_OP_call_ref : DW_OP_call4, asked->number, &entry))
         return DWEXPR_LIBDW_FAILED;
     if (dwarf_attr_integrate(&entry, DW_AT_location, &attribute))
-        code = expression_in(job->frame, &attribute, &called);
+        code = expression_in(job->question.frame, &attribute, &called);
     if (code && code != DWEXPR_LIBDW_OPTIMIZED_AWAY)
         return code;
     /* a second call of the same entry is a call of the same text */
@@ -185,29 +176,10 @@ static uint32_t location_of(struct job *job, size_t *index)
     return i < TEXTS ? 0 : DWEXPR_TOO_MANY_TEXTS;
 }
 
-/* Makes an address in the debug information one of the process. */
-static int relocate(struct job *job, uint64_t *address)
-{
-    Dwfl_Module *module;
-    Dwarf_Addr bias = 0;
-    const int failed = dwexpr_libdw_find_module(job->frame, job->unit.cu, &module, &bias);
-    *address += bias;
-    return failed;
-}
-
 static int find_tls(const dwexpr_libdw_frame *frame, Dwfl_Module *module, uint64_t offset, uint64_t *address)
 {
     const dwexpr_libdw_source *source = &frame->source;
     return !module || !source->find_tls || source->find_tls(source->context, module, offset, address);
-}
-
-/* The address of an offset in the thread-local storage of the expression's module. */
-static int thread_local_address(struct job *job, uint64_t *address)
-{
-    Dwfl_Module *module;
-    Dwarf_Addr bias;
-    return dwexpr_libdw_find_module(job->frame, job->unit.cu, &module, &bias) ||
-           find_tls(job->frame, module, job->value->outcome.number, address);
 }
 
 static int indexed_address(struct job *job, uint64_t *address)
@@ -215,7 +187,7 @@ static int indexed_address(struct job *job, uint64_t *address)
     Dwarf_Op operation = {DW_OP_addrx, job->value->outcome.number, 0, 0};
     Dwarf_Attribute attribute;
     return !job->unit.cu || dwarf_getlocation_attr(&job->unit, &operation, &attribute) ||
-           dwarf_formaddr(&attribute, address) || (job->value->outcome.flag && relocate(job, address));
+           dwarf_formaddr(&attribute, address);
 }
 
 /* Whether an expression has no operations but of these kinds. */
@@ -268,10 +240,8 @@ static int base_type_of(struct job *job, uint64_t offset, uint32_t *value_type)
 
 static void end_job(struct job *job)
 {
-    if (job) {
+    if (job)
         dwexpr_libdw_release(job->value);
-        free(job->between);
-    }
     free(job);
 }
 
@@ -292,7 +262,9 @@ static uint32_t make_job(enum purpose purpose, dwexpr_libdw_frame *frame, const 
         return DWEXPR_LIBDW_NO_MEMORY;
     }
     job->purpose = purpose;
-    job->frame = frame;
+    job->left = left;
+    job->question.frame = frame;
+    job->question.encoding = expression->encoding;
     job->unit.cu = expression->unit;
     job->value->unit = expression->unit;
     job->value->frame = frame;
@@ -316,7 +288,7 @@ static uint32_t start(struct job *job, const struct dwexpr_libdw_given *given)
     if (!value->texts[0].length)
         return DWEXPR_LIBDW_OPTIMIZED_AWAY;
     /* it has the bias of addresses */
-    dwexpr_libdw_find_place(job->frame);
+    dwexpr_libdw_find_place(job->question.frame);
     return dwexpr_evaluation_evaluate(&job->evaluation, value->texts, 1, value->encoding, &settings, &value->outcome,
                                       value->pieces, DWEXPR_MAX_PIECES);
 }
@@ -338,78 +310,30 @@ static uint32_t refused(const struct job *job, uint32_t why)
 
 /* ---- values on entry */
 
-/* Makes the job that evaluates an attribute in the caller. The first job waits for its number. */
-static uint32_t ask_caller(struct job *job, Dwarf_Attribute *attribute, uint32_t *left, struct job **next)
+/* Makes the job that evaluates an attribute for a question, if it is found. The first job waits for its number. */
+static uint32_t ask(struct job *job, int is_found, Dwarf_Attribute *attribute)
 {
-    dwexpr_libdw_frame *caller = job->between ? job->between : job->frame->source.caller;
-    dwexpr_libdw_text expression;
-    uint32_t code = expression_in(caller, attribute, &expression);
+    dwexpr_libdw_text expression = {.memory = NULL};
+    uint32_t code = is_found ? expression_in(job->question.asked, attribute, &expression) : DWEXPR_LIBDW_NO_NUMBER;
     if (!code)
-        code = make_job(FOR_VALUE, caller, &expression, left, next);
+        code = make_job(FOR_VALUE, job->question.asked, &expression, job->left, &job->asks);
     if (code) {
         dwexpr_libdw_free_text(&expression);
         return refused(job, code);
     }
-    dwexpr_libdw_keep(&expression, &(*next)->value->memory);
-    (*next)->waits = job;
+    dwexpr_libdw_keep(&expression, &job->asks->value->memory);
+    job->asks->waits = job;
     return 0;
 }
 
-static uint32_t ask_passed(struct job *job, uint32_t *left, struct job **next)
-{
-    Dwarf_Attribute attribute;
-    if (!dwexpr_libdw_passed(&job->site, job->place, job->value->encoding, job->entry.addr ? &job->entry : NULL,
-                             &attribute))
-        return refused(job, 0);
-    return ask_caller(job, &attribute, left, next);
-}
-
-/* The caller called another function, at `address`, which then left for this one by a tail call. Asks for what that
- * function passed. Its own values are those that it had on entry. */
-static uint32_t ask_between(struct job *job, uint64_t address, uint32_t *left, struct job **next)
-{
-    job->between = (dwexpr_libdw_frame *)malloc(sizeof *job->between);
-    if (!job->between)
-        return DWEXPR_LIBDW_NO_MEMORY;
-    if (!dwexpr_libdw_enter(job->frame->source.caller, address, job->between))
-        return refused(job, 0);
-    job->between->source.caller = job->frame->source.caller;
-    if (!dwexpr_libdw_find_tail_call(job->between, job->frame, &job->site))
-        return refused(job, 0);
-    return ask_passed(job, left, next);
-}
-
-/* Asks for what the caller passed. If its call site computes the function's address, that is asked for first. */
-static uint32_t ask_call_site(struct job *job, uint32_t *left, struct job **next)
-{
-    Dwarf_Attribute attribute;
-    uint64_t address;
-    int is_named;
-    free(job->between);
-    job->between = NULL;
-    if (!dwexpr_libdw_find_call_site(job->frame, &job->site) || dwexpr_libdw_may_call_itself(job->frame))
-        return refused(job, 0);
-    is_named = dwexpr_libdw_names(&job->site, job->frame->source.caller, job->frame, &address);
-    if (is_named > 0)
-        return ask_passed(job, left, next);
-    if (is_named == 0)
-        return ask_between(job, address, left, next);
-    if (!dwexpr_libdw_call_target(&job->site, &attribute))
-        return refused(job, 0);
-    job->waits_for_target = 1;
-    return ask_caller(job, &attribute, left, next);
-}
-
 /* Goes on with a job that has waited for this number. */
-static uint32_t take(struct job *job, uint64_t number, uint32_t *left, struct job **next)
+static uint32_t take(struct job *job, uint64_t number)
 {
-    if (!job->waits_for_target) {
-        job->answer.number = number;
-        return resume(job);
-    }
-    job->waits_for_target = 0;
-    return dwexpr_libdw_entry_of(job->frame) == number ? ask_passed(job, left, next)
-                                                       : ask_between(job, number, left, next);
+    Dwarf_Attribute attribute;
+    if (job->question.waits_for_target)
+        return ask(job, dwexpr_libdw_ask_target(&job->question, number, &attribute), &attribute);
+    job->answer.number = number;
+    return resume(job);
 }
 
 /* ---- requests */
@@ -432,10 +356,14 @@ static const struct {
 };
 
 /* Answers what a job asks for and goes on with it, or makes the job for which it has to wait. */
-static uint32_t answer(struct job *job, uint32_t *left, struct job **next)
+static uint32_t answer(struct job *job)
 {
     const dwexpr_outcome *asked = &job->value->outcome;
+    dwexpr_libdw_frame *frame = job->question.frame;
+    Dwarf_Attribute attribute;
     dwexpr_answer *answer = &job->answer;
+    Dwfl_Module *module;
+    Dwarf_Addr bias = 0;
     int failed = 0;
     uint32_t why = 0;
     if (asked->request > DWEXPR_WANTS_BASE_TYPE || job->purpose > requests[asked->request].last_purpose)
@@ -448,58 +376,65 @@ static uint32_t answer(struct job *job, uint32_t *left, struct job **next)
     switch (asked->request) {
     case DWEXPR_WANTS_MEMORY: why = memory_number(job, &answer->number); break;
     case DWEXPR_WANTS_REGISTER:
-        why = register_number(job->frame, asked->register_number, job->value->encoding.big_endian, &answer->number);
+        why = register_number(frame, asked->register_number, job->value->encoding.big_endian, &answer->number);
         break;
     case DWEXPR_WANTS_FRAME_BASE:
-        why = find_base(job->frame, left);
-        answer->number = job->frame->base;
+        why = find_base(frame, job->left);
+        answer->number = frame->base;
         break;
     case DWEXPR_WANTS_CFA:
-        why = find_cfa(job->frame, left);
-        answer->number = job->frame->cfa;
+        why = find_cfa(frame, job->left);
+        answer->number = frame->cfa;
         break;
-    case DWEXPR_WANTS_TLS: failed = thread_local_address(job, &answer->number); break;
+    case DWEXPR_WANTS_TLS:
+        failed = dwexpr_libdw_find_module(frame, job->unit.cu, &module, &bias) ||
+                 find_tls(frame, module, asked->number, &answer->number);
+        break;
     case DWEXPR_WANTS_LOCATION: why = location_of(job, &answer->text); break;
     case DWEXPR_WANTS_RELOCATED:
-        answer->number = asked->number;
-        failed = relocate(job, &answer->number);
+        failed = dwexpr_libdw_find_module(frame, job->unit.cu, &module, &bias);
+        answer->number = asked->number + bias;
         break;
-    case DWEXPR_WANTS_INDEXED: failed = indexed_address(job, &answer->number); break;
+    case DWEXPR_WANTS_INDEXED:
+        failed = indexed_address(job, &answer->number) ||
+                 (asked->flag && dwexpr_libdw_find_module(frame, job->unit.cu, &module, &bias));
+        answer->number += bias;
+        break;
     case DWEXPR_WANTS_ENTRY_VALUE:
-        job->place = dwexpr_outcome_block(asked, job->value->texts, job->value->texts_length);
-        job->entry.addr = NULL;
-        return ask_call_site(job, left, next);
+        job->question.place = dwexpr_outcome_block(asked, job->value->texts, job->value->texts_length);
+        job->question.entry.addr = NULL;
+        return ask(job, dwexpr_libdw_ask(&job->question, &attribute), &attribute);
     case DWEXPR_WANTS_PARAMETER:
-        failed = entry_of(&job->unit, DW_OP_GNU_parameter_ref, asked->number, &job->entry);
-        return failed ? refused(job, 0) : ask_call_site(job, left, next);
+        failed = entry_of(&job->unit, DW_OP_GNU_parameter_ref, asked->number, &job->question.entry);
+        return ask(job, !failed && dwexpr_libdw_ask(&job->question, &attribute), &attribute);
     default: break; /* a base type */
     }
     return failed || why ? refused(job, why) : resume(job);
 }
 
 /* Evaluates the first job, and all for which it waits. */
-static uint32_t run(struct job *first, const struct dwexpr_libdw_given *given, uint32_t *left)
+static uint32_t run(struct job *first, const struct dwexpr_libdw_given *given)
 {
-    static const struct dwexpr_libdw_given nothing = {NULL, NULL, NULL};
+    static const struct dwexpr_libdw_given nothing = {NULL, NULL, NULL, 0};
     struct job *job = first;
     uint32_t code = start(first, given);
     for (;;) {
-        struct job *next = NULL;
         if (!code && job->value->outcome.request != DWEXPR_COMPLETE) {
-            code = answer(job, left, &next);
+            code = answer(job);
         } else if (job == first) {
             return code;
         } else {
             struct job *waits = job->waits;
             uint64_t number = 0;
             if (!code)
-                code = number_of_value(job->frame, job->value, &number);
+                code = number_of_value(job->question.frame, job->value, &number);
             end_job(job);
             job = waits;
-            code = code ? refused(job, code) : take(job, number, left, &next);
+            job->asks = NULL;
+            code = code ? refused(job, code) : take(job, number);
         }
-        if (next) {
-            job = next;
+        if (job->asks) {
+            job = job->asks;
             code = start(job, &nothing);
         }
     }
@@ -513,22 +448,10 @@ static uint32_t evaluate_for(enum purpose purpose, const struct dwexpr_libdw_giv
     *value = NULL;
     if (code)
         return code;
-    code = run(job, given, left);
+    code = run(job, given);
     *value = job->value;
     job->value = NULL;
     end_job(job);
-    return code;
-}
-
-/* The number that an attribute's expression comes to. */
-static uint32_t attribute_number(enum purpose purpose, const struct dwexpr_libdw_given *given,
-                                 Dwarf_Attribute *attribute, uint32_t *left, uint64_t *number)
-{
-    dwexpr_libdw_text expression;
-    uint32_t code = expression_in(given->frame, attribute, &expression);
-    if (!code)
-        code = expression_number(purpose, given, &expression, left, number);
-    dwexpr_libdw_free_text(&expression);
     return code;
 }
 
@@ -545,7 +468,7 @@ uint32_t dwexpr_libdw_evaluate(dwexpr_libdw_frame *frame, const dwexpr_libdw_tex
                                const uint64_t *initial, dwexpr_libdw_value **value)
 {
     const int takes_cfa = expression->on_cfa && !initial;
-    const struct dwexpr_libdw_given given = {frame, object, takes_cfa ? &frame->cfa : initial};
+    const struct dwexpr_libdw_given given = {frame, object, takes_cfa ? &frame->cfa : initial, 0};
     uint32_t left = frame->limit;
     left += left < UINT32_MAX;
     *value = NULL;
@@ -560,7 +483,7 @@ uint32_t dwexpr_libdw_evaluate(dwexpr_libdw_frame *frame, const dwexpr_libdw_tex
  * that function. GCC writes a link also if no caller sets it. NULL if it isn't known. */
 static dwexpr_libdw_frame *enclosing_frame(dwexpr_libdw_frame *inner, const Dwarf_Die *function)
 {
-    const struct dwexpr_libdw_given given = {inner, NULL, NULL};
+    const struct dwexpr_libdw_given given = {inner, NULL, NULL, 0};
     Dwarf_Attribute attribute;
     dwexpr_libdw_frame *frame, *found = NULL;
     uint32_t left = inner->limit;
@@ -581,46 +504,18 @@ static dwexpr_libdw_frame *enclosing_frame(dwexpr_libdw_frame *inner, const Dwar
     return count == 1 ? found : NULL;
 }
 
-/* Finds the frame of a function that encloses the frame's, through all that stand between them. */
-static uint32_t go_out(dwexpr_libdw_frame *frame, const Dwarf_Die *function, dwexpr_libdw_frame **owner)
-{
-    struct dwexpr_libdw_walk walk;
-    dwexpr_libdw_find_path(&walk, &frame->place.unit, &frame->place.function);
-    while (frame && frame->place.function.addr != function->addr && walk.path.length > 1) {
-        walk.path.length--;
-        if (dwarf_tag(dwexpr_libdw_here(&walk)) == DW_TAG_subprogram)
-            frame = enclosing_frame(frame, dwexpr_libdw_here(&walk));
-    }
-    free(walk.path.items);
-    *owner = frame;
-    if (walk.code)
-        return walk.code;
-    return frame && frame->place.function.addr == function->addr ? 0 : DWEXPR_LIBDW_OTHER_FUNCTION;
-}
-
-/* The innermost function in which an entry stands; its `addr` is NULL if there is none. */
-static uint32_t function_of(const Dwarf_Die *first, const Dwarf_Die *entry, Dwarf_Die *function)
-{
-    struct dwexpr_libdw_walk walk;
-    dwexpr_libdw_find_path(&walk, first, entry);
-    *function = dwexpr_libdw_innermost_function(&walk);
-    free(walk.path.items);
-    return walk.code;
-}
-
-/* The frame in which a variable's location is evaluated: that of the function in which it stands. */
+/* The frame in which a variable's location is evaluated: that of the function in which it stands, through all those
+ * between them. */
 static uint32_t find_owner(dwexpr_libdw_frame *frame, Dwarf_Die *variable, dwexpr_libdw_frame **owner)
 {
-    Dwarf_Die unit, function = {.addr = NULL}, *own = &frame->place.function;
-    uint32_t code = 0;
+    Dwarf_Die unit, outer, function = dwexpr_libdw_function_around(&frame->place.function, variable);
+    if (!function.addr)
+        function = dwexpr_libdw_function_around(dwarf_diecu(variable, &unit, NULL, NULL), variable);
+    for (; frame && function.addr && frame->place.function.addr != function.addr;
+         frame = outer.addr ? enclosing_frame(frame, &outer) : NULL)
+        outer = dwexpr_libdw_function_around(&frame->place.unit, &frame->place.function);
     *owner = frame;
-    if (own->addr && own->cu == variable->cu)
-        code = function_of(own, variable, &function);
-    if (!code && !function.addr)
-        code = function_of(dwarf_diecu(variable, &unit, NULL, NULL), variable, &function);
-    if (code || !function.addr || function.addr == own->addr)
-        return code;
-    return own->addr ? go_out(frame, &function, owner) : DWEXPR_LIBDW_OTHER_FUNCTION;
+    return frame ? 0 : DWEXPR_LIBDW_OTHER_FUNCTION;
 }
 
 /* Whether a location is the same in each frame. */
@@ -664,24 +559,18 @@ static void hold_bytes(dwexpr_libdw_value *value, const uint8_t *bytes, size_t l
 }
 
 /* Makes the one piece of a value a number, of more than 64 bits if its type has more. */
-static uint32_t hold_number(dwexpr_libdw_frame *frame, Dwarf_Die *variable, Dwarf_Attribute *attribute, uint64_t number,
-                            dwexpr_libdw_value *value)
+static uint32_t hold_number(Dwarf_Die *variable, Dwarf_Attribute *attribute, uint64_t number, dwexpr_libdw_value *value)
 {
     const unsigned form = dwarf_whatform(attribute);
     const int big_endian = value->encoding.big_endian;
-    Dwarf_Attribute encoding;
     Dwarf_Die type;
-    Dwarf_Word kind = 0;
-    uint64_t size = 0;
+    Dwarf_Word size, kind;
     uint8_t *bytes;
-    if (!dwexpr_libdw_type(variable, &type)) {
-        dwexpr_libdw_size(frame, &type, NULL, &size);
-        dwarf_formudata(dwarf_attr_integrate(&type, DW_AT_encoding, &encoding), &kind);
-    }
     value->pieces[0].kind = DWEXPR_HOLDS_VALUE;
     value->pieces[0].value_type = DWEXPR_U64;
     value->pieces[0].number = number;
-    if (size <= 8 || size > DWEXPR_LIBDW_REGISTER_SIZE)
+    if (dwexpr_libdw_type(variable, &type) || dwexpr_libdw_scalar(&type, &size, &kind) || size <= 8 ||
+        size > DWEXPR_LIBDW_REGISTER_SIZE)
         return 0;
     bytes = dwexpr_libdw_take(&value->memory, (size_t)size);
     if (!bytes)
@@ -694,22 +583,18 @@ static uint32_t hold_number(dwexpr_libdw_frame *frame, Dwarf_Die *variable, Dwar
 }
 
 /* The value of DW_AT_const_value. */
-static uint32_t constant(dwexpr_libdw_frame *frame, Dwarf_Die *variable, Dwarf_Attribute *attribute,
-                         dwexpr_libdw_value *value)
+static uint32_t constant(Dwarf_Die *variable, Dwarf_Attribute *attribute, dwexpr_libdw_value *value)
 {
-    const char *string;
+    const char *string = dwarf_formstring(attribute);
     Dwarf_Block block;
     Dwarf_Word number;
-    if (!dwarf_formblock(attribute, &block)) {
+    if (string)
+        hold_bytes(value, (const uint8_t *)string, strlen(string) + 1);
+    else if (!dwarf_formblock(attribute, &block))
         hold_bytes(value, block.data, (size_t)block.length);
-        return 0;
-    }
-    if (!dwarf_formudata(attribute, &number))
-        return hold_number(frame, variable, attribute, number, value);
-    string = dwarf_formstring(attribute);
-    if (!string)
-        return DWEXPR_LIBDW_FAILED;
-    hold_bytes(value, (const uint8_t *)string, strlen(string) + 1);
+    else
+        return dwarf_formudata(attribute, &number) ? DWEXPR_LIBDW_FAILED
+                                                   : hold_number(variable, attribute, number, value);
     return 0;
 }
 
@@ -758,7 +643,7 @@ uint32_t dwexpr_libdw_variable(dwexpr_libdw_frame *frame, Dwarf_Die *variable, d
         return code;
     if (dwarf_attr_integrate(variable, DW_AT_const_value, &attribute)) {
         code = make_value(frame, attribute.cu, 0, value);
-        return code ? code : constant(frame, variable, &attribute, *value);
+        return code ? code : constant(variable, &attribute, *value);
     }
     if (!dwarf_attr_integrate(variable, DW_AT_location, &attribute))
         return dwarf_hasattr(variable, DW_AT_declaration) ? named(frame, variable, 1, value)
@@ -782,32 +667,30 @@ uint32_t dwexpr_libdw_variable(dwexpr_libdw_frame *frame, Dwarf_Die *variable, d
 uint32_t dwexpr_libdw_on_entry(dwexpr_libdw_frame *frame, Dwarf_Die *parameter, dwexpr_libdw_value **value)
 {
     Dwarf_Attribute attribute;
-    dwexpr_libdw_text place, expression;
-    uint8_t bytes[32];
+    dwexpr_libdw_text expression;
+    uint8_t bytes[32] = {DW_OP_entry_value};
+    size_t length;
     uint32_t code = dwexpr_libdw_find_place(frame);
     *value = NULL;
     if (code)
         return code;
     if (!frame->place.function.addr || !dwarf_attr_integrate(parameter, DW_AT_location, &attribute))
         return DWEXPR_LIBDW_OPTIMIZED_AWAY;
-    code = dwexpr_libdw_expression(&attribute, dwexpr_libdw_entry_of(frame) - frame->place.bias, &place);
-    if (!code && place.text.length > sizeof bytes - 3)
+    code = dwexpr_libdw_expression(&attribute, dwexpr_libdw_entry_of(frame) - frame->place.bias, &expression);
+    length = expression.text.length;
+    if (!code && length > sizeof bytes - 3)
         code = DWEXPR_LIBDW_NOT_ENCODABLE;
     if (!code) {
-        expression = place;
-        expression.memory = NULL;
-        expression.text.bytes = bytes;
-        expression.text.length = place.text.length + 3;
-        bytes[0] = DW_OP_entry_value;
-        bytes[1] = (uint8_t)place.text.length;
-        memcpy(bytes + 2, place.text.bytes, place.text.length);
-        bytes[2 + place.text.length] = DW_OP_stack_value;
+        bytes[1] = (uint8_t)length;
+        memcpy(bytes + 2, expression.text.bytes, length);
+        bytes[2 + length] = DW_OP_stack_value;
+        expression.text = (dwexpr_text){bytes, length + 3};
         code = dwexpr_libdw_evaluate(frame, &expression, NULL, NULL, value);
         /* its piece is a number; the bytes end with this call */
         if (*value)
             (*value)->texts_length = 0;
     }
-    dwexpr_libdw_free_text(&place);
+    dwexpr_libdw_free_text(&expression);
     return code;
 }
 
@@ -819,32 +702,33 @@ uint32_t dwexpr_libdw_points_into(const dwexpr_libdw_value *value, const dwexpr_
                : 0;
 }
 
-/* The value of a member of an object, in whole bytes at a place that is a number: a discriminant in Ada. */
-static uint32_t member_value(dwexpr_libdw_frame *frame, Dwarf_Die *member, const uint64_t *object,
-                             dwexpr_libdw_value **value)
-{
-    Dwarf_Attribute attribute;
-    Dwarf_Word place;
-    *value = NULL;
-    if (!object || dwarf_hasattr(member, DW_AT_bit_size) || dwarf_hasattr(member, DW_AT_data_bit_offset) ||
-        dwarf_formudata(dwarf_attr(member, DW_AT_data_member_location, &attribute), &place))
-        return DWEXPR_LIBDW_NO_NUMBER;
-    return make_value(frame, attribute.cu, *object + place, value);
-}
-
 /* Reads a value of so many bytes as a number. */
-static uint32_t read_number(const dwexpr_libdw_frame *frame, const dwexpr_libdw_value *value, Dwarf_Word size,
-                            int is_signed, uint64_t *number)
+static uint32_t read_number(const dwexpr_libdw_value *value, Dwarf_Word size, int is_signed, uint64_t *number)
 {
     uint8_t bytes[8];
     const unsigned unused = 64 - 8 * (unsigned)size;
     const uint32_t code = !size || size > sizeof bytes ? DWEXPR_LIBDW_NO_NUMBER
-                                                       : dwexpr_libdw_read(frame, value, 8 * size, bytes, NULL);
+                                                       : dwexpr_libdw_read(value->frame, value, 8 * size, bytes, NULL);
     if (code)
         return code;
     *number = dwexpr_libdw_number_of(bytes, (size_t)size, value->encoding.big_endian) << unused;
     *number = is_signed ? (uint64_t)((int64_t)*number >> unused) : *number >> unused;
     return 0;
+}
+
+/* The value of a variable, or of a member of an object, in whole bytes at a place that is a number: a discriminant in
+ * Ada. */
+static uint32_t value_of(const struct dwexpr_libdw_given *given, Dwarf_Die *variable, dwexpr_libdw_value **value)
+{
+    Dwarf_Attribute attribute;
+    Dwarf_Word place;
+    *value = NULL;
+    if (dwarf_tag(variable) != DW_TAG_member)
+        return dwexpr_libdw_variable(given->frame, variable, value);
+    if (!given->object || dwarf_hasattr(variable, DW_AT_bit_size) || dwarf_hasattr(variable, DW_AT_data_bit_offset) ||
+        dwarf_formudata(dwarf_attr(variable, DW_AT_data_member_location, &attribute), &place))
+        return DWEXPR_LIBDW_NO_NUMBER;
+    return make_value(given->frame, attribute.cu, *given->object + place, value);
 }
 
 /* The number that a variable has, or a member of an object, as a bound of an array. */
@@ -856,11 +740,9 @@ static uint32_t variable_number(const struct dwexpr_libdw_given *given, Dwarf_Di
     uint32_t code;
     if (dwexpr_libdw_type(variable, &type) || dwexpr_libdw_scalar(&type, &size, &encoding))
         return DWEXPR_LIBDW_NO_NUMBER;
-    code = dwarf_tag(variable) == DW_TAG_member ? member_value(given->frame, variable, given->object, &value)
-                                                : dwexpr_libdw_variable(given->frame, variable, &value);
+    code = value_of(given, variable, &value);
     if (!code)
-        code = read_number(given->frame, value, size, encoding == DW_ATE_signed || encoding == DW_ATE_signed_char,
-                           number);
+        code = read_number(value, size, encoding == DW_ATE_signed || encoding == DW_ATE_signed_char, number);
     dwexpr_libdw_release(value);
     return code;
 }
@@ -875,14 +757,18 @@ static int is_location(Dwarf_Attribute *attribute)
 
 uint32_t dwexpr_libdw_number_with(const struct dwexpr_libdw_given *given, Dwarf_Attribute *attribute, uint64_t *number)
 {
+    const unsigned name = dwarf_whatattr(attribute);
+    struct dwexpr_libdw_given own = *given;
     uint32_t left = given->frame->limit, code = dwexpr_libdw_find_place(given->frame);
     Dwarf_Die entry;
     Dwarf_Word found;
     *number = 0;
+    if (name == DW_AT_data_member_location || name == DW_AT_vtable_elem_location)
+        own.initial = given->object;
     if (code == DWEXPR_LIBDW_NO_MEMORY)
         return code;
     if (is_location(attribute))
-        return attribute_number(FOR_VALUE, given, attribute, &left, number);
+        return attribute_number(FOR_VALUE, &own, attribute, &left, number);
     if (dwarf_formref_die(attribute, &entry))
         return variable_number(given, &entry, number);
     if (dwarf_formudata(attribute, &found))
@@ -894,9 +780,7 @@ uint32_t dwexpr_libdw_number_with(const struct dwexpr_libdw_given *given, Dwarf_
 uint32_t dwexpr_libdw_number(dwexpr_libdw_frame *frame, Dwarf_Attribute *attribute, const uint64_t *object,
                              uint64_t *number)
 {
-    const unsigned name = dwarf_whatattr(attribute);
-    const int is_on_object = name == DW_AT_data_member_location || name == DW_AT_vtable_elem_location;
-    const struct dwexpr_libdw_given given = {frame, object, is_on_object ? object : NULL};
+    const struct dwexpr_libdw_given given = {frame, object, NULL, 0};
     return dwexpr_libdw_number_with(&given, attribute, number);
 }
 
@@ -916,48 +800,8 @@ uint32_t dwexpr_libdw_string_length(const struct dwexpr_libdw_given *given, Dwar
     if (dwarf_formudata(dwarf_attr_integrate(type, DW_AT_string_length_byte_size, &size), &count))
         count = place.encoding.address_size;
     if (!code)
-        code = read_number(given->frame, value, count, 0, bytes);
+        code = read_number(value, count, 0, bytes);
     dwexpr_libdw_release(value);
     dwexpr_libdw_free_text(&place);
-    return code;
-}
-
-uint32_t dwexpr_libdw_caller_register(dwexpr_libdw_frame *frame, int register_number, uint8_t *bytes, size_t *size)
-{
-    dwexpr_libdw_text rule;
-    dwexpr_libdw_value *value = NULL;
-    uint32_t code, left = frame->limit;
-    *size = 0;
-    if (register_number == DWEXPR_LIBDW_CFA) {
-        code = find_cfa(frame, &left);
-        if (!code && !(code = find_rule(frame, DWEXPR_LIBDW_CFA, &rule))) {
-            *size = rule.encoding.address_size;
-            dwexpr_libdw_bytes_of(frame->cfa, *size, rule.encoding.big_endian, bytes);
-            dwexpr_libdw_free_text(&rule);
-        }
-        return code;
-    }
-    code = find_rule(frame, register_number, &rule);
-    if (code == DWEXPR_LIBDW_SAME_VALUE)
-        return dwexpr_libdw_register(frame, (uint32_t)register_number, bytes, size);
-    if (!code)
-        code = dwexpr_libdw_evaluate(frame, &rule, NULL, NULL, &value);
-    if (!code && value->outcome.pieces == 1) {
-        dwexpr_piece *piece = &value->pieces[0];
-        if (rule.is_value && piece->kind == DWEXPR_AT_ADDRESS) {
-            piece->kind = DWEXPR_HOLDS_VALUE;
-            piece->value_type = DWEXPR_GENERIC;
-        }
-        if (piece->kind == DWEXPR_IN_REGISTER) {
-            code = dwexpr_libdw_register(frame, (uint32_t)piece->number, bytes, size);
-        } else {
-            *size = rule.encoding.address_size;
-            code = dwexpr_libdw_read(frame, value, 8 * *size, bytes, NULL);
-        }
-    } else if (!code) {
-        code = DWEXPR_LIBDW_NO_NUMBER;
-    }
-    dwexpr_libdw_release(value);
-    dwexpr_libdw_free_text(&rule);
     return code;
 }

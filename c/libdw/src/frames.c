@@ -12,8 +12,6 @@ void dwexpr_libdw_begin_frame(dwexpr_libdw_frame *frame, const dwexpr_libdw_sour
     frame->base = source->frame_base ? *source->frame_base : 0;
     frame->has_cfa = source->cfa != NULL;
     frame->cfa = source->cfa ? *source->cfa : 0;
-    if (source->unit)
-        frame->place.unit = *source->unit;
 }
 
 uint32_t dwexpr_libdw_make_frame(const dwexpr_libdw_source *source, dwexpr_libdw_frame **frame)
@@ -63,10 +61,7 @@ uint64_t dwexpr_libdw_entry_of(const dwexpr_libdw_frame *frame)
 {
     Dwarf_Die function = frame->place.function;
     Dwarf_Addr entry;
-    if (!function.addr)
-        return 0;
-    dwexpr_libdw_has_entry(&function, &entry);
-    return entry + frame->place.bias;
+    return function.addr && dwexpr_libdw_has_entry(&function, &entry) ? entry + frame->place.bias : 0;
 }
 
 /* ---- scopes */
@@ -78,86 +73,33 @@ static int has_code(int tag)
            tag == DW_TAG_try_block || tag == DW_TAG_catch_block || tag == DW_TAG_with_stmt;
 }
 
-static int holds(Dwarf_Die *entry, Dwarf_Addr address)
-{
-    return has_code(dwarf_tag(entry)) && dwarf_haspc(entry, address) > 0;
-}
-
-/* Goes to the function that has the address, and gives back whether there is one. Most functions stand in namespaces
- * and classes. With `anywhere` those are found too that stand in functions which don't have the address. */
-static int go_to_function(struct dwexpr_libdw_walk *walk, Dwarf_Addr address, int anywhere)
-{
-    int enters = 1;
-    while (dwexpr_libdw_next_entry(walk, enters)) {
-        Dwarf_Die *entry = dwexpr_libdw_here(walk);
-        const int tag = dwarf_tag(entry);
-        if (tag == DW_TAG_subprogram && dwarf_haspc(entry, address) > 0)
-            return 1;
-        enters = anywhere || !has_code(tag);
-    }
-    return 0;
-}
-
-/* Goes from a function's entry to the innermost scope that has the address. A block without addresses may hold others
- * with some. */
-static void go_to_innermost(struct dwexpr_libdw_walk *walk, Dwarf_Addr address)
-{
-    int enters = 1;
-    walk->floor = walk->path.length;
-    while (dwexpr_libdw_next_entry(walk, enters)) {
-        Dwarf_Die *entry = dwexpr_libdw_here(walk);
-        enters = holds(entry, address);
-        if (enters)
-            walk->floor = walk->path.length;
-        else
-            enters = dwarf_tag(entry) == DW_TAG_lexical_block && !dwarf_hasattr(entry, DW_AT_low_pc) &&
-                     !dwarf_hasattr(entry, DW_AT_ranges);
-    }
-    walk->path.length = walk->floor;
-}
-
 /* The scopes at an address, from the unit to the innermost: a walk that has gone there. It has one scope if no function
- * has the address. */
+ * has the address. Most functions stand in namespaces and classes; the second time those are found too that stand in
+ * functions which don't have the address. */
 static uint32_t find_scopes(Dwarf_Die *unit, Dwarf_Addr address, struct dwexpr_libdw_walk *walk)
 {
-    int anywhere, found = 0;
+    int times;
     dwexpr_libdw_begin_walk(walk, unit);
-    for (anywhere = 0; !found && anywhere < 2; anywhere++)
-        found = go_to_function(walk, address, anywhere);
-    if (found)
-        go_to_innermost(walk, address);
+    for (times = 0; times < 2 && walk->floor == 1; times++) {
+        int enters = 1;
+        while (dwexpr_libdw_next_entry(walk, enters)) {
+            Dwarf_Die *entry = dwexpr_libdw_here(walk);
+            const int tag = dwarf_tag(entry), is_inside = walk->floor > 1;
+            enters = (is_inside ? has_code(tag) : tag == DW_TAG_subprogram) && dwarf_haspc(entry, address) > 0;
+            if (enters)
+                walk->floor = walk->path.length;
+            else if (is_inside) /* a block without addresses may hold others with some */
+                enters = tag == DW_TAG_lexical_block && !dwarf_hasattr(entry, DW_AT_low_pc) &&
+                         !dwarf_hasattr(entry, DW_AT_ranges);
+            else
+                enters = times > 0 || !has_code(tag);
+        }
+    }
+    walk->path.length = walk->floor;
     return walk->code;
 }
 
 /* ---- the place of a frame */
-
-/* Whether a unit has an address. If the unit has no addresses of its own, or not all of them, as in version 2, those of
- * its functions tell. */
-static int unit_has(Dwarf_Die *unit, Dwarf_Addr address, uint32_t *code)
-{
-    struct dwexpr_libdw_walk walk;
-    Dwarf_Half version = 0;
-    int found = dwarf_haspc(unit, address) > 0;
-    dwarf_cu_info(unit->cu, &version, NULL, NULL, NULL, NULL, NULL, NULL);
-    if (found || (version > 2 && (dwarf_hasattr(unit, DW_AT_low_pc) || dwarf_hasattr(unit, DW_AT_ranges))))
-        return found;
-    *code = find_scopes(unit, address, &walk);
-    free(walk.path.items);
-    return walk.path.length > 1;
-}
-
-/* The unit that has an address: by .debug_aranges, or if that doesn't tell, by each unit's own addresses. */
-static uint32_t find_unit(Dwfl_Module *module, Dwarf_Addr address, Dwarf_Addr *bias, Dwarf_Die **unit)
-{
-    uint32_t code = 0;
-    *unit = dwfl_module_addrdie(module, address, bias);
-    if (*unit && unit_has(*unit, address - *bias, &code))
-        return code;
-    *unit = NULL;
-    while (!code && (*unit = dwfl_module_nextcu(module, *unit, bias)) && !unit_has(*unit, address - *bias, &code))
-        ;
-    return !code && !*unit ? DWEXPR_LIBDW_NO_UNIT : code;
-}
 
 Dwarf_Die dwexpr_libdw_entries(Dwarf_Die *unit)
 {
@@ -177,56 +119,70 @@ static Dwfl_Module *module_of(const dwexpr_libdw_frame *frame)
     return frame->source.dwfl ? dwfl_addrmodule(frame->source.dwfl, address_of(frame)) : NULL;
 }
 
-uint32_t dwexpr_libdw_find_place(dwexpr_libdw_frame *frame)
+/* Takes a unit as that of a frame, and gives back whether it has the address. If the unit has no addresses of its own,
+ * or not all of them, as in version 2, those of its functions tell. */
+static int is_unit_of(dwexpr_libdw_frame *frame, Dwarf_Die *unit)
 {
     dwexpr_libdw_place *place = &frame->place;
     struct dwexpr_libdw_walk walk;
+    const Dwarf_Addr address = address_of(frame) - place->bias;
+    Dwarf_Half version = 0;
+    place->unit = dwexpr_libdw_entries(unit);
+    dwarf_cu_info(unit->cu, &version, NULL, NULL, NULL, NULL, NULL, NULL);
+    if (version > 2 && (dwarf_hasattr(unit, DW_AT_low_pc) || dwarf_hasattr(unit, DW_AT_ranges)) &&
+        dwarf_haspc(unit, address) <= 0)
+        return 0;
+    frame->code = find_scopes(&place->unit, address, &walk);
+    while (!frame->code && walk.path.length > 1 && dwarf_tag(dwexpr_libdw_here(&walk)) != DW_TAG_subprogram)
+        walk.path.length--;
+    if (!frame->code && walk.path.length > 1)
+        place->function = *dwexpr_libdw_here(&walk);
+    free(walk.path.items);
+    return frame->code || place->function.addr || dwarf_haspc(unit, address) > 0;
+}
+
+uint32_t dwexpr_libdw_find_place(dwexpr_libdw_frame *frame)
+{
+    dwexpr_libdw_place *place = &frame->place;
     Dwarf_Die *unit = frame->source.unit;
     if (frame->is_located)
         return frame->code;
     frame->is_located = 1;
-    frame->code = 0;
     place->pc = frame->source.pc;
     place->is_activation = frame->source.is_activation;
     place->bias = frame->source.bias;
     place->module = module_of(frame);
-    if (!unit && frame->source.dwfl)
-        frame->code = find_unit(place->module, address_of(frame), &place->bias, &unit);
+    if (unit) {
+        is_unit_of(frame, unit);
+    } else if (frame->source.dwfl) {
+        /* .debug_aranges may not tell, or tell another one */
+        unit = dwfl_module_addrdie(place->module, address_of(frame), &place->bias);
+        if (!unit || !is_unit_of(frame, unit))
+            for (unit = NULL; (unit = dwfl_module_nextcu(place->module, unit, &place->bias)) != NULL;)
+                if (is_unit_of(frame, unit))
+                    break;
+        if (!unit) {
+            place->unit.addr = NULL;
+            frame->code = DWEXPR_LIBDW_NO_UNIT;
+        }
+    }
     place->address = address_of(frame) - place->bias;
-    if (!unit || frame->code)
-        return frame->code;
-    place->unit = dwexpr_libdw_entries(unit);
-    frame->code = find_scopes(&place->unit, place->address, &walk);
-    if (!frame->code)
-        place->function = dwexpr_libdw_innermost_function(&walk);
-    free(walk.path.items);
     return frame->code;
 }
 
 /* ---- modules */
 
-/* A module that is passed, and the one after it. */
-struct modules {
-    Dwfl_Module *passed, *next;
-};
-
-static int on_module(Dwfl_Module *module, void **data, const char *name, Dwarf_Addr start, void *given)
+static int on_module(Dwfl_Module *module, void **data, const char *name, Dwarf_Addr start, void *found)
 {
-    struct modules *modules = (struct modules *)given;
     (void)data, (void)name, (void)start;
-    if (modules->passed) {
-        modules->passed = modules->passed == module ? NULL : modules->passed;
-        return DWARF_CB_OK;
-    }
-    modules->next = module;
+    *(Dwfl_Module **)found = module;
     return DWARF_CB_ABORT;
 }
 
-Dwfl_Module *dwexpr_libdw_next_module(Dwfl *dwfl, Dwfl_Module *passed)
+ptrdiff_t dwexpr_libdw_next_module(Dwfl *dwfl, ptrdiff_t at, Dwfl_Module **module)
 {
-    struct modules modules = {passed, NULL};
-    dwfl_getmodules(dwfl, on_module, &modules, 0);
-    return modules.next;
+    *module = NULL;
+    return dwfl_getmodules(dwfl, on_module, module, at);
 }
 
 /* Whether debug information belongs to a module; if `is_split`, as a separate file that one of its units names. */
@@ -245,6 +201,7 @@ int dwexpr_libdw_find_module(dwexpr_libdw_frame *frame, Dwarf_CU *unit, Dwfl_Mod
 {
     const Dwarf *wanted = dwarf_cu_getdwarf(unit);
     uint8_t kind = DW_UT_compile;
+    ptrdiff_t at = 0;
     dwexpr_libdw_find_place(frame);
     *module = frame->place.module;
     *bias = frame->place.bias;
@@ -252,20 +209,25 @@ int dwexpr_libdw_find_module(dwexpr_libdw_frame *frame, Dwarf_CU *unit, Dwfl_Mod
         (frame->place.unit.addr && dwarf_cu_getdwarf(frame->place.unit.cu) == wanted))
         return 0;
     dwarf_cu_info(unit, NULL, &kind, NULL, NULL, NULL, NULL, NULL);
-    *module = NULL;
     do
-        *module = dwexpr_libdw_next_module(frame->source.dwfl, *module);
-    while (*module && !is_of(*module, wanted, kind >= DW_UT_split_compile, bias));
-    return !*module;
+        at = dwexpr_libdw_next_module(frame->source.dwfl, at, module);
+    while (at > 0 && !is_of(*module, wanted, kind >= DW_UT_split_compile, bias));
+    return at <= 0;
 }
 
-int dwexpr_libdw_find_state(const dwexpr_libdw_frame *frame, int i, Dwarf_Frame **state, Elf **elf)
+int dwexpr_libdw_find_state(const dwexpr_libdw_frame *frame, Dwarf_Frame **state, Elf **elf)
 {
     Dwfl_Module *module = module_of(frame);
+    const Dwarf_Addr address = address_of(frame);
     Dwarf_Addr bias, bias_of_elf;
-    Dwarf_CFI *table = i ? dwfl_module_dwarf_cfi(module, &bias) : dwfl_module_eh_cfi(module, &bias);
+    Dwarf_CFI *table = dwfl_module_eh_cfi(module, &bias);
+    int failed = !table || dwarf_cfi_addrframe(table, address - bias, state);
+    if (failed) {
+        table = dwfl_module_dwarf_cfi(module, &bias);
+        failed = !table || dwarf_cfi_addrframe(table, address - bias, state);
+    }
     *elf = dwfl_module_getelf(module, &bias_of_elf);
-    return !table || dwarf_cfi_addrframe(table, address_of(frame) - bias, state);
+    return failed;
 }
 
 uint32_t dwexpr_libdw_locate(dwexpr_libdw_frame *frame, dwexpr_libdw_place *place)
@@ -299,12 +261,14 @@ struct found {
     struct dwexpr_libdw_list entries;
     unsigned level;
     int is_enclosing;
+    uint32_t code;
 };
 
-static uint32_t add_entry(struct found *found, const Dwarf_Die *entry)
+static void add_entry(struct found *found, const Dwarf_Die *entry)
 {
     const dwexpr_libdw_entry added = {*entry, found->level, found->is_enclosing};
-    return dwexpr_libdw_add(&found->entries, &added, sizeof added);
+    if (!found->code)
+        found->code = dwexpr_libdw_add(&found->entries, &added, sizeof added);
 }
 
 /* Whether a child of a scope is the instance of an entry. */
@@ -323,54 +287,43 @@ static int has_instance(Dwarf_Die *scope, const Dwarf_Die *entry)
 }
 
 /* Adds the variables that stand in an entry. If `scope` isn't NULL, those with an instance there are left out. */
-static uint32_t add_variables(struct found *found, Dwarf_Die *parent, Dwarf_Die *scope)
+static void add_variables(struct found *found, Dwarf_Die *parent, Dwarf_Die *scope)
 {
     Dwarf_Die entry;
-    uint32_t code = 0;
     int more;
-    for (more = dwarf_child(parent, &entry); more == 0 && !code; more = dwarf_siblingof(&entry, &entry)) {
+    for (more = dwarf_child(parent, &entry); more == 0 && !found->code; more = dwarf_siblingof(&entry, &entry)) {
         const int tag = dwarf_tag(&entry);
         if (tag == DW_TAG_common_block && dwarf_tag(parent) != DW_TAG_common_block)
-            code = add_variables(found, &entry, scope);
+            add_variables(found, &entry, scope);
         else if ((tag == DW_TAG_variable || tag == DW_TAG_formal_parameter || tag == DW_TAG_constant) &&
                  !(scope && has_instance(scope, &entry)))
-            code = add_entry(found, &entry);
+            add_entry(found, &entry);
     }
-    return code;
-}
-
-/* Adds the function that ends a level, and the variables of its scopes, innermost first. If a scope is an instance of
- * another entry, what only that entry has is added too. */
-static uint32_t add_level(struct found *found, Dwarf_Die *scopes, size_t count)
-{
-    uint32_t code = add_entry(found, &scopes[count - 1]);
-    size_t i;
-    for (i = 0; i < count && !code; i++) {
-        Dwarf_Attribute attribute;
-        Dwarf_Die origin;
-        code = add_variables(found, &scopes[i], NULL);
-        if (!code && dwarf_formref_die(dwarf_attr(&scopes[i], DW_AT_abstract_origin, &attribute), &origin))
-            code = add_variables(found, &origin, &scopes[i]);
-    }
-    return code;
 }
 
 uint32_t dwexpr_libdw_variables(dwexpr_libdw_frame *frame, dwexpr_libdw_entry **entries, size_t *count)
 {
     struct found found = {.level = 0};
-    Dwarf_Die *scopes;
-    size_t i, begin = 0, length;
-    uint32_t code = dwexpr_libdw_scopes(frame, &scopes, &length);
-    for (i = 0; !code && i < length; i++) {
-        const int tag = dwarf_tag(&scopes[i]);
+    Dwarf_Die *scopes, *scope, *function;
+    size_t length;
+    found.code = dwexpr_libdw_scopes(frame, &scopes, &length);
+    for (scope = function = scopes; function < scopes + length; function++) {
+        const int tag = dwarf_tag(function);
         if (tag != DW_TAG_subprogram && tag != DW_TAG_inlined_subroutine)
             continue;
-        code = add_level(&found, &scopes[begin], i + 1 - begin);
-        begin = i + 1;
+        add_entry(&found, function);
+        for (; scope <= function; scope++) {
+            Dwarf_Attribute attribute;
+            Dwarf_Die origin;
+            add_variables(&found, scope, NULL);
+            /* what only the entry has of which this one is an instance */
+            if (dwarf_formref_die(dwarf_attr(scope, DW_AT_abstract_origin, &attribute), &origin))
+                add_variables(&found, &origin, scope);
+        }
         found.level++;
         found.is_enclosing |= tag == DW_TAG_subprogram;
     }
     free(scopes);
-    *entries = dwexpr_libdw_give(code, &found.entries, count);
-    return code;
+    *entries = dwexpr_libdw_give(found.code, &found.entries, count);
+    return found.code;
 }

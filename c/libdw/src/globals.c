@@ -1,36 +1,64 @@
 /* What is looked for by its name: variables of modules, symbols, and the definitions of what is only declared. */
 #include "private.h"
 
-/* Looks at a unit. Gives back whether the search ends there. */
-typedef int unit_search(Dwarf_Die *unit, void *given);
+/* A search through units. */
+struct search {
+    /* looks at the entry where a walk is, and gives back whether to look at its children too */
+    int (*visit)(struct search *search, const struct dwexpr_libdw_walk *walk);
+    const char *name;              /* of a variable; NULL for all */
+    struct dwexpr_libdw_walk type; /* the path to a declaration of a type */
+    struct dwexpr_libdw_list found;
+    int ends;
+    uint32_t code;
+};
 
-static int search_module(Dwfl_Module *module, const void *passed, unit_search *on_unit, void *given)
+static void add_found(struct search *search, const Dwarf_Die *entry)
+{
+    search->code = dwexpr_libdw_add(&search->found, entry, sizeof *entry);
+    search->ends |= search->code != 0;
+}
+
+static void search_unit(struct search *search, const Dwarf_Die *unit)
+{
+    struct dwexpr_libdw_walk walk;
+    int enters = 1;
+    dwexpr_libdw_begin_walk(&walk, unit);
+    while (!search->ends && dwexpr_libdw_next_entry(&walk, enters))
+        enters = search->visit(search, &walk);
+    free(walk.path.items);
+    if (walk.code)
+        search->code = walk.code;
+    search->ends |= walk.code != 0;
+}
+
+static void search_module(struct search *search, Dwfl_Module *module, const void *passed)
 {
     Dwarf_Die *unit = NULL;
     Dwarf_Addr bias;
-    while ((unit = dwfl_module_nextcu(module, unit, &bias)) != NULL) {
-        Dwarf_Die entries = dwexpr_libdw_entries(unit);
-        if (entries.addr != passed && on_unit(&entries, given))
-            return 1;
+    while (!search->ends && (unit = dwfl_module_nextcu(module, unit, &bias)) != NULL) {
+        const Dwarf_Die entries = dwexpr_libdw_entries(unit);
+        if (entries.addr != passed)
+            search_unit(search, &entries);
     }
-    return 0;
 }
 
 /* Searches the units of a module; or of all if that is NULL, the frame's unit first, and then its module. */
-static void search_units(dwexpr_libdw_frame *frame, Dwfl_Module *module, unit_search *on_unit, void *given)
+static void search_units(struct search *search, dwexpr_libdw_frame *frame, Dwfl_Module *module)
 {
-    Dwarf_Die *first = &frame->place.unit;
-    int ends;
+    const Dwarf_Die *first = &frame->place.unit;
+    ptrdiff_t at = 0;
     dwexpr_libdw_find_place(frame);
     if (module) {
-        search_module(module, NULL, on_unit, given);
+        search_module(search, module, NULL);
         return;
     }
-    ends = first->addr && on_unit(first, given);
-    if (!ends && frame->place.module)
-        ends = search_module(frame->place.module, first->addr, on_unit, given);
-    while (!ends && (module = dwexpr_libdw_next_module(frame->source.dwfl, module)) != NULL)
-        ends = module != frame->place.module && search_module(module, first->addr, on_unit, given);
+    if (first->addr)
+        search_unit(search, first);
+    if (frame->place.module)
+        search_module(search, frame->place.module, first->addr);
+    while (!search->ends && (at = dwexpr_libdw_next_module(frame->source.dwfl, at, &module)) > 0)
+        if (module != frame->place.module)
+            search_module(search, module, first->addr);
 }
 
 const char *dwexpr_libdw_linkage_name(Dwarf_Die *entry)
@@ -50,138 +78,115 @@ static int has_name(Dwarf_Die *entry, const char *name)
 
 /* ---- variables of modules */
 
-struct globals {
-    const char *name;
-    struct dwexpr_libdw_list found;
-    uint32_t code;
-};
-
-static int is_global(Dwarf_Die *entry, const char *name)
-{
-    const int tag = dwarf_tag(entry);
-    return (tag == DW_TAG_constant || (tag == DW_TAG_variable && !dwarf_hasattr(entry, DW_AT_declaration))) &&
-           (!name || has_name(entry, name));
-}
-
 /* Adds what stands in a unit, its namespaces, modules and common blocks. */
-static int add_globals(Dwarf_Die *unit, void *given)
+static int visit_global(struct search *search, const struct dwexpr_libdw_walk *walk)
 {
-    struct globals *globals = (struct globals *)given;
-    struct dwexpr_libdw_walk walk;
-    int enters = 1;
-    dwexpr_libdw_begin_walk(&walk, unit);
-    while (!globals->code && dwexpr_libdw_next_entry(&walk, enters)) {
-        Dwarf_Die *entry = dwexpr_libdw_here(&walk);
-        const int tag = dwarf_tag(entry);
-        enters = tag == DW_TAG_namespace || tag == DW_TAG_module;
-        if (is_global(entry, globals->name))
-            globals->code = dwexpr_libdw_add(&globals->found, entry, sizeof *entry);
-    }
-    free(walk.path.items);
-    globals->code = globals->code ? globals->code : walk.code;
-    return globals->code != 0;
+    Dwarf_Die *entry = dwexpr_libdw_here(walk);
+    const int tag = dwarf_tag(entry);
+    if ((tag == DW_TAG_constant || (tag == DW_TAG_variable && !dwarf_hasattr(entry, DW_AT_declaration))) &&
+        (!search->name || has_name(entry, search->name)))
+        add_found(search, entry);
+    return tag == DW_TAG_namespace || tag == DW_TAG_module;
 }
 
 uint32_t dwexpr_libdw_globals(dwexpr_libdw_frame *frame, Dwfl_Module *module, const char *name, Dwarf_Die **globals,
                               size_t *count)
 {
-    struct globals search = {.name = name};
-    search_units(frame, module, add_globals, &search);
+    struct search search = {.visit = visit_global, .name = name};
+    search_units(&search, frame, module);
     *globals = dwexpr_libdw_give(search.code, &search.found, count);
     return search.code;
 }
 
 /* ---- types that are only declared */
 
-struct definition {
-    struct dwexpr_libdw_walk declared; /* the path to the declaration */
-    Dwarf_Die found;
-    uint32_t code;
-};
-
-static int is_class(int tag)
-{
-    return tag == DW_TAG_structure_type || tag == DW_TAG_class_type;
-}
-
 /* Whether two entries have the same name, and are of the same kind. */
 static int is_same(Dwarf_Die *first, Dwarf_Die *second)
 {
     const int tag = dwarf_tag(first), other = dwarf_tag(second);
+    const int are_classes = (tag == DW_TAG_structure_type || tag == DW_TAG_class_type) &&
+                            (other == DW_TAG_structure_type || other == DW_TAG_class_type);
     const char *name = dwarf_diename(first), *wanted = dwarf_diename(second);
-    return (tag == other || (is_class(tag) && is_class(other))) && name && wanted && !strcmp(name, wanted);
+    return (tag == other || are_classes) && name && wanted && !strcmp(name, wanted);
 }
 
-/* Looks for a definition in a unit, in namespaces and classes of the same names. */
-static int find_definition(Dwarf_Die *unit, void *given)
+/* Looks for a definition in namespaces and classes of the same names. */
+static int visit_type(struct search *search, const struct dwexpr_libdw_walk *walk)
 {
-    struct definition *definition = (struct definition *)given;
-    const struct dwexpr_libdw_list *declared = &definition->declared.path;
-    struct dwexpr_libdw_walk walk;
-    int enters = 1;
-    dwexpr_libdw_begin_walk(&walk, unit);
-    while (!definition->found.addr && dwexpr_libdw_next_entry(&walk, enters)) {
-        Dwarf_Die *entry = dwexpr_libdw_here(&walk);
-        const int same = is_same(entry, (Dwarf_Die *)declared->items + walk.path.length - 1);
-        enters = same && walk.path.length < declared->length;
-        if (same && !enters && !dwarf_hasattr(entry, DW_AT_declaration))
-            definition->found = *entry;
+    const size_t depth = walk->path.length, wanted = search->type.path.length;
+    Dwarf_Die *entry = dwexpr_libdw_here(walk);
+    const int same = depth <= wanted && is_same(entry, (Dwarf_Die *)search->type.path.items + depth - 1);
+    if (same && depth == wanted && !dwarf_hasattr(entry, DW_AT_declaration)) {
+        search->ends = 1;
+        add_found(search, entry);
     }
-    free(walk.path.items);
-    definition->code = walk.code;
-    return walk.code || definition->found.addr;
+    return same && depth < wanted;
 }
 
 uint32_t dwexpr_libdw_definition(dwexpr_libdw_frame *frame, Dwarf_Die *type, Dwarf_Die *definition)
 {
-    struct definition search = {.found = {.addr = NULL}};
-    Dwarf_Die unit;
-    dwexpr_libdw_find_path(&search.declared, dwarf_diecu(type, &unit, NULL, NULL), type);
-    search.code = search.declared.code;
-    if (!search.code && search.declared.path.length > 1 && !find_definition(&unit, &search))
-        search_units(frame, NULL, find_definition, &search);
-    free(search.declared.path.items);
-    *definition = search.found;
-    return search.code ? search.code : search.found.addr ? 0 : DWEXPR_LIBDW_NOT_DEFINED;
+    struct search search = {.visit = visit_type};
+    Dwarf_Die unit, *found;
+    size_t count;
+    dwarf_diecu(type, &unit, NULL, NULL);
+    dwexpr_libdw_begin_walk(&search.type, &unit);
+    while (!search.type.code && dwexpr_libdw_here(&search.type)->addr != type->addr &&
+           dwexpr_libdw_next_entry(&search.type, 1))
+        ;
+    search.code = search.type.code;
+    if (!search.code)
+        search_unit(&search, &unit);
+    if (!search.ends && !search.code)
+        search_units(&search, frame, NULL);
+    found = dwexpr_libdw_give(search.code, &search.found, &count);
+    if (count)
+        *definition = *found;
+    free(found);
+    free(search.type.path.items);
+    return search.code ? search.code : count ? 0 : DWEXPR_LIBDW_NOT_DEFINED;
 }
 
 /* ---- symbols */
 
-/* The section of this type in a module's file, with its header and the bias of its addresses; NULL if there is none. */
-static Elf_Data *section_of(Dwfl_Module *module, unsigned type, GElf_Shdr *header, Dwarf_Addr *bias)
+int dwexpr_libdw_find_segment(Dwfl_Module *module, unsigned type, GElf_Phdr *segment, Dwarf_Addr *bias)
 {
     Elf *elf = dwfl_module_getelf(module, bias);
-    Elf_Scn *section = NULL;
-    header->sh_type = SHT_NULL;
-    while (header->sh_type != type && (section = elf_nextscn(elf, section)) != NULL)
-        gelf_getshdr(section, header);
-    return elf_getdata(section, NULL);
+    size_t count = 0, i;
+    elf_getphdrnum(elf, &count);
+    segment->p_type = PT_NULL;
+    for (i = 0; i < count && segment->p_type != type; i++)
+        gelf_getphdr(elf, (int)i, segment);
+    return segment->p_type == type;
 }
 
-/* Whether a module is the program: only its dynamic section has DT_DEBUG. */
-static int is_program(Dwfl_Module *module)
+int dwexpr_libdw_is_program(Dwfl_Module *module)
 {
-    GElf_Shdr header;
+    GElf_Phdr segment;
+    GElf_Dyn entry = {.d_tag = DT_NULL};
     Dwarf_Addr bias;
-    GElf_Dyn entry;
-    Elf_Data *entries = section_of(module, SHT_DYNAMIC, &header, &bias);
+    Elf_Data *entries;
     int i;
-    for (i = 0; gelf_getdyn(entries, i, &entry); i++)
-        if (entry.d_tag == DT_DEBUG)
-            return 1;
-    return 0;
+    if (!dwexpr_libdw_find_segment(module, PT_DYNAMIC, &segment, &bias))
+        return 1;
+    entries = elf_getdata_rawchunk(dwfl_module_getelf(module, &bias), (int64_t)segment.p_offset,
+                                   (size_t)segment.p_filesz, ELF_T_DYN);
+    for (i = 0; entry.d_tag != DT_DEBUG && gelf_getdyn(entries, i, &entry); i++)
+        ;
+    return entry.d_tag == DT_DEBUG;
 }
 
 /* Finds a symbol among those that a module exports. */
 static int is_exported(Dwfl_Module *module, struct dwexpr_libdw_symbol *symbol)
 {
-    GElf_Shdr header;
+    GElf_Shdr header = {.sh_type = SHT_NULL};
     Dwarf_Addr bias;
-    Elf_Data *symbols = section_of(module, SHT_DYNSYM, &header, &bias);
+    Elf *elf = dwfl_module_getelf(module, &bias);
+    Elf_Scn *section = NULL;
     int i;
-    for (i = 1; gelf_getsym(symbols, i, &symbol->symbol); i++) {
-        Dwarf_Addr unused;
-        const char *name = elf_strptr(dwfl_module_getelf(module, &unused), header.sh_link, symbol->symbol.st_name);
+    while (header.sh_type != SHT_DYNSYM && (section = elf_nextscn(elf, section)) != NULL)
+        gelf_getshdr(section, &header);
+    for (i = 1; gelf_getsym(elf_getdata(section, NULL), i, &symbol->symbol); i++) {
+        const char *name = elf_strptr(elf, header.sh_link, symbol->symbol.st_name);
         if (!name || symbol->symbol.st_shndx == SHN_UNDEF || strcmp(name, symbol->name))
             continue;
         symbol->module = module;
@@ -210,20 +215,21 @@ int dwexpr_libdw_find_symbol(Dwfl_Module *module, Dwarf_Addr address, struct dwe
 int dwexpr_libdw_resolve(Dwfl *dwfl, Dwfl_Module *module, int is_its_own, struct dwexpr_libdw_symbol *symbol)
 {
     struct dwexpr_libdw_symbol other = *symbol;
-    Dwfl_Module *exporter = NULL;
     const int own = module && is_exported(module, symbol);
+    Dwfl_Module *exporter;
+    ptrdiff_t at = 0;
     int count = 0;
     if (!own && is_its_own)
         return 0;
     if (!own && dwexpr_libdw_find_symbol(module, 0, symbol))
         return 1;
-    while ((exporter = dwexpr_libdw_next_module(dwfl, exporter)) != NULL) {
+    while ((at = dwexpr_libdw_next_module(dwfl, at, &exporter)) > 0) {
         if (!is_exported(exporter, &other))
             continue;
         count++;
-        if (!own || is_program(exporter))
+        if (!own || dwexpr_libdw_is_program(exporter))
             *symbol = other;
-        if (is_program(exporter))
+        if (dwexpr_libdw_is_program(exporter))
             return 1;
     }
     return own || count == 1;

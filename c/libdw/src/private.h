@@ -65,10 +65,8 @@ void dwexpr_libdw_begin_walk(struct dwexpr_libdw_walk *walk, const Dwarf_Die *fi
 Dwarf_Die *dwexpr_libdw_here(const struct dwexpr_libdw_walk *walk);
 /* Goes to the next entry, into the children if `enters`. Gives back whether there is one. */
 int dwexpr_libdw_next_entry(struct dwexpr_libdw_walk *walk, int enters);
-/* Walks straight down to an entry, so that the path has the entry's parents; it is empty if the entry isn't there. */
-void dwexpr_libdw_find_path(struct dwexpr_libdw_walk *walk, const Dwarf_Die *first, const Dwarf_Die *entry);
-/* Goes up to the innermost function of the path. Its `addr` is NULL if there is none. */
-Dwarf_Die dwexpr_libdw_innermost_function(struct dwexpr_libdw_walk *walk);
+/* The innermost function in which an entry stands, of `first` and those in it. Its `addr` is NULL if there is none. */
+Dwarf_Die dwexpr_libdw_function_around(const Dwarf_Die *first, const Dwarf_Die *entry);
 
 /* The bytes of a number and its encoding, as a type says them, or that of which it is a range. Gives back 0 if both are
  * known. */
@@ -81,6 +79,7 @@ int dwexpr_libdw_scalar(Dwarf_Die *type, Dwarf_Word *size, Dwarf_Word *encoding)
 struct dwexpr_libdw_given {
     dwexpr_libdw_frame *frame;
     const uint64_t *object, *initial;
+    uint32_t code; /* why the first number of several isn't known, else 0 */
 };
 
 uint32_t dwexpr_libdw_number_with(const struct dwexpr_libdw_given *given, Dwarf_Attribute *attribute, uint64_t *number);
@@ -92,8 +91,8 @@ uint32_t dwexpr_libdw_string_length(const struct dwexpr_libdw_given *given, Dwar
 
 /* The unit with the entries: that of the split debug information if the unit is split. */
 Dwarf_Die dwexpr_libdw_entries(Dwarf_Die *unit);
-/* The module after this one, the first one after NULL; NULL at the end. */
-Dwfl_Module *dwexpr_libdw_next_module(Dwfl *dwfl, Dwfl_Module *passed);
+/* The module at a place, 0 for the first one. Gives back the next place; 0 or less at the end, and then no module. */
+ptrdiff_t dwexpr_libdw_next_module(Dwfl *dwfl, ptrdiff_t at, Dwfl_Module **module);
 
 /* Finds the module, the unit and the function of a frame, the same each time. */
 uint32_t dwexpr_libdw_find_place(dwexpr_libdw_frame *frame);
@@ -106,9 +105,9 @@ int dwexpr_libdw_has_entry(Dwarf_Die *function, Dwarf_Addr *address);
 /* The same for a frame's function, as an address in the process; 0 if there is none. */
 uint64_t dwexpr_libdw_entry_of(const dwexpr_libdw_frame *frame);
 
-/* The call frame information at a frame's address, of .eh_frame or, if `i` is 1, of .debug_frame. Gives back 0, and
- * then `state` is to be freed. */
-int dwexpr_libdw_find_state(const dwexpr_libdw_frame *frame, int i, Dwarf_Frame **state, Elf **elf);
+/* The call frame information at a frame's address, of .eh_frame or else of .debug_frame. Gives back 0, and then `state`
+ * is to be freed. */
+int dwexpr_libdw_find_state(const dwexpr_libdw_frame *frame, Dwarf_Frame **state, Elf **elf);
 
 /* ---- globals.c */
 
@@ -128,29 +127,34 @@ int dwexpr_libdw_find_symbol(Dwfl_Module *module, Dwarf_Addr address, struct dwe
  * exports it. Gives back whether there is one. */
 int dwexpr_libdw_resolve(Dwfl *dwfl, Dwfl_Module *module, int is_its_own, struct dwexpr_libdw_symbol *symbol);
 
+/* The first segment of a type that a module has, and the bias of its address. Gives back whether there is one. */
+int dwexpr_libdw_find_segment(Dwfl_Module *module, unsigned type, GElf_Phdr *segment, Dwarf_Addr *bias);
+/* Whether a module is the program: only its dynamic section has DT_DEBUG, or it has none. */
+int dwexpr_libdw_is_program(Dwfl_Module *module);
+
 /* The name that an entry has for the linker, or else in its source. */
 const char *dwexpr_libdw_linkage_name(Dwarf_Die *entry);
 
 /* ---- calls.c */
 
-/* The call site that led to a frame, which is in its caller. Gives back whether there is one. */
-int dwexpr_libdw_find_call_site(dwexpr_libdw_frame *frame, Dwarf_Die *site);
-/* The attribute of the address that a call site computes. */
-int dwexpr_libdw_call_target(Dwarf_Die *site, Dwarf_Attribute *target);
-/* Whether a call site in `caller` names the function of a frame: 1; 0 if it names another one, whose address is 0 if
- * it isn't known; or -1 if it computes an address. */
-int dwexpr_libdw_names(Dwarf_Die *site, const dwexpr_libdw_frame *caller, const dwexpr_libdw_frame *called,
-                       uint64_t *address);
-/* A frame of the function at an address that the caller called, and that isn't there any more: none of its registers is
- * known. Gives back whether a function begins there. */
-int dwexpr_libdw_enter(const dwexpr_libdw_frame *caller, uint64_t address, dwexpr_libdw_frame *entered);
-/* The tail call by which a function left for that of a frame. Gives back whether there is one, and no other. */
-int dwexpr_libdw_find_tail_call(const dwexpr_libdw_frame *between, const dwexpr_libdw_frame *called, Dwarf_Die *site);
-/* Whether the function of a frame may have called itself by tail calls: then its caller's call site tells nothing. */
-int dwexpr_libdw_may_call_itself(dwexpr_libdw_frame *frame);
-/* The attribute of the value that a call site passes at a place, or in a parameter's entry if that isn't NULL. */
-int dwexpr_libdw_passed(Dwarf_Die *site, dwexpr_text place, dwexpr_encoding encoding, const Dwarf_Die *entry,
-                        Dwarf_Attribute *value);
+/* A question for what the caller passed to a frame's function. */
+struct dwexpr_libdw_question {
+    dwexpr_libdw_frame *frame;
+    Dwarf_Die entry;          /* the parameter for which it was passed; or its `addr` is NULL, */
+    dwexpr_text place;        /* and it was passed in this place, on entry of the function */
+    dwexpr_encoding encoding;
+    /* what is found: the call site, and the frame that it is in: the caller's, or that of a function which left by a
+     * tail call */
+    Dwarf_Die site;
+    dwexpr_libdw_frame *asked, between;
+    int waits_for_target; /* whether the call site called this function has to be known first */
+};
+
+/* Finds the attribute whose number, in the frame that is asked, is the answer: or what the call site called, if it
+ * `waits_for_target`. Gives back whether there is one. */
+int dwexpr_libdw_ask(struct dwexpr_libdw_question *question, Dwarf_Attribute *value);
+/* Goes on if that is known. Gives back likewise. */
+int dwexpr_libdw_ask_target(struct dwexpr_libdw_question *question, uint64_t address, Dwarf_Attribute *value);
 
 #pragma GCC visibility pop
 

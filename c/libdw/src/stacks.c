@@ -21,6 +21,7 @@ struct stack_frame {
     dwexpr_libdw_stack *stack;
     size_t registers, register_count; /* in those of the stack */
     int is_guessed; /* the one that it called has no call frame information: libdwfl takes its frame pointer */
+    bool is_interrupted; /* by a signal: the one that it called is the kernel's, whose call frame information says so */
 };
 
 struct dwexpr_libdw_stack {
@@ -29,6 +30,7 @@ struct dwexpr_libdw_stack {
     size_t most;
     struct dwexpr_libdw_list frames, registers; /* of stack_frame, of known_register */
     struct dwexpr_libdw_sets sets; /* of the innermost frame */
+    uint8_t *traced; /* the bytes of a process's sets */
     int is_cut_off;
     uint32_t code;
 };
@@ -102,28 +104,14 @@ static int is_kept(dwexpr_libdw_frame *caller, unsigned machine, uint32_t number
     return producer && !strncmp(producer, "GNU ", 4);
 }
 
-/* Whether a signal interrupted a frame. Then the frame before it is the kernel's, whose call frame information says
- * so. */
-static int is_interrupted(const dwexpr_libdw_stack *stack, size_t index)
-{
-    Dwarf_Frame *state;
-    Elf *elf;
-    bool is_signal = false;
-    if (!dwexpr_libdw_find_state(&frames_of(stack)[index - 1].frame, 0, &state, &elf)) {
-        dwarf_frame_info(state, NULL, NULL, &is_signal);
-        free(state);
-    }
-    return is_signal;
-}
-
 /* A register as libdwfl tells it. Of x86-64 it mixes up two: in a caller's frame it takes rax, which a call may change,
  * for rbx, which a call keeps (elfutils 0.188). */
-static int is_known(const dwexpr_libdw_stack *stack, size_t index, uint32_t number, Dwarf_Word *content)
+static int is_known(const struct stack_frame *frame, uint32_t number, Dwarf_Word *content)
 {
-    const struct stack_frame *frame = &frames_of(stack)[index];
+    const dwexpr_libdw_stack *stack = frame->stack;
     const struct known_register *registers = (const struct known_register *)stack->registers.items;
     size_t i;
-    if (index && stack->target->machine == EM_X86_64 && number == RAX && !is_interrupted(stack, index))
+    if (frame != frames_of(stack) && stack->target->machine == EM_X86_64 && number == RAX && !frame->is_interrupted)
         return 0;
     for (i = frame->registers; i < frame->registers + frame->register_count; i++)
         if (registers[i].number == number) {
@@ -135,24 +123,20 @@ static int is_known(const dwexpr_libdw_stack *stack, size_t index, uint32_t numb
 
 static int read_register(void *context, uint32_t number, uint8_t *bytes, size_t *size)
 {
-    const struct stack_frame *frame = (const struct stack_frame *)context;
-    const dwexpr_libdw_stack *stack = frame->stack;
-    const dwexpr_libdw_target *target = stack->target;
-    const struct stack_frame *frames = frames_of(stack);
-    const size_t first = (size_t)(frame - frames);
+    struct stack_frame *first = (struct stack_frame *)context, *frame;
+    const dwexpr_libdw_target *target = first->stack->target;
     Dwarf_Word content;
-    size_t i;
-    for (i = first;; i--) {
-        if (is_known(stack, i, number, &content)) {
+    for (frame = first;; frame--) {
+        if (is_known(frame, number, &content)) {
             *size = target->word;
             dwexpr_libdw_bytes_of(content, *size, target->big_endian, bytes);
             return 0;
         }
-        if (!i)
-            return read_set(stack, number, bytes, size);
+        if (frame == frames_of(frame->stack))
+            return read_set(frame->stack, number, bytes, size);
         /* a signal's handler keeps nothing */
-        if (frames[i].frame.source.is_activation || frames[i].is_guessed ||
-            (i == first && !is_kept(&frames_of(stack)[first].frame, target->machine, number)))
+        if (frame->frame.source.is_activation || frame->is_guessed ||
+            (frame == first && !is_kept(&frame->frame, target->machine, number)))
             return 1;
     }
 }
@@ -205,17 +189,21 @@ static int find_tls(void *context, Dwfl_Module *module, uint64_t offset, uint64_
 /* Reads the thread's register sets by ptrace; libdwfl keeps it stopped during the walk. */
 static uint32_t trace_sets(dwexpr_libdw_stack *stack)
 {
-    const size_t room = 16384;
-    uint8_t *bytes = (uint8_t *)malloc(room);
-    uint32_t code = bytes ? 0 : DWEXPR_LIBDW_NO_MEMORY;
+    size_t room = 65536;
+    uint8_t *bytes = stack->traced = (uint8_t *)malloc(room);
     int set;
-    for (set = GENERAL; set < SETS && !code; set++) {
+    if (!bytes)
+        return DWEXPR_LIBDW_NO_MEMORY;
+    for (set = GENERAL; set < SETS; set++) {
         struct iovec part = {bytes, room};
-        if (!ptrace(PTRACE_GETREGSET, stack->thread, (void *)(uintptr_t)dwexpr_libdw_note_types[set], &part))
-            code = dwexpr_libdw_keep_set(&stack->sets, (enum set)set, bytes, part.iov_len);
+        if (ptrace(PTRACE_GETREGSET, stack->thread, (void *)(uintptr_t)dwexpr_libdw_notes[set].type, &part))
+            continue;
+        stack->sets.bytes[set] = bytes;
+        stack->sets.lengths[set] = part.iov_len;
+        bytes += part.iov_len;
+        room -= part.iov_len;
     }
-    free(bytes);
-    return code;
+    return 0;
 }
 
 static uint32_t add_registers(dwexpr_libdw_stack *stack, Dwfl_Frame *state, struct stack_frame *frame)
@@ -230,26 +218,14 @@ static uint32_t add_registers(dwexpr_libdw_stack *stack, Dwfl_Frame *state, stru
     return code;
 }
 
-static int has_rules(const dwexpr_libdw_frame *frame)
-{
-    int i;
-    for (i = 0; i < 2; i++) {
-        Dwarf_Frame *state;
-        Elf *elf;
-        if (!dwexpr_libdw_find_state(frame, i, &state, &elf)) {
-            free(state);
-            return 1;
-        }
-    }
-    return 0;
-}
-
 static int on_frame(Dwfl_Frame *state, void *given)
 {
     dwexpr_libdw_stack *stack = (dwexpr_libdw_stack *)given;
     struct stack_frame frame = {.stack = stack};
     dwexpr_libdw_source source = {.dwfl = stack->target->dwfl, .read_register = read_register,
                                   .read_memory = read_memory, .find_tls = find_tls};
+    Dwarf_Frame *rules;
+    Elf *elf;
     bool is_activation = false;
     if (stack->frames.length == stack->most) {
         stack->code = DWEXPR_LIBDW_TOO_MANY_FRAMES;
@@ -258,12 +234,17 @@ static int on_frame(Dwfl_Frame *state, void *given)
     dwfl_frame_pc(state, &source.pc, &is_activation);
     source.is_activation = is_activation;
     dwexpr_libdw_begin_frame(&frame.frame, &source);
-    if (stack->frames.length)
-        frame.is_guessed = !has_rules(&frames_of(stack)[stack->frames.length - 1].frame);
-    else if (!stack->target->core)
+    if (stack->frames.length) {
+        frame.is_guessed = dwexpr_libdw_find_state(&frames_of(stack)[stack->frames.length - 1].frame, &rules, &elf);
+        if (!frame.is_guessed) {
+            dwarf_frame_info(rules, NULL, NULL, &frame.is_interrupted);
+            free(rules);
+        }
+    } else if (!stack->target->core) {
         stack->code = trace_sets(stack);
+    }
     if (frame.is_guessed)
-        dwexpr_libdw_keep_error("a frame has no call frame information");
+        dwexpr_libdw_error = "a frame has no call frame information";
     stack->is_cut_off |= frame.is_guessed;
     if (!stack->code)
         stack->code = add_registers(stack, state, &frame);
@@ -284,9 +265,9 @@ uint32_t dwexpr_libdw_unwind(dwexpr_libdw_target *target, pid_t thread, size_t m
     found->thread = thread;
     found->most = most;
     if (target->core)
-        found->code = dwexpr_libdw_read_notes(target, thread, &found->sets);
-    if (!found->code && dwfl_getthread_frames(target->dwfl, thread, on_frame, found) < 0) {
-        dwexpr_libdw_keep_error(dwfl_errmsg(-1));
+        dwexpr_libdw_read_notes(target, thread, &found->sets);
+    if (dwfl_getthread_frames(target->dwfl, thread, on_frame, found) < 0) {
+        dwexpr_libdw_error = dwfl_errmsg(-1);
         found->is_cut_off = 1;
     }
     for (i = 0; i < found->frames.length; i++) {
@@ -308,11 +289,9 @@ uint32_t dwexpr_libdw_unwind(dwexpr_libdw_target *target, pid_t thread, size_t m
 
 void dwexpr_libdw_free_stack(dwexpr_libdw_stack *stack)
 {
-    int set;
     if (!stack)
         return;
-    for (set = 0; set < SETS; set++)
-        free(stack->sets.bytes[set]);
+    free(stack->traced);
     free(stack->registers.items);
     free(stack->frames.items);
     free(stack);

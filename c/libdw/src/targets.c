@@ -9,7 +9,10 @@
 #include <stdio.h>
 #include <unistd.h>
 
-const uint32_t dwexpr_libdw_note_types[SETS] = {NT_PRSTATUS, NT_FPREGSET, NT_PRXFPREG, NT_X86_XSTATE, NT_386_TLS};
+const struct dwexpr_libdw_note dwexpr_libdw_notes[SETS] = {
+    [GENERAL] = {"CORE", NT_PRSTATUS}, [FLOATING] = {"CORE", NT_FPREGSET}, [FXSAVE] = {"LINUX", NT_PRXFPREG},
+    [XSAVE] = {"LINUX", NT_X86_XSTATE}, [SEGMENTS] = {"LINUX", NT_386_TLS},
+};
 
 /* ---- memory */
 
@@ -27,12 +30,10 @@ static int read_segments(Elf *elf, Dwarf_Addr bias, uint64_t address, uint8_t *b
         offset = address - bias - segment.p_vaddr;
         if (segment.p_type != PT_LOAD || offset >= segment.p_filesz)
             continue;
-        if (segment.p_offset > length || offset >= length - segment.p_offset)
-            return -1;
         if (*size > segment.p_filesz - offset)
             *size = (size_t)(segment.p_filesz - offset);
-        if (*size > length - segment.p_offset - offset)
-            *size = (size_t)(length - segment.p_offset - offset);
+        if (segment.p_offset > length || offset + *size > length - segment.p_offset)
+            return -1;
         memcpy(bytes, file + segment.p_offset + offset, *size);
         return 0;
     }
@@ -71,165 +72,69 @@ int dwexpr_libdw_read_memory(const dwexpr_libdw_target *target, uint64_t address
     return 0;
 }
 
-/* ---- the notes of a core dump, and what /proc tells of a process */
+/* ---- the notes of a core dump */
 
-uint32_t dwexpr_libdw_keep_set(struct dwexpr_libdw_sets *sets, enum set set, const uint8_t *bytes, size_t length)
+/* The register set that a note has, or SETS if it has none. */
+static int set_of(const GElf_Nhdr *header, const char *name)
 {
-    free(sets->bytes[set]);
-    sets->bytes[set] = (uint8_t *)malloc(length + 1);
-    sets->lengths[set] = sets->bytes[set] ? length : 0;
-    if (!sets->bytes[set])
-        return DWEXPR_LIBDW_NO_MEMORY;
-    memcpy(sets->bytes[set], bytes, length);
-    return 0;
+    int set = GENERAL;
+    while (set < SETS && (header->n_type != dwexpr_libdw_notes[set].type ||
+                          header->n_namesz != strlen(dwexpr_libdw_notes[set].name) + 1 ||
+                          memcmp(name, dwexpr_libdw_notes[set].name, header->n_namesz)))
+        set++;
+    return set;
 }
 
-/* Takes the order of words, and their size, from the front of an ELF file. */
-static void keep_header(dwexpr_libdw_target *target, const unsigned char *ident, unsigned machine)
-{
-    target->big_endian = ident[EI_DATA] == ELFDATA2MSB;
-    target->word = ident[EI_CLASS] == ELFCLASS32 ? 4 : 8;
-    target->machine = machine;
-}
-
-/* The program's own address in the auxiliary vector. */
-static void keep_program(dwexpr_libdw_target *target, const uint8_t *words, size_t length)
-{
-    const size_t size = target->word;
-    for (; length >= 2 * size; words += 2 * size, length -= 2 * size)
-        if (dwexpr_libdw_number_of(words, size, target->big_endian) == AT_PHDR)
-            target->program = dwexpr_libdw_number_of(words + size, size, target->big_endian);
-}
-
-/* A note of a core dump, of those that follow a thread's. */
-struct note {
-    uint32_t type;
-    int is_of_linux; /* 1: the name is "LINUX"; 0: it is "CORE" */
-    const uint8_t *bytes;
-    size_t length;
-};
-
-/* The next note of a segment. Gives back where the one after it is, or 0 if there is none. */
-static size_t next_note(Elf_Data *notes, size_t at, struct note *note)
-{
-    GElf_Nhdr header;
-    size_t next, name_at, bytes_at;
-    while ((next = gelf_getnote(notes, at, &header, &name_at, &bytes_at)) > 0) {
-        const char *name = (const char *)notes->d_buf + name_at;
-        note->type = header.n_type;
-        note->bytes = (const uint8_t *)notes->d_buf + bytes_at;
-        note->length = header.n_descsz;
-        note->is_of_linux = header.n_namesz == sizeof "LINUX" && !memcmp(name, "LINUX", sizeof "LINUX");
-        if (note->is_of_linux || (header.n_namesz == sizeof "CORE" && !memcmp(name, "CORE", sizeof "CORE")))
-            break;
-        at = next;
-    }
-    return next;
-}
-
-/* The notes of a core dump's segment, or NULL if it has none. */
-static Elf_Data *notes_of(Elf *core, size_t index)
-{
-    GElf_Phdr segment = {.p_type = PT_NULL};
-    gelf_getphdr(core, (int)index, &segment);
-    if (segment.p_type != PT_NOTE || (size_t)segment.p_filesz != segment.p_filesz)
-        return NULL;
-    return elf_getdata_rawchunk(core, (int64_t)segment.p_offset, (size_t)segment.p_filesz, ELF_T_NHDR);
-}
-
-/* Takes a note's registers of a thread, or the program's address. `is_thread` tells whether the last thread that was
- * named is the one. */
-static uint32_t take_note(dwexpr_libdw_target *target, const struct note *note, pid_t thread, int *is_thread,
-                          struct dwexpr_libdw_sets *sets)
+/* Takes the register sets of a thread. A thread's notes begin with NT_PRSTATUS. */
+static void take_sets(const dwexpr_libdw_target *target, Elf_Data *notes, pid_t thread, struct dwexpr_libdw_sets *sets)
 {
     /* in NT_PRSTATUS: the thread's number, and its general registers */
     const size_t thread_at = target->word == 4 ? 24 : 32, registers_at = target->word == 4 ? 72 : 112;
-    int set;
-    if (note->type == NT_AUXV && !note->is_of_linux)
-        keep_program(target, note->bytes, note->length);
-    if (note->type == NT_PRSTATUS && !note->is_of_linux && note->length > registers_at) {
-        *is_thread = sets && (pid_t)dwexpr_libdw_number_of(note->bytes + thread_at, 4, target->big_endian) == thread;
-        return *is_thread ? dwexpr_libdw_keep_set(sets, GENERAL, note->bytes + registers_at,
-                                                  note->length - registers_at)
-                          : 0;
+    GElf_Nhdr header;
+    size_t at = 0, name_at, bytes_at;
+    int is_thread = 0;
+    while ((at = gelf_getnote(notes, at, &header, &name_at, &bytes_at)) > 0) {
+        const uint8_t *bytes = (const uint8_t *)notes->d_buf + bytes_at;
+        const int set = set_of(&header, (const char *)notes->d_buf + name_at);
+        const size_t front = set == GENERAL ? registers_at : 0;
+        if (set == SETS || header.n_descsz <= front)
+            continue;
+        if (set == GENERAL)
+            is_thread = (pid_t)dwexpr_libdw_number_of(bytes + thread_at, 4, target->big_endian) == thread;
+        if (is_thread) {
+            sets->bytes[set] = bytes + front;
+            sets->lengths[set] = header.n_descsz - front;
+        }
     }
-    for (set = FLOATING; set < SETS && *is_thread; set++)
-        if (note->type == dwexpr_libdw_note_types[set] && note->is_of_linux == (set != FLOATING))
-            return dwexpr_libdw_keep_set(sets, (enum set)set, note->bytes, note->length);
-    return 0;
 }
 
-uint32_t dwexpr_libdw_read_notes(dwexpr_libdw_target *target, pid_t thread, struct dwexpr_libdw_sets *sets)
+void dwexpr_libdw_read_notes(const dwexpr_libdw_target *target, pid_t thread, struct dwexpr_libdw_sets *sets)
 {
     size_t count = 0, i;
-    uint32_t code = 0;
     elf_getphdrnum(target->core, &count);
-    for (i = 0; i < count && !code; i++) {
-        Elf_Data *notes = notes_of(target->core, i);
-        struct note note;
-        size_t at = 0;
-        int is_thread = 0;
-        while (notes && !code && (at = next_note(notes, at, &note)) > 0)
-            code = take_note(target, &note, thread, &is_thread, sets);
+    for (i = 0; i < count; i++) {
+        GElf_Phdr segment = {.p_type = PT_NULL};
+        gelf_getphdr(target->core, (int)i, &segment);
+        if (segment.p_type == PT_NOTE && (size_t)segment.p_filesz == segment.p_filesz)
+            take_sets(target, elf_getdata_rawchunk(target->core, (int64_t)segment.p_offset, (size_t)segment.p_filesz,
+                                                   ELF_T_NHDR), thread, sets);
     }
-    return code;
-}
-
-static int open_file(const char *path)
-{
-    return open(path, O_RDONLY | O_CLOEXEC);
-}
-
-/* Opens a file that /proc has of the process. */
-static int open_proc(const dwexpr_libdw_target *target, const char *name)
-{
-    char path[64];
-    snprintf(path, sizeof path, "/proc/%ld/%s", (long)dwfl_pid(target->dwfl), name);
-    return open_file(path);
-}
-
-/* Reads the front of such a file. Gives back how many bytes there are. */
-static size_t read_proc(const dwexpr_libdw_target *target, const char *name, uint8_t *bytes, size_t size)
-{
-    const int file = open_proc(target, name);
-    const ssize_t count = file < 0 ? 0 : read(file, bytes, size);
-    if (file >= 0)
-        close(file);
-    return count > 0 ? (size_t)count : 0;
-}
-
-static void read_process_header(dwexpr_libdw_target *target)
-{
-    uint8_t bytes[1024];
-    uint16_t machine;
-    if (read_proc(target, "exe", bytes, EI_NIDENT + 4) == EI_NIDENT + 4) {
-        /* a process runs on this machine, so its file's words are in the order of this program's */
-        memcpy(&machine, bytes + EI_NIDENT + 2, sizeof machine);
-        keep_header(target, bytes, machine);
-    }
-    keep_program(target, bytes, read_proc(target, "auxv", bytes, sizeof bytes));
-    target->file = open_proc(target, "mem");
 }
 
 /* ---- why there is no target */
 
-static _Thread_local const char *error;
-
-void dwexpr_libdw_keep_error(const char *text)
-{
-    error = text;
-}
+_Thread_local const char *dwexpr_libdw_error = "nothing failed";
 
 const char *dwexpr_libdw_target_error(void)
 {
-    return error ? error : "nothing failed";
+    return dwexpr_libdw_error;
 }
 
 /* What the system's number or, if that is negative, libdwfl says. Gives back whether there is one. */
 static int has_failed(int number)
 {
     if (number)
-        error = number > 0 ? strerror(number) : dwfl_errmsg(-1);
+        dwexpr_libdw_error = number > 0 ? strerror(number) : dwfl_errmsg(-1);
     return number != 0;
 }
 
@@ -242,16 +147,6 @@ static int on_thread(Dwfl_Thread *thread, void *given)
     return dwexpr_libdw_add(&target->threads, &number, sizeof number) ? DWARF_CB_ABORT : DWARF_CB_OK;
 }
 
-static uint32_t make_target(dwexpr_libdw_target **target)
-{
-    *target = (dwexpr_libdw_target *)calloc(1, sizeof **target);
-    if (!*target)
-        return DWEXPR_LIBDW_NO_MEMORY;
-    (*target)->file = -1;
-    (*target)->word = 8;
-    return 0;
-}
-
 /* Ends a call that makes a target, which is freed unless the answer is 0. */
 static uint32_t ended(uint32_t code, dwexpr_libdw_target **target)
 {
@@ -262,45 +157,67 @@ static uint32_t ended(uint32_t code, dwexpr_libdw_target **target)
     return code;
 }
 
-static uint32_t begin_target(dwexpr_libdw_target *target, Dwfl *dwfl, Elf *core)
+/* Makes a target, with a Dwfl of its own unless `finders` is NULL. */
+static uint32_t make_target(const Dwfl_Callbacks *finders, dwexpr_libdw_target **target)
+{
+    *target = (dwexpr_libdw_target *)calloc(1, sizeof **target);
+    if (!*target)
+        return DWEXPR_LIBDW_NO_MEMORY;
+    (*target)->file = -1;
+    (*target)->owned = finders ? dwfl_begin(finders) : NULL;
+    return ended(finders && !(*target)->owned ? DWEXPR_LIBDW_NO_MEMORY : 0, target);
+}
+
+/* Takes the order of words, and their size, from a core dump, or from a file of the process. */
+static void read_header(dwexpr_libdw_target *target)
 {
     GElf_Ehdr header = {.e_machine = EM_NONE};
+    Dwfl_Module *module;
+    Dwarf_Addr bias;
+    ptrdiff_t next = 0;
+    if (target->core)
+        gelf_getehdr(target->core, &header);
+    while (header.e_machine == EM_NONE && (next = dwexpr_libdw_next_module(target->dwfl, next, &module)) > 0)
+        gelf_getehdr(dwfl_module_getelf(module, &bias), &header);
+    target->big_endian = header.e_ident[EI_DATA] == ELFDATA2MSB;
+    target->word = header.e_ident[EI_CLASS] == ELFCLASS32 ? 4 : 8;
+    target->machine = header.e_machine;
+}
+
+static uint32_t begin_target(dwexpr_libdw_target *target, Dwfl *dwfl, Elf *core)
+{
+    char path[64];
     int failed;
     target->dwfl = dwfl;
     target->core = core;
+    read_header(target);
     if (!core) {
-        read_process_header(target);
-    } else {
-        gelf_getehdr(core, &header);
-        keep_header(target, header.e_ident, header.e_machine);
-        dwexpr_libdw_read_notes(target, 0, NULL);
+        snprintf(path, sizeof path, "/proc/%ld/mem", (long)dwfl_pid(dwfl));
+        target->file = open(path, O_RDONLY | O_CLOEXEC);
     }
     failed = dwfl_getthreads(dwfl, on_thread, target);
     if (failed == DWARF_CB_ABORT)
         return DWEXPR_LIBDW_NO_MEMORY;
     if (!failed && !target->threads.length)
-        error = "it has no threads";
+        dwexpr_libdw_error = "it has no threads";
     return has_failed(failed) || !target->threads.length ? DWEXPR_LIBDW_NO_TARGET : 0;
 }
 
 uint32_t dwexpr_libdw_attach(Dwfl *dwfl, Elf *core, dwexpr_libdw_target **target)
 {
-    const uint32_t code = make_target(target);
+    const uint32_t code = make_target(NULL, target);
     return code ? code : ended(begin_target(*target, dwfl, core), target);
 }
 
 uint32_t dwexpr_libdw_open_process(pid_t process, dwexpr_libdw_target **target)
 {
     static const Dwfl_Callbacks finders = {dwfl_linux_proc_find_elf, dwfl_standard_find_debuginfo, NULL, NULL};
-    uint32_t code = make_target(target);
-    Dwfl *dwfl;
+    const uint32_t code = make_target(&finders, target);
+    Dwfl *dwfl = code ? NULL : (*target)->owned;
     if (code)
         return code;
-    dwfl = (*target)->owned = dwfl_begin(&finders);
-    if (has_failed(dwfl ? 0 : -1) || has_failed(dwfl_linux_proc_report(dwfl, process)))
-        return ended(DWEXPR_LIBDW_NO_TARGET, target);
-    dwfl_report_end(dwfl, NULL, NULL);
-    if (has_failed(dwfl_linux_proc_attach(dwfl, process, false)))
+    if (has_failed(dwfl_linux_proc_report(dwfl, process)) || dwfl_report_end(dwfl, NULL, NULL) ||
+        has_failed(dwfl_linux_proc_attach(dwfl, process, false)))
         return ended(DWEXPR_LIBDW_NO_TARGET, target);
     return ended(begin_target(*target, dwfl, NULL), target);
 }
@@ -308,23 +225,20 @@ uint32_t dwexpr_libdw_open_process(pid_t process, dwexpr_libdw_target **target)
 uint32_t dwexpr_libdw_open_core(const char *file, const char *program, dwexpr_libdw_target **target)
 {
     static const Dwfl_Callbacks finders = {dwfl_build_id_find_elf, dwfl_standard_find_debuginfo, NULL, NULL};
-    uint32_t code = make_target(target);
-    Dwfl *dwfl;
+    const uint32_t code = make_target(&finders, target);
+    Dwfl *dwfl = code ? NULL : (*target)->owned;
     Elf *core;
     if (code)
         return code;
     elf_version(EV_CURRENT);
-    (*target)->file = open_file(file);
+    (*target)->file = open(file, O_RDONLY | O_CLOEXEC);
     if (has_failed((*target)->file < 0 ? errno : 0))
         return ended(DWEXPR_LIBDW_NO_TARGET, target);
     core = (*target)->opened = elf_begin((*target)->file, ELF_C_READ_MMAP, NULL);
-    dwfl = (*target)->owned = dwfl_begin(&finders);
     if (!core)
-        error = elf_errmsg(-1);
-    if (!core || has_failed(dwfl ? 0 : -1) || has_failed(-(dwfl_core_file_report(dwfl, core, program) <= 0)))
-        return ended(DWEXPR_LIBDW_NO_TARGET, target);
-    dwfl_report_end(dwfl, NULL, NULL);
-    if (has_failed(-(dwfl_core_file_attach(dwfl, core) < 0)))
+        dwexpr_libdw_error = elf_errmsg(-1);
+    if (!core || has_failed(-(dwfl_core_file_report(dwfl, core, program) <= 0)) || dwfl_report_end(dwfl, NULL, NULL) ||
+        has_failed(-(dwfl_core_file_attach(dwfl, core) < 0)))
         return ended(DWEXPR_LIBDW_NO_TARGET, target);
     return ended(begin_target(*target, dwfl, core), target);
 }

@@ -9,8 +9,11 @@
 /* The kernel's sets of registers: general, floating point, FXSAVE's on i386, XSAVE's, and segments on i386. */
 enum set { GENERAL, FLOATING, FXSAVE, XSAVE, SEGMENTS, SETS };
 
-/* The type of a set's note in a core dump, and for ptrace. */
-extern const uint32_t dwexpr_libdw_note_types[SETS];
+/* The note of each set in a core dump. ptrace has the same types. */
+extern const struct dwexpr_libdw_note {
+    const char *name;
+    uint32_t type;
+} dwexpr_libdw_notes[SETS];
 
 struct dwexpr_libdw_target {
     Dwfl *dwfl;
@@ -22,21 +25,19 @@ struct dwexpr_libdw_target {
     int big_endian;
     size_t word;  /* the bytes of an address */
     unsigned machine;
-    Dwarf_Addr program; /* an address in the program itself, 0 if it isn't known */
 };
 
-/* Keeps a text for dwexpr_libdw_target_error. */
-void dwexpr_libdw_keep_error(const char *text);
+/* What dwexpr_libdw_target_error says. */
+extern _Thread_local const char *dwexpr_libdw_error;
 
 /* The register sets of a thread, as bytes. */
 struct dwexpr_libdw_sets {
-    uint8_t *bytes[SETS];
+    const uint8_t *bytes[SETS];
     size_t lengths[SETS];
 };
 
-uint32_t dwexpr_libdw_keep_set(struct dwexpr_libdw_sets *sets, enum set set, const uint8_t *bytes, size_t length);
-/* Reads the notes of a core dump: the program's address, and the sets of a thread unless `sets` is NULL. */
-uint32_t dwexpr_libdw_read_notes(dwexpr_libdw_target *target, pid_t thread, struct dwexpr_libdw_sets *sets);
+/* Finds the sets of a thread in the notes of a core dump. */
+void dwexpr_libdw_read_notes(const dwexpr_libdw_target *target, pid_t thread, struct dwexpr_libdw_sets *sets);
 /* The address of an offset in a module's thread-local storage, of the thread with a thread pointer. */
 int dwexpr_libdw_find_block(const dwexpr_libdw_target *target, Dwfl_Module *module, uint64_t pointer, uint64_t offset,
                             uint64_t *address);

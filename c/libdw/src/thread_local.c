@@ -3,18 +3,6 @@
 
 #if _ELFUTILS_PREREQ(0, 188) /* stacks.c */
 
-/* The segment of a module's thread-local storage. Gives back whether there is one. */
-static int find_segment(Dwfl_Module *module, unsigned type, GElf_Phdr *segment, Dwarf_Addr *bias)
-{
-    Elf *elf = dwfl_module_getelf(module, bias);
-    size_t count = 0, i;
-    elf_getphdrnum(elf, &count);
-    segment->p_type = PT_NULL;
-    for (i = 0; i < count && segment->p_type != type; i++)
-        gelf_getphdr(elf, (int)i, segment);
-    return segment->p_type == type;
-}
-
 /* ---- what glibc keeps of other modules */
 
 /* Reads a process's memory. After a read has failed, every later one gives 0. */
@@ -54,9 +42,11 @@ static uint64_t find_map(struct reader *reader, Dwfl_Module *module)
 {
     GElf_Phdr segment;
     Dwarf_Addr bias;
-    const uint64_t dynamic = find_segment(module, PT_DYNAMIC, &segment, &bias) ? segment.p_vaddr + bias : 0;
-    uint64_t map = dynamic ? word_at(reader, symbol_at(reader, "_r_debug") + reader->word) : 0;
+    uint64_t dynamic, map = word_at(reader, symbol_at(reader, "_r_debug") + reader->word);
     int i;
+    /* only the program may have none */
+    dwexpr_libdw_find_segment(module, PT_DYNAMIC, &segment, &bias);
+    dynamic = segment.p_vaddr + bias;
     for (i = 0; i < 10000 && map && word_at(reader, map + 2 * reader->word) != dynamic; i++)
         map = word_at(reader, map + 3 * reader->word);
     return i < 10000 ? map : 0;
@@ -120,9 +110,9 @@ int dwexpr_libdw_find_block(const dwexpr_libdw_target *target, Dwfl_Module *modu
     GElf_Phdr segment;
     Dwarf_Addr bias;
     /* GCC 12 writes an address for an offset in split debug information of version 5 */
-    if (!find_segment(module, PT_TLS, &segment, &bias) || offset >= segment.p_memsz)
+    if (!dwexpr_libdw_find_segment(module, PT_TLS, &segment, &bias) || offset >= segment.p_memsz)
         return 1;
-    if (!target->program || dwfl_addrmodule(target->dwfl, target->program) != module)
+    if (!dwexpr_libdw_is_program(module))
         return find_library_block(target, module, pointer, offset, address);
     *address = program_block(&segment, pointer) + offset;
     return 0;

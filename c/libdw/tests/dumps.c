@@ -122,6 +122,9 @@ static void end(void)
 
 static void check_core(const char *machine, pid_t first, size_t count)
 {
+    static const uint8_t cfa[] = {DW_OP_call_frame_cfa};
+    const dwexpr_libdw_text text = {.text = {cfa, sizeof cfa}, .encoding = LE8};
+    dwexpr_libdw_value *value;
     char path[4096];
     uint8_t got[DWEXPR_LIBDW_REGISTER_SIZE], wanted[64];
     const pid_t *threads;
@@ -163,12 +166,10 @@ static void check_core(const char *machine, pid_t first, size_t count)
             else
                 check(code == UNKNOWN, machine, path);
         }
-        /* no rule names register 3, which a call keeps */
-        code = dwexpr_libdw_caller_register(dwexpr_libdw_frame_at(stack, 0), 3, got, &size);
-        check(!code && size == (count == 7 ? 8 : 4), machine, "a register that no rule names");
         /* the CFA is a word above the stack's pointer */
-        code = dwexpr_libdw_caller_register(dwexpr_libdw_frame_at(stack, 0), DWEXPR_LIBDW_CFA, got, &size);
-        check(!code && got[0] == 8 + size && got[2] == 0x50 && size == (count == 7 ? 8 : 4), machine, "the CFA");
+        code = dwexpr_libdw_evaluate(dwexpr_libdw_frame_at(stack, 0), &text, NULL, NULL, &value);
+        check(!code && value->pieces[0].number == (count == 7 ? 0x500010 : 0x50000c), machine, "the CFA");
+        dwexpr_libdw_release(value);
         dwexpr_libdw_free_stack(stack);
         check_local(first, 0x600000u + (unsigned)first);
         /* on i386 the segment that gs selects may be missing */
@@ -184,8 +185,9 @@ static void check_core(const char *machine, pid_t first, size_t count)
 static void check_glibc(const char *name, unsigned word, int has_linker)
 {
     /* a distance from the thread pointer, blocks, and modules without any: the last three aren't in the list, have no
-     * dynamic section, and have no thread-local storage */
-    static const uint64_t blocks[11] = {0x500000 - 0x40, 0x607000, 0x607040};
+     * dynamic section as the program alone may, and have no thread-local storage */
+    enum { PROGRAM = 9 };
+    static const uint64_t blocks[11] = {0x500000 - 0x40, 0x607000, 0x607040, [PROGRAM] = 0x500000 - 32};
     static const uint8_t bytes[] = {DW_OP_const1u, 4, DW_OP_form_tls_address};
     dwexpr_libdw_text text = {.text = {bytes, sizeof bytes}, .encoding = encoding_of((int)word, 4, 4, 0)};
     Dwfl_Module *modules[COUNT(blocks)];
@@ -205,7 +207,8 @@ static void check_glibc(const char *name, unsigned word, int has_linker)
     for (i = 0; i < 2 * COUNT(blocks); i++) {
         const unsigned at = i / 2, thread = i % 2;
         /* of the second thread the vector can't be read */
-        const uint64_t block = has_linker && (!thread || !at) ? blocks[at] + 2 * word * thread : 0;
+        const int is_known = at == PROGRAM || (has_linker && (!thread || !at));
+        const uint64_t block = is_known ? blocks[at] + 2 * word * thread : 0;
         Dwarf_Addr bias;
         dwexpr_libdw_value *value;
         uint32_t code;

@@ -172,8 +172,6 @@ static void check_nowhere(Dwfl *dwfl)
     check(dwexpr_libdw_variables(frame, &entries, &count) == DWEXPR_LIBDW_NO_UNIT && !count, "nowhere", "no variables");
     check(dwexpr_libdw_memory(frame, 0, bytes, 1) == DWEXPR_LIBDW_NOT_READABLE, "nowhere", "no memory");
     check(dwexpr_libdw_register(frame, 0, bytes, &count) == DWEXPR_LIBDW_NOT_READABLE, "nowhere", "no register");
-    check(dwexpr_libdw_caller_register(frame, DWEXPR_LIBDW_CFA, bytes, &count) == DWEXPR_LIBDW_NO_UNIT, "nowhere",
-          "no CFA");
     check(dwexpr_libdw_on_entry(frame, &place.unit, &value) == DWEXPR_LIBDW_NO_UNIT, "nowhere", "no value on entry");
     for (i = 0; i < COUNT(texts); i++) {
         check(dwexpr_libdw_evaluate(frame, &texts[i], NULL, NULL, &value) == DWEXPR_LIBDW_WANTS + wants[i], "nowhere",
@@ -188,8 +186,6 @@ static void check_nowhere(Dwfl *dwfl)
               "it is known");
         dwexpr_libdw_release(value);
     }
-    check(dwexpr_libdw_caller_register(frame, DWEXPR_LIBDW_CFA, bytes, &count) == DWEXPR_LIBDW_NO_UNIT, "given",
-          "its size isn't known");
     dwexpr_libdw_free_frame(frame);
 }
 

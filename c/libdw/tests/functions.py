@@ -96,6 +96,25 @@ class Functions(Tree):
         for number, tag in enumerate(("try", "catch", "with")):
             self.row([begin + 0x22 + 0x10 * number], f"{tag} in 0 is 0{2 + number}000000", "a in 0 is missing")
 
+    def siblings(self):
+        """Entries whose next sibling stands before them, or is the entry itself: it is as if there were none."""
+        for at in range(3):
+            function = self.function()
+            first = self.variable(function, "first", b"\x31\x9f")
+            last = self.variable(function, "last", b"\x32\x9f")
+            last.attributes["sibling"] = (function, first, last)[at]
+            self.variable(function, "after", b"\x33\x9f")
+            caller = self.function()
+            self.parameter(function, "given")
+            self.site(caller, caller.begin + 4, call_origin=function)
+            again = self.site(caller, caller.begin + 8, call_origin=function)
+            again.attributes["sibling"] = (caller, caller.children[0], again)[at]
+            self.site(caller, caller.begin + 12, call_origin=function)
+            self.row([function.begin, caller.begin + 12], "first in 0 is 01000000", "last in 0 is 02000000",
+                     "after in 0 is missing", "count in 0 is 3")
+            # those of the functions themselves are right
+            function.attributes["sibling"], caller.attributes["sibling"] = caller, self.root.children[-1]
+
     def instances(self):
         """What only the abstract entry has."""
         abstract = self.root.add("function", name="inlined")
@@ -387,6 +406,7 @@ class Functions(Tree):
         self.globals()
         self.bases()
         self.blocks()
+        self.siblings()
         self.instances()
         self.nested()
         self.calls()

@@ -64,18 +64,38 @@ static void read_variable(dwexpr_libdw_frame *frame, Dwarf_Die *variable)
     }
 }
 
+/* The rules of the CFA and of registers. */
+static void read_rules(dwexpr_libdw_frame *frame)
+{
+    dwexpr_libdw_place place;
+    Dwarf_Addr bias, elf_bias;
+    Dwarf_Frame *rules;
+    Dwarf_CFI *table;
+    int number;
+    dwexpr_libdw_locate(frame, &place);
+    table = dwfl_module_eh_cfi(place.module, &bias);
+    if (!table || dwarf_cfi_addrframe(table, place.pc - bias, &rules))
+        return;
+    for (number = DWEXPR_LIBDW_CFA; number < 17; number++) {
+        dwexpr_libdw_text rule;
+        dwexpr_libdw_value *value = NULL;
+        if (!dwexpr_libdw_rule(rules, dwfl_module_getelf(place.module, &elf_bias), number, &rule))
+            dwexpr_libdw_evaluate(frame, &rule, NULL, NULL, &value);
+        dwexpr_libdw_release(value);
+        dwexpr_libdw_free_text(&rule);
+    }
+    free(rules);
+}
+
 static void read_frame(dwexpr_libdw_frame *frame)
 {
     dwexpr_libdw_entry *entries;
-    uint8_t bytes[DWEXPR_LIBDW_REGISTER_SIZE];
-    size_t count, i, size;
-    int number;
+    size_t count, i;
     dwexpr_libdw_variables(frame, &entries, &count);
     for (i = 0; i < count; i++)
         read_variable(frame, &entries[i].entry);
     free(entries);
-    for (number = -1; number < 17; number++)
-        dwexpr_libdw_caller_register(frame, number, bytes, &size);
+    read_rules(frame);
 }
 
 static uint8_t content[1 << 20]; /* of the file as it was */

@@ -56,11 +56,13 @@ static void read_variable(dwexpr_libdw_frame *frame, size_t frame_index, Dwarf_D
 
 static void read_frame(dwexpr_libdw_frame *frame, size_t index)
 {
-    uint8_t bytes[DWEXPR_LIBDW_REGISTER_SIZE];
+    static const uint8_t cfa[] = {DW_OP_call_frame_cfa};
+    const dwexpr_libdw_text text = {.text = {cfa, sizeof cfa}, .encoding = LE8};
+    dwexpr_libdw_value *value;
     dwexpr_libdw_entry *entries;
     Dwarf_Die *scopes, *globals;
     dwexpr_libdw_place place;
-    size_t count, i, size;
+    size_t count, i;
     without_memory += dwexpr_libdw_variables(frame, &entries, &count) == DWEXPR_LIBDW_NO_MEMORY;
     for (i = 0; i < count; i++)
         read_variable(frame, index, &entries[i].entry);
@@ -73,8 +75,8 @@ static void read_frame(dwexpr_libdw_frame *frame, size_t index)
             dwexpr_libdw_globals(frame, place.module, "counted", &globals, &count) == DWEXPR_LIBDW_NO_MEMORY;
         free(globals);
     }
-    dwexpr_libdw_caller_register(frame, DWEXPR_LIBDW_CFA, bytes, &size);
-    dwexpr_libdw_caller_register(frame, 6, bytes, &size);
+    without_memory += dwexpr_libdw_evaluate(frame, &text, NULL, NULL, &value) == DWEXPR_LIBDW_NO_MEMORY;
+    dwexpr_libdw_release(value);
 }
 
 static void read_core(const char *path)

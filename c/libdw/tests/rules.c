@@ -1,6 +1,7 @@
 /* Expressions of call frame information: the bytes that the assembler was given, and their values. For x86-64. */
 #include "check.h"
 #include "dwexpr_libdw.h"
+#include <dwarf.h>
 #include <stdlib.h>
 #include <string.h>
 #include <unistd.h>
@@ -107,37 +108,6 @@ static int read_memory(void *context, uint64_t address, uint8_t *bytes, size_t s
     return 0;
 }
 
-/* Registers of the caller: those of memory from 0x4ff0 on aren't known. */
-static void check_registers(dwexpr_libdw_frame *frame)
-{
-    static const struct {
-        int number;
-        uint64_t value;
-        uint32_t code;
-    } wanted[] = {
-        {DWEXPR_LIBDW_CFA, 0x5000, 0},
-        {12, 0x9fff, 0},
-        {14, 0x4ff8, 0},
-        {3, 0, DWEXPR_LIBDW_NOT_READABLE},
-        {13, 0, DWEXPR_LIBDW_NOT_READABLE},
-        {2, 0, DWEXPR_LIBDW_OPTIMIZED_AWAY},
-        {7, 0x5000, 0},
-        {5, 0, DWEXPR_LIBDW_NOT_READABLE},
-        {1, 0, DWEXPR_LIBDW_NO_NUMBER}, /* it is in two pieces */
-        {8, 5, 0},
-    };
-    size_t i;
-    for (i = 0; i < COUNT(wanted); i++) {
-        uint8_t got[DWEXPR_LIBDW_REGISTER_SIZE];
-        char name[32];
-        size_t size;
-        const uint32_t code = dwexpr_libdw_caller_register(frame, wanted[i].number, got, &size);
-        snprintf(name, sizeof name, "register %d of the caller", wanted[i].number);
-        check(code == wanted[i].code, name, dwexpr_libdw_code_name(code));
-        check(code || (size == 8 && !memcmp(got, &wanted[i].value, 8)), name, "its value");
-    }
-}
-
 /* What call frame information says at an address, or NULL, and its file. */
 static Dwarf_Frame *rules_at(Dwfl *dwfl, void (*function)(void), Elf **elf)
 {
@@ -177,6 +147,9 @@ int main(void)
     const dwexpr_libdw_source source = {.dwfl = dwfl, .pc = (Dwarf_Addr)(uintptr_t)rules, .is_activation = 1,
                                         .read_register = read_register, .read_memory = read_memory};
     static const uint64_t other_cfa = 0x100;
+    static const uint8_t cfa[] = {DW_OP_call_frame_cfa};
+    const dwexpr_libdw_text text = {.text = {cfa, sizeof cfa}, .encoding = LE8};
+    dwexpr_libdw_value *value;
     Dwarf_Frame *state;
     dwexpr_libdw_frame *frame;
     Elf *elf;
@@ -191,7 +164,6 @@ int main(void)
         char name[32];
         const size_t length = bytes_of(rows[i].bytes, wanted);
         dwexpr_libdw_text expression;
-        dwexpr_libdw_value *value;
         const uint32_t code = dwexpr_libdw_rule(state, elf, rows[i].number, &expression);
         snprintf(name, sizeof name, "register %d", rows[i].number);
         check(code == rows[i].code, name, dwexpr_libdw_code_name(code));
@@ -212,7 +184,9 @@ int main(void)
         }
         dwexpr_libdw_free_text(&expression);
     }
-    check_registers(frame);
+    check(!dwexpr_libdw_evaluate(frame, &text, NULL, NULL, &value) && value->pieces[0].number == 0x5000, "the CFA",
+          "its value");
+    dwexpr_libdw_release(value);
     check_plain(dwfl);
     free(state);
     dwexpr_libdw_free_frame(frame);

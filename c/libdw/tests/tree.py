@@ -13,6 +13,7 @@ TAGS = {
     "reference": 0x10, "rvalue_reference": 0x42,
 }  # fmt: skip
 ATTRIBUTES = {
+    "sibling": 0x01,
     "location": 0x02, "name": 0x03, "ordering": 0x09, "byte_size": 0x0B, "bit_offset": 0x0C, "bit_size": 0x0D,
     "low": 0x11, "high": 0x12, "language": 0x13, "string_length": 0x19, "const_value": 0x1C, "lower": 0x22,
     "bit_stride": 0x2E, "upper": 0x2F, "origin": 0x31, "count": 0x37, "member_location": 0x38, "declaration": 0x3C,

@@ -65,7 +65,8 @@ class Core(Tree):
         return self.pack("I", len(common)) + common + self.pack("I", len(frame)) + frame
 
     def program(self):
-        self.root.add("function", name="f", low=(1, self.address(FIRST)), high=(1, self.address(FIRST + len(CODE))))
+        low, high = ((1, self.address(it)) for it in (FIRST, FIRST + len(CODE)))
+        self.root.add("subprogram", name="f", low_pc=low, high_pc=high)
         # it begins 8 bytes after an address with its alignment, or has none
         local = (TLS, 0x403008, b"\1" * 4, 20, 16 if self.address_size == 8 else 0)
         return self.elf({**self.tree(), ".debug_frame": self.rules()}, [(LOAD, FIRST, CODE, len(CODE)), local], 2)

@@ -23,7 +23,7 @@ class Entries(Tree):
             self.root.attributes["addr_base"] = (0x17, self.offset(8 if self.offset_size == 4 else 16))
 
     def base_type(self, size, encoding):
-        return self.root.add("base", byte_size=(DATA1, bytes([size])), encoding=(DATA1, bytes([encoding])))
+        return self.root.add("base_type", byte_size=(DATA1, bytes([size])), encoding=(DATA1, bytes([encoding])))
 
     def variable(self, what, wanted, expression, **attributes):
         wanted = wanted if isinstance(wanted, str) else wanted.hex()

@@ -21,10 +21,10 @@ class Functions(Tree):
     def __init__(self, version):
         super().__init__(8, 4, version, "le", language=0x0C)
         if version >= 5:
-            self.root.attributes |= {"low": self.at(FIRST), "high": self.at(FIRST + len(CODE))}
+            self.root.attributes |= {"low_pc": self.at(FIRST), "high_pc": self.at(FIRST + len(CODE))}
             self.root.attributes["addr_base"] = (0x17, self.offset(8))
-        self.int = self.root.add("base", byte_size=4, encoding=5)
-        self.odd = self.root.add("base", byte_size=4, encoding=0x105)
+        self.int = self.root.add("base_type", byte_size=4, encoding=5)
+        self.odd = self.root.add("base_type", byte_size=4, encoding=0x105)
         self.count, self.ranges = 0, b""
 
     def at(self, address):
@@ -34,13 +34,13 @@ class Functions(Tree):
         """A function with code of its own; its `place` is where that begins."""
         begin = FIRST + SIZE * self.count
         self.count += 1
-        placed = {"low": self.at(begin), "high": self.at(begin + SIZE)} if is_placed else {}
-        made = (parent or self.root).add("function", name=name or f"f{self.count}", **placed, **attributes)
+        placed = {"low_pc": self.at(begin), "high_pc": self.at(begin + SIZE)} if is_placed else {}
+        made = (parent or self.root).add("subprogram", name=name or f"f{self.count}", **placed, **attributes)
         made.begin = begin
         return made
 
     def inside(self, parent, tag, begin, size, **attributes):
-        return parent.add(tag, low=self.at(begin), high=self.at(begin + size), **attributes)
+        return parent.add(tag, low_pc=self.at(begin), high_pc=self.at(begin + size), **attributes)
 
     def variable(self, parent, name, expression=None, tag="variable", **attributes):
         placed = {} if expression is None else {"location": expression}
@@ -75,16 +75,16 @@ class Functions(Tree):
     def blocks(self):
         function = self.function()
         begin = function.begin
-        hidden = function.add("block")  # no addresses, but others within
+        hidden = function.add("lexical_block")  # no addresses, but others within
         self.variable(hidden, "not_there", b"\x30\x9f")
-        inner = self.inside(hidden, "block", begin + 0x10, 0x10)
+        inner = self.inside(hidden, "lexical_block", begin + 0x10, 0x10)
         self.variable(inner, "a", b"\x31\x9f")
-        for number, tag in enumerate(("try", "catch", "with")):
+        for number, tag in enumerate(("try_block", "catch_block", "with_stmt")):
             part = self.inside(function, tag, begin + 0x20 + 0x10 * number, 0x10)
             self.variable(part, tag, bytes([0x32 + number, 0x9F]))
-        common = function.add("common")
+        common = function.add("common_block")
         self.variable(common, "shared", b"\x0c" + self.pack("I", 0x1010))
-        common.add("common").add("variable", name="too_deep", type=self.int, location=b"\x31\x9f")
+        common.add("common_block").add("variable", name="too_deep", type=self.int, location=b"\x31\x9f")
         function.add("constant", name="number", type=self.int, const_value=-3)
         self.variable(function, "cut_off", b"\x03")
         function.add("variable", name="no_place", type=self.int, location=5)
@@ -92,8 +92,8 @@ class Functions(Tree):
         self.row([begin], "odd in 0 is unknown: a base type", "cut_off in 0 is an operation is cut off",
                  "no_place in 0 is libdw refuses the debug information")
         self.row([begin + 0x12], "a in 0 is 01000000", "not_there in 0 is 00000000", "shared in 0 is 10111213",
-                 "number in 0 is fdffffff", "too_deep in 0 is missing", "try in 0 is missing")
-        for number, tag in enumerate(("try", "catch", "with")):
+                 "number in 0 is fdffffff", "too_deep in 0 is missing", "try_block in 0 is missing")
+        for number, tag in enumerate(("try_block", "catch_block", "with_stmt")):
             self.row([begin + 0x22 + 0x10 * number], f"{tag} in 0 is 0{2 + number}000000", "a in 0 is missing")
 
     def siblings(self):
@@ -117,14 +117,14 @@ class Functions(Tree):
 
     def instances(self):
         """What only the abstract entry has."""
-        abstract = self.root.add("function", name="inlined")
+        abstract = self.root.add("subprogram", name="inlined")
         first, alone = self.variable(abstract, "first"), self.variable(abstract, "alone", const_value=7)
         self.variable(abstract, "lost")
         self.variable(abstract, "static", b"\x0c" + self.pack("I", 0x1014))
         function = self.function()
-        inlined = self.inside(function, "inlined", function.begin + 0x10, 0x10, origin=abstract)
-        inlined.add("variable", origin=first, location=b"\x35\x9f")
-        self.variable(inlined, "registers", IN_0, "parameter")
+        inlined = self.inside(function, "inlined_subroutine", function.begin + 0x10, 0x10, abstract_origin=abstract)
+        inlined.add("variable", abstract_origin=first, location=b"\x35\x9f")
+        self.variable(inlined, "registers", IN_0, "formal_parameter")
         self.row([function.begin + 0x11], "first in 0 is 05000000", "alone in 0 is 07000000",
                  "static in 0 is 14151617", "lost in 0 is optimized away", "registers in 0 is 88776655",
                  "count in 0 is 7")
@@ -140,7 +140,7 @@ class Functions(Tree):
         wrong = self.function(outer, static_link=base(0x1300), frame_base=base(0x1200))
         broken = self.function(outer, static_link=b"\x22", frame_base=base(0x1200))
         unlinked = self.function(outer, frame_base=base(0x1200))
-        deep = self.function(self.inside(unlinked, "block", unlinked.begin, 0x80))
+        deep = self.function(self.inside(unlinked, "lexical_block", unlinked.begin, 0x80))
         other = self.function(frame_base=base(0x1400))
         for inner in (linked, wrong, broken, unlinked):
             self.variable(inner, "own", b"\x91\0")
@@ -166,15 +166,15 @@ class Functions(Tree):
         return outer
 
     def parameter(self, function, name="given", expression=ENTRY_0):
-        self.variable(function, "held", IN_0, "parameter")
-        return self.variable(function, name, expression, "parameter")
+        self.variable(function, "held", IN_0, "formal_parameter")
+        return self.variable(function, name, expression, "formal_parameter")
 
     def site(self, caller, at, value=b"\x3a", place=IN_0, **attributes):
         """A call that returns to an address in its caller, and passes a value in register 0."""
-        names = {"return_pc": self.at(at)} if at else {}
+        names = {"call_return_pc": self.at(at)} if at else {}
         site = caller.add("call_site", **names, **attributes)
         passed = {} if value is None else {"call_value": value}
-        site.add("call_parameter", location=place, **passed)
+        site.add("call_site_parameter", location=place, **passed)
         return site
 
     def calls(self):
@@ -212,16 +212,16 @@ class Functions(Tree):
         self.row([called.begin + 3], f"given in 0 is {unknown}")
         self.row([called.begin + 3, 0x41FF00], f"given in 0 is {unknown}")
         # the site stands in blocks of each kind, and not in a class
-        for tag in ("block", "inlined", "try", "catch", "structure"):
+        for tag in ("lexical_block", "inlined_subroutine", "try_block", "catch_block", "structure_type"):
             place += 4
             block = caller.add(tag)
             self.site(block, place, call_origin=called)
-            said = unknown if tag == "structure" else "0a000000"
+            said = unknown if tag == "structure_type" else "0a000000"
             self.row([called.begin + 3, place], f"given in 0 is {said}")
         # names: of an instance, of a declaration in the source and for the linker, of a symbol at the same address
-        abstract = self.root.add("function", name="abstract")
-        instance = self.function(origin=abstract, external=True)
-        completed = self.function(specification=self.root.add("function", name="declared", declaration=True))
+        abstract = self.root.add("subprogram", name="abstract")
+        instance = self.function(abstract_origin=abstract, external=True)
+        completed = self.function(specification=self.root.add("subprogram", name="declared", declaration=True))
         for callee in (instance, completed):
             self.parameter(callee)
         one("0a000000", callee=instance, call_origin=abstract)
@@ -231,18 +231,18 @@ class Functions(Tree):
         for said, name in [("0a000000", "seen"), (unknown, "unseen")]:
             seen = self.function(name="seen", external=True)
             self.parameter(seen)
-            one(said, callee=seen, call_origin=self.root.add("function", name=name, external=True, declaration=True))
+            one(said, callee=seen, call_origin=self.root.add("subprogram", name=name, external=True, declaration=True))
         for said, attributes in [
             ("0a000000", {"name": "alias"}), (unknown, {"name": "no_alias"}), (unknown, {}),
             ("0a000000", {"name": "x", "linkage_name": "alias"}),
             ("0a000000", {"name": "x", "MIPS_linkage_name": "alias"}),
         ]:  # fmt: skip
-            declared = self.root.add("function", external=True, declaration=True, **attributes)
+            declared = self.root.add("subprogram", external=True, declaration=True, **attributes)
             one(said, callee=other, call_origin=declared)
         self.symbols = [("alias", other.begin, 0x12), ("other_alias", other.begin, 0x12)]
         # an instance of itself, a place that is no register with a type, and lengths that an operation hasn't
-        circle = self.root.add("function", external=True)
-        circle.attributes["origin"] = circle
+        circle = self.root.add("subprogram", external=True)
+        circle.attributes["abstract_origin"] = circle
         one(unknown, call_origin=circle)
         for bad in (b"\x50\x96", b"\x92\0\0", b"\x01", b"\x70\0"):
             one(unknown, place=bad, call_origin=called)
@@ -253,9 +253,9 @@ class Functions(Tree):
             ("unreadable", b"\x01", "an entry value"), ("untyped", b"\x70\0", "an entry value"),
             ("framed", b"\x91\0", "an entry value"), ("two", IN_0 + IN_0, "an entry value"),
         ]:  # fmt: skip
-            self.variable(called, name, expression, "parameter")
+            self.variable(called, name, expression, "formal_parameter")
             self.row([called.begin + 3, caller.begin + 0x14], f"entry of {name} is {said}")
-        no_place = self.root.add("function", name="f")
+        no_place = self.root.add("subprogram", name="f")
         one(unknown, callee=other, call_origin=no_place)
         # the entry of the function in the place of its parameter, as GCC wrote before version 5
         parameter = self.parameter(other, "by_entry", b"\xfa" + self.pack("I", 0))
@@ -268,9 +268,9 @@ class Functions(Tree):
             """Functions that leave for the next one by a tail call."""
             functions = [self.function() for _ in range(length)]
             for here, next_one in zip(functions, functions[1:]):
-                self.site(here, None, value=b"\x3b", call_origin=next_one, tail_call=True)
+                self.site(here, None, value=b"\x3b", call_origin=next_one, call_tail_call=True)
             if last_calls is not None:
-                self.site(functions[-1], None, call_origin=functions[last_calls], tail_call=True)
+                self.site(functions[-1], None, call_origin=functions[last_calls], call_tail_call=True)
             return functions
 
         def called_by(function, called):
@@ -286,7 +286,7 @@ class Functions(Tree):
         self.row(called_by(three[0], three[2]), f"given in 0 is {unknown}")
         # one of two tail calls; and a site that isn't one
         several = chain(2)
-        self.site(several[0], None, call_origin=several[1], tail_call=True)
+        self.site(several[0], None, call_origin=several[1], call_tail_call=True)
         self.row(called_by(several[0], several[1]), f"given in 0 is {unknown}")
         plain = [self.function(), self.function()]
         self.site(plain[0], plain[0].begin + 8, call_origin=plain[1])
@@ -303,7 +303,7 @@ class Functions(Tree):
         self.parameter(target[1])
         # by a name that only a symbol has, that of a function which isn't exported
         named = chain(2)
-        by_symbol = self.root.add("function", name="by_symbol", external=True, declaration=True)
+        by_symbol = self.root.add("subprogram", name="by_symbol", external=True, declaration=True)
         self.symbols.append(("by_symbol", named[0].begin, 0x02))
         self.row(called_by(by_symbol, named[1]), "given in 0 is 0b000000")
         # it may have called itself: by a circle, by an address, or by more functions than are looked at
@@ -312,7 +312,7 @@ class Functions(Tree):
         twice = chain(3, 1)
         self.row(called_by(twice[0], twice[0]), "given in 0 is 0a000000")
         computed = chain(2)
-        self.site(computed[1], None, call_target=b"\x30", tail_call=True)
+        self.site(computed[1], None, call_target=b"\x30", call_tail_call=True)
         self.row(called_by(computed[0], computed[0]), f"given in 0 is {unknown}")
         # the function itself and 31 others, and one more
         for length, said in [(32, "0a000000"), (33, unknown), (40, unknown)]:
@@ -320,8 +320,8 @@ class Functions(Tree):
             self.row(called_by(functions[0], functions[0]), f"given in 0 is {said}")
         # a tail call of what isn't there
         nothing = self.function()
-        self.site(nothing, None, call_origin=self.root.add("function", name="elsewhere"), tail_call=True)
-        self.site(nothing, None, call_origin=self.root.add("function"), tail_call=True)
+        self.site(nothing, None, call_origin=self.root.add("subprogram", name="elsewhere"), call_tail_call=True)
+        self.site(nothing, None, call_origin=self.root.add("subprogram"), call_tail_call=True)
         self.row(called_by(nothing, nothing), "given in 0 is 0a000000")
         # through more callers than there are expressions for
         return unknown

@@ -128,8 +128,10 @@ static void check_unnamed(dwexpr_libdw_frame *frame, const char *machine)
     dwexpr_libdw_text rule;
     Dwarf_Addr bias, elf_bias;
     Dwarf_Frame *rules = NULL;
+    Dwarf_CFI *table;
     dwexpr_libdw_locate(frame, &place);
-    dwarf_cfi_addrframe(dwfl_module_dwarf_cfi(place.module, &bias), place.pc - bias, &rules);
+    table = dwfl_module_dwarf_cfi(place.module, &bias);
+    dwarf_cfi_addrframe(table, place.pc - bias, &rules);
     check(rules && dwexpr_libdw_rule(rules, dwfl_module_getelf(place.module, &elf_bias), 3, &rule) ==
                        DWEXPR_LIBDW_SAME_VALUE,
           machine, "a register that no rule names");

@@ -3,6 +3,7 @@
 #include "dwexpr_libdw.h"
 #include <dwarf.h>
 #include <fcntl.h>
+#include <stdlib.h>
 #include <unistd.h>
 
 static const char *folder;
@@ -120,6 +121,23 @@ static void end(void)
     close(opened.file);
 }
 
+/* No rule names register 3, which a call keeps. */
+static void check_unnamed(dwexpr_libdw_frame *frame, const char *machine)
+{
+    dwexpr_libdw_place place;
+    dwexpr_libdw_text rule;
+    Dwarf_Addr bias, elf_bias;
+    Dwarf_Frame *rules = NULL;
+    Dwarf_CFI *table;
+    dwexpr_libdw_locate(frame, &place);
+    table = dwfl_module_dwarf_cfi(place.module, &bias);
+    dwarf_cfi_addrframe(table, place.pc - bias, &rules);
+    check(rules && dwexpr_libdw_rule(rules, dwfl_module_getelf(place.module, &elf_bias), 3, &rule) ==
+                       DWEXPR_LIBDW_SAME_VALUE,
+          machine, "a register that no rule names");
+    free(rules);
+}
+
 static void check_core(const char *machine, pid_t first, size_t count)
 {
     static const uint8_t cfa[] = {DW_OP_call_frame_cfa};
@@ -170,6 +188,7 @@ static void check_core(const char *machine, pid_t first, size_t count)
         code = dwexpr_libdw_evaluate(dwexpr_libdw_frame_at(stack, 0), &text, NULL, NULL, &value);
         check(!code && value->pieces[0].number == (count == 7 ? 0x500010 : 0x50000c), machine, "the CFA");
         dwexpr_libdw_release(value);
+        check_unnamed(dwexpr_libdw_frame_at(stack, 0), machine);
         dwexpr_libdw_free_stack(stack);
         check_local(first, 0x600000u + (unsigned)first);
         /* on i386 the segment that gs selects may be missing */

@@ -5,17 +5,17 @@
 #[allow(dead_code)]
 mod rust;
 
-use rust::{Case, Reading, Row, all, theirs};
+use rust::{Case, Row, UnitEncoding, all, theirs};
 use std::process::ExitCode;
 
 macro_rules! from_c {
     ($($name:ident: $call:ident,)+) => {
         unsafe extern "C" {
-            $(fn $call(bytes: *const u8, length: usize, encoding: Reading) -> u64;)+
+            $(fn $call(bytes: *const u8, length: usize, encoding: UnitEncoding) -> u64;)+
         }
         $(fn $name(cases: &[Case], times: u32) -> u64 {
             // SAFETY: calls.c reads the bytes of one slice, and keeps none.
-            all(cases, times, |case| unsafe { $call(case.bytes.as_ptr(), case.bytes.len(), case.reading) })
+            all(cases, times, |case| unsafe { $call(case.bytes.as_ptr(), case.bytes.len(), case.encoding) })
         })+
     };
 }

@@ -19,10 +19,10 @@ const MOST_OPERATIONS: u32 = 100_000;
 const CONTENT: u64 = 0x1234;
 const ADDRESS: u64 = 0x7000;
 
-/// How bytes are to be read. C has it as `dwexpr_encoding`.
+/// The encoding of a unit, as `dwexpr_encoding` is in C.
 #[repr(C)]
 #[derive(Clone, Copy)]
-pub struct Reading {
+pub struct UnitEncoding {
     pub address_size: u8,
     pub offset_size: u8,
     pub is_big_endian: bool,
@@ -31,14 +31,14 @@ pub struct Reading {
 
 /// An expression.
 pub struct Case {
-    pub reading: Reading,
+    pub encoding: UnitEncoding,
     pub bytes: Vec<u8>,
     shared: Arc<[u8]>,
 }
 
 impl Case {
-    fn new(reading: Reading, bytes: Vec<u8>) -> Case {
-        Case { reading, shared: bytes.as_slice().into(), bytes }
+    fn new(encoding: UnitEncoding, bytes: Vec<u8>) -> Case {
+        Case { encoding, shared: bytes.as_slice().into(), bytes }
     }
 
     /// The case in the columns of a line, or in the words of a row.
@@ -48,8 +48,8 @@ impl Case {
         let is_big_endian = columns.next()? == "be";
         let pairs = columns.next()?.as_bytes().chunks(2);
         let byte = |pair| u8::from_str_radix(str::from_utf8(pair).ok()?, 16).ok();
-        let reading = Reading { address_size, offset_size, is_big_endian, version };
-        Some(Case::new(reading, pairs.map(byte).collect::<Option<_>>()?))
+        let encoding = UnitEncoding { address_size, offset_size, is_big_endian, version };
+        Some(Case::new(encoding, pairs.map(byte).collect::<Option<_>>()?))
     }
 
     /// The bytes in gimli's reference-counted reader.
@@ -58,7 +58,7 @@ impl Case {
     }
 
     fn order(&self) -> gimli::RunTimeEndian {
-        if self.reading.is_big_endian { gimli::RunTimeEndian::Big } else { gimli::RunTimeEndian::Little }
+        if self.encoding.is_big_endian { gimli::RunTimeEndian::Big } else { gimli::RunTimeEndian::Little }
     }
 }
 
@@ -124,12 +124,12 @@ macro_rules! works {
             }
 
             pub fn encoding_of(case: &Case) -> Encoding {
-                let format = if case.reading.offset_size == 8 { Format::Dwarf64 } else { Format::Dwarf32 };
-                Encoding { address_size: case.reading.address_size, format, version: case.reading.version.into() }
+                let format = if case.encoding.offset_size == 8 { Format::Dwarf64 } else { Format::Dwarf32 };
+                Encoding { address_size: case.encoding.address_size, format, version: case.encoding.version.into() }
             }
 
             pub fn text_of<'a>(case: &Case, bytes: &'a [u8]) -> EndianSlice<'a, RunTimeEndian> {
-                let is_big_endian = case.reading.is_big_endian;
+                let is_big_endian = case.encoding.is_big_endian;
                 EndianSlice::new(bytes, if is_big_endian { RunTimeEndian::Big } else { RunTimeEndian::Little })
             }
 
@@ -340,7 +340,7 @@ fn made_up(count: usize) -> List {
         (state >> 16) % below
     };
     let mut one = || {
-        let reading = Reading {
+        let encoding = UnitEncoding {
             address_size: 1 + next(8) as u8,
             offset_size: 4 + 4 * next(2) as u8,
             is_big_endian: next(2) == 1,
@@ -363,12 +363,12 @@ fn made_up(count: usize) -> List {
             };
             let has_piece = bytes.iter().any(|it| matches!(it, 0x93 | 0x9d));
             bytes.push(match byte {
-                0x24..=0x26 if reading.address_size < 8 => 0x22,
+                0x24..=0x26 if encoding.address_size < 8 => 0x22,
                 0x00..=0x07 | 0x18 | 0x70..=0x92 | 0x94..=0x9c | 0xa0.. if has_piece => literal,
                 _ => byte,
             });
         }
-        Case::new(reading, bytes)
+        Case::new(encoding, bytes)
     };
     ("made up".into(), (0..count).map(|_| one()).collect())
 }

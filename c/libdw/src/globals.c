@@ -159,7 +159,8 @@ int dwexpr_libdw_find_segment(Dwfl_Module *module, unsigned type, GElf_Phdr *seg
     return segment->p_type == type;
 }
 
-int dwexpr_libdw_is_program(Dwfl_Module *module)
+/* Whether a module that exports symbols is the program: only the program's dynamic section has DT_DEBUG. */
+static int is_program(Dwfl_Module *module)
 {
     GElf_Phdr segment;
     GElf_Dyn entry = {.d_tag = DT_NULL};
@@ -167,7 +168,7 @@ int dwexpr_libdw_is_program(Dwfl_Module *module)
     Elf_Data *entries;
     int i;
     if (!dwexpr_libdw_find_segment(module, PT_DYNAMIC, &segment, &bias))
-        return 1;
+        return 0;
     entries = elf_getdata_rawchunk(dwfl_module_getelf(module, &bias), (int64_t)segment.p_offset,
                                    (size_t)segment.p_filesz, ELF_T_DYN);
     for (i = 0; entry.d_tag != DT_DEBUG && gelf_getdyn(entries, i, &entry); i++)
@@ -227,9 +228,9 @@ int dwexpr_libdw_resolve(Dwfl *dwfl, Dwfl_Module *module, int is_its_own, struct
         if (!is_exported(exporter, &other))
             continue;
         count++;
-        if (!own || dwexpr_libdw_is_program(exporter))
+        if (!own || is_program(exporter))
             *symbol = other;
-        if (dwexpr_libdw_is_program(exporter))
+        if (is_program(exporter))
             return 1;
     }
     return own || count == 1;

@@ -129,8 +129,6 @@ int dwexpr_libdw_resolve(Dwfl *dwfl, Dwfl_Module *module, int is_its_own, struct
 
 /* The first segment of a type that a module has, and the bias of its address. Gives back whether there is one. */
 int dwexpr_libdw_find_segment(Dwfl_Module *module, unsigned type, GElf_Phdr *segment, Dwarf_Addr *bias);
-/* Whether a module is the program: only its dynamic section has DT_DEBUG, or it has none. */
-int dwexpr_libdw_is_program(Dwfl_Module *module);
 
 /* The name that an entry has for the linker, or else in its source. */
 const char *dwexpr_libdw_linkage_name(Dwarf_Die *entry);

@@ -72,7 +72,41 @@ int dwexpr_libdw_read_memory(const dwexpr_libdw_target *target, uint64_t address
     return 0;
 }
 
-/* ---- the notes of a core dump */
+/* ---- the notes of a core dump, and what /proc has of a process */
+
+/* Keeps the address of the program's headers in the auxiliary vector, which tells the program from other files. */
+static void keep_program(dwexpr_libdw_target *target, const uint8_t *words, size_t length)
+{
+    const size_t size = target->word;
+    for (; length >= 2 * size; words += 2 * size, length -= 2 * size)
+        if (dwexpr_libdw_number_of(words, size, target->big_endian) == AT_PHDR)
+            target->program = dwexpr_libdw_number_of(words + size, size, target->big_endian);
+}
+
+/* The notes of a core dump's segment, or NULL if it has none. */
+static Elf_Data *notes_of(Elf *core, size_t index)
+{
+    GElf_Phdr segment = {.p_type = PT_NULL};
+    gelf_getphdr(core, (int)index, &segment);
+    if (segment.p_type != PT_NOTE || (size_t)segment.p_filesz != segment.p_filesz)
+        return NULL;
+    return elf_getdata_rawchunk(core, (int64_t)segment.p_offset, (size_t)segment.p_filesz, ELF_T_NHDR);
+}
+
+/* Reads the auxiliary vector of a core dump. */
+static void read_vector(dwexpr_libdw_target *target)
+{
+    size_t count = 0, i, at, name_at, bytes_at;
+    GElf_Nhdr header;
+    elf_getphdrnum(target->core, &count);
+    for (i = 0; i < count; i++) {
+        Elf_Data *notes = notes_of(target->core, i);
+        for (at = 0; (at = gelf_getnote(notes, at, &header, &name_at, &bytes_at)) > 0;)
+            if (header.n_type == NT_AUXV && header.n_namesz == sizeof "CORE" &&
+                !memcmp((const char *)notes->d_buf + name_at, "CORE", sizeof "CORE"))
+                keep_program(target, (const uint8_t *)notes->d_buf + bytes_at, header.n_descsz);
+    }
+}
 
 /* The register set that a note has, or SETS if it has none. */
 static int set_of(const GElf_Nhdr *header, const char *name)
@@ -112,13 +146,8 @@ void dwexpr_libdw_read_notes(const dwexpr_libdw_target *target, pid_t thread, st
 {
     size_t count = 0, i;
     elf_getphdrnum(target->core, &count);
-    for (i = 0; i < count; i++) {
-        GElf_Phdr segment = {.p_type = PT_NULL};
-        gelf_getphdr(target->core, (int)i, &segment);
-        if (segment.p_type == PT_NOTE && (size_t)segment.p_filesz == segment.p_filesz)
-            take_sets(target, elf_getdata_rawchunk(target->core, (int64_t)segment.p_offset, (size_t)segment.p_filesz,
-                                                   ELF_T_NHDR), thread, sets);
-    }
+    for (i = 0; i < count; i++)
+        take_sets(target, notes_of(target->core, i), thread, sets);
 }
 
 /* ---- why there is no target */
@@ -164,36 +193,62 @@ static uint32_t make_target(const Dwfl_Callbacks *finders, dwexpr_libdw_target *
     if (!*target)
         return DWEXPR_LIBDW_NO_MEMORY;
     (*target)->file = -1;
+    (*target)->word = 8;
     (*target)->owned = finders ? dwfl_begin(finders) : NULL;
     return ended(finders && !(*target)->owned ? DWEXPR_LIBDW_NO_MEMORY : 0, target);
 }
 
-/* Takes the order of words, and their size, from a core dump, or from a file of the process. */
-static void read_header(dwexpr_libdw_target *target)
+/* Keeps the order of words, and their size, from the start of an ELF file. */
+static void keep_header(dwexpr_libdw_target *target, const unsigned char *ident, unsigned machine)
 {
-    GElf_Ehdr header = {.e_machine = EM_NONE};
-    Dwfl_Module *module;
-    Dwarf_Addr bias;
-    ptrdiff_t next = 0;
-    if (target->core)
-        gelf_getehdr(target->core, &header);
-    while (header.e_machine == EM_NONE && (next = dwexpr_libdw_next_module(target->dwfl, next, &module)) > 0)
-        gelf_getehdr(dwfl_module_getelf(module, &bias), &header);
-    target->big_endian = header.e_ident[EI_DATA] == ELFDATA2MSB;
-    target->word = header.e_ident[EI_CLASS] == ELFCLASS32 ? 4 : 8;
-    target->machine = header.e_machine;
+    target->big_endian = ident[EI_DATA] == ELFDATA2MSB;
+    target->word = ident[EI_CLASS] == ELFCLASS32 ? 4 : 8;
+    target->machine = machine;
+}
+
+/* Opens a file that /proc has of the process. */
+static int open_proc(const dwexpr_libdw_target *target, const char *name)
+{
+    char path[64];
+    snprintf(path, sizeof path, "/proc/%ld/%s", (long)dwfl_pid(target->dwfl), name);
+    return open(path, O_RDONLY | O_CLOEXEC);
+}
+
+/* Reads the start of such a file. Returns how many bytes there are. */
+static size_t read_proc(const dwexpr_libdw_target *target, const char *name, uint8_t *bytes, size_t size)
+{
+    const int file = open_proc(target, name);
+    const ssize_t count = file < 0 ? 0 : read(file, bytes, size);
+    if (file >= 0)
+        close(file);
+    return count > 0 ? (size_t)count : 0;
+}
+
+static void read_process_header(dwexpr_libdw_target *target)
+{
+    uint8_t bytes[1024];
+    uint16_t machine;
+    if (read_proc(target, "exe", bytes, EI_NIDENT + 4) == EI_NIDENT + 4) {
+        /* a process runs on this machine, so its file's words are in the order of this program's */
+        memcpy(&machine, bytes + EI_NIDENT + 2, sizeof machine);
+        keep_header(target, bytes, machine);
+    }
+    keep_program(target, bytes, read_proc(target, "auxv", bytes, sizeof bytes));
+    target->file = open_proc(target, "mem");
 }
 
 static uint32_t begin_target(dwexpr_libdw_target *target, Dwfl *dwfl, Elf *core)
 {
-    char path[64];
+    GElf_Ehdr header = {.e_machine = EM_NONE};
     int failed;
     target->dwfl = dwfl;
     target->core = core;
-    read_header(target);
-    if (!core) {
-        snprintf(path, sizeof path, "/proc/%ld/mem", (long)dwfl_pid(dwfl));
-        target->file = open(path, O_RDONLY | O_CLOEXEC);
+    if (core) {
+        gelf_getehdr(core, &header);
+        keep_header(target, header.e_ident, header.e_machine);
+        read_vector(target);
+    } else {
+        read_process_header(target);
     }
     failed = dwfl_getthreads(dwfl, on_thread, target);
     if (failed == DWARF_CB_ABORT)

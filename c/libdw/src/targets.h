@@ -25,6 +25,7 @@ struct dwexpr_libdw_target {
     int big_endian;
     size_t word;  /* the bytes of an address */
     unsigned machine;
+    Dwarf_Addr program; /* an address in the program itself, 0 if it isn't known */
 };
 
 /* What dwexpr_libdw_target_error says. */

@@ -112,7 +112,7 @@ int dwexpr_libdw_find_block(const dwexpr_libdw_target *target, Dwfl_Module *modu
     /* GCC 12 writes an address for an offset in split debug information of version 5 */
     if (!dwexpr_libdw_find_segment(module, PT_TLS, &segment, &bias) || offset >= segment.p_memsz)
         return 1;
-    if (!dwexpr_libdw_is_program(module))
+    if (!target->program || dwfl_addrmodule(target->dwfl, target->program) != module)
         return find_library_block(target, module, pointer, offset, address);
     *address = program_block(&segment, pointer) + offset;
     return 0;

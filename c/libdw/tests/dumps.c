@@ -204,9 +204,8 @@ static void check_core(const char *machine, pid_t first, size_t count)
 static void check_glibc(const char *name, unsigned word, int has_linker)
 {
     /* a distance from the thread pointer, blocks, and modules without any: the last three aren't in the list, have no
-     * dynamic section as the program alone may, and have no thread-local storage */
-    enum { PROGRAM = 9 };
-    static const uint64_t blocks[11] = {0x500000 - 0x40, 0x607000, 0x607040, [PROGRAM] = 0x500000 - 32};
+     * dynamic section, and have no thread-local storage */
+    static const uint64_t blocks[11] = {0x500000 - 0x40, 0x607000, 0x607040};
     static const uint8_t bytes[] = {DW_OP_const1u, 4, DW_OP_form_tls_address};
     dwexpr_libdw_text text = {.text = {bytes, sizeof bytes}, .encoding = encoding_of((int)word, 4, 4, 0)};
     Dwfl_Module *modules[COUNT(blocks)];
@@ -226,8 +225,7 @@ static void check_glibc(const char *name, unsigned word, int has_linker)
     for (i = 0; i < 2 * COUNT(blocks); i++) {
         const unsigned at = i / 2, thread = i % 2;
         /* of the second thread the vector can't be read */
-        const int is_known = at == PROGRAM || (has_linker && (!thread || !at));
-        const uint64_t block = is_known ? blocks[at] + 2 * word * thread : 0;
+        const uint64_t block = has_linker && (!thread || !at) ? blocks[at] + 2 * word * thread : 0;
         Dwarf_Addr bias;
         dwexpr_libdw_value *value;
         uint32_t code;

@@ -16,7 +16,7 @@ from tree import Tree, signed_leb, unsigned_leb
 FIRST, STACK, NEXT, CUT = 0x401000, 0x500000, 0x501000, 0x502000
 CODE = bytes(range(256)) * 2
 LOAD, NOTE, TLS = 1, 4, 7
-STATUS, FLOATS, PROCESS, XSAVE, FXSAVE, SEGMENTS = 1, 2, 3, 0x202, 0x46E62B7F, 0x200
+STATUS, FLOATS, PROCESS, AUXILIARY, XSAVE, FXSAVE, SEGMENTS = 1, 2, 3, 6, 0x202, 0x46E62B7F, 0x200
 # of the general registers: where the program counter, the stack's pointer and the base of fs or gs's selector stand
 PLACES = {8: (16, 19, 21), 4: (12, 15, 10)}
 
@@ -76,6 +76,10 @@ class Core(Tree):
         size, at = (136, 24) if self.address_size == 8 else (124, 12)
         self.note("CORE", PROCESS, bytes(at) + self.pack("I", number) + bytes(size - at - 4))
 
+    def auxiliary(self):
+        words = [(33, 0), (3, FIRST), (0, 0)]
+        self.note("CORE", AUXILIARY, b"".join(self.address(it) for pair in words for it in pair) + b"\0")
+
     def core(self):
         """Of the stack's segment the file has 0x20 bytes of 0x40, and then those of the next one; the last one is cut
         off."""
@@ -119,7 +123,7 @@ class Glibc(Core):
         return b"".join(self.address(it % (1 << 8 * self.address_size)) for it in numbers)
 
     def library(self, number):
-        """The last but one has no dynamic section, as a static program; the last one no thread-local storage."""
+        """The last two have no dynamic section, and no thread-local storage."""
         self.root.attributes["name"] = f"library {number}"
         begin, count = 0x800000 + 0x10000 * number, len(self.MODULES)
         dynamic, local = (2, begin, b"", 16), (TLS, begin + 8, b"", 32)
@@ -162,6 +166,8 @@ class Glibc(Core):
         for thread, pointer in [(401, STACK), (402, STACK + 2 * self.address_size)]:
             self.status(thread, pointer, pointer if self.address_size == 8 else 0x63)
             self.note("LINUX", SEGMENTS, self.pack("IIII", 0x63 >> 3, pointer, 0, 0))
+        if self.address_size == 8:
+            self.auxiliary()
         self.process(100)
         for number in range(len(self.MODULES) + 3):
             (folder / f"{name}.library{number}").write_bytes(self.library(number))
@@ -186,9 +192,10 @@ def main():
     wide.status(107, STACK + 8, 0x600000 + 107)
     wide.note("CORE", FLOATS, wide.floats(7)[:200])
     # notes of another name
-    for name, kind in [("LINUX", STATUS), ("CORE", XSAVE), ("LINUX", FLOATS)]:
+    for name, kind in [("LINUX", STATUS), ("CORE", XSAVE), ("LINUX", FLOATS), ("LINUX", AUXILIARY)]:
         wide.note(name, kind, bytes(336))
     wide.note("CORE", STATUS, bytes(112))
+    wide.auxiliary()
     narrow = Core(4, "le")
     for thread in (201, 202, 203):
         narrow.status(thread, STACK + 8, 0x63)
@@ -196,8 +203,10 @@ def main():
         if thread != 203:
             segments = [(5, 0x700000), (0x63 >> 3, 0x600000 + thread)][: 3 - (thread - 200)]
             narrow.note("LINUX", SEGMENTS, b"".join(narrow.pack("IIII", *it, 0, 0) for it in segments) + b"123")
+    narrow.auxiliary()
     big = Core(8, "be")
     big.status(301, STACK + 8)
+    big.auxiliary()
     for name, core in [("x86_64", wide), ("i386", narrow), ("big", big), ("empty", Core(8, "le"))]:
         core.process(100)
         (folder / f"{name}.program").write_bytes(core.program())

@@ -192,7 +192,8 @@ def main():
     wide.status(107, STACK + 8, 0x600000 + 107)
     wide.note("CORE", FLOATS, wide.floats(7)[:200])
     # notes of another name
-    for name, kind in [("LINUX", STATUS), ("CORE", XSAVE), ("LINUX", FLOATS), ("LINUX", AUXILIARY)]:
+    others = ("LINUX", STATUS), ("CORE", XSAVE), ("LINUX", FLOATS), ("LINUX", AUXILIARY), ("LOAD", AUXILIARY)
+    for name, kind in others:
         wide.note(name, kind, bytes(336))
     wide.note("CORE", STATUS, bytes(112))
     wide.auxiliary()

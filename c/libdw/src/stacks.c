@@ -1,11 +1,7 @@
 /* The frames of a thread, and their registers. */
-#define _GNU_SOURCE /* ptrace */
 #include "targets.h"
 
 #if _ELFUTILS_PREREQ(0, 188) /* dwfl_frame_reg */
-
-#include <sys/ptrace.h>
-#include <sys/uio.h>
 
 /* How many registers of a frame libdwfl is asked for, from number 0. */
 #define ASKED_REGISTERS 128
@@ -30,7 +26,6 @@ struct dwexpr_libdw_stack {
     size_t most;
     struct dwexpr_libdw_list frames, registers; /* of stack_frame, of known_register */
     struct dwexpr_libdw_sets sets; /* of the innermost frame */
-    uint8_t *traced; /* the bytes of a process's sets */
     int is_cut_off;
     uint32_t code;
 };
@@ -181,30 +176,10 @@ static int find_tls(void *context, Dwfl_Module *module, uint64_t offset, uint64_
     const dwexpr_libdw_stack *stack = ((const struct stack_frame *)context)->stack;
     uint64_t pointer;
     return find_thread_pointer(stack, &pointer) ||
-           dwexpr_libdw_find_block(stack->target, module, pointer, offset, address);
+           dwexpr_libdw_find_block(stack->target, &stack->sets, module, pointer, offset, address);
 }
 
 /* ---- the walk through the frames */
-
-/* Reads the thread's register sets by ptrace; libdwfl keeps it stopped during the walk. */
-static uint32_t trace_sets(dwexpr_libdw_stack *stack)
-{
-    size_t room = 65536;
-    uint8_t *bytes = stack->traced = (uint8_t *)malloc(room);
-    int set;
-    if (!bytes)
-        return DWEXPR_LIBDW_NO_MEMORY;
-    for (set = GENERAL; set < SETS; set++) {
-        struct iovec part = {bytes, room};
-        if (ptrace(PTRACE_GETREGSET, stack->thread, (void *)(uintptr_t)dwexpr_libdw_notes[set].type, &part))
-            continue;
-        stack->sets.bytes[set] = bytes;
-        stack->sets.lengths[set] = part.iov_len;
-        bytes += part.iov_len;
-        room -= part.iov_len;
-    }
-    return 0;
-}
 
 static uint32_t add_registers(dwexpr_libdw_stack *stack, Dwfl_Frame *state, struct stack_frame *frame)
 {
@@ -240,14 +215,13 @@ static int on_frame(Dwfl_Frame *state, void *given)
             dwarf_frame_info(rules, NULL, NULL, &frame.is_interrupted);
             free(rules);
         }
-    } else if (!stack->target->core) {
-        stack->code = trace_sets(stack);
+    } else {
+        dwexpr_libdw_read_sets(stack->target, stack->thread, &stack->sets);
     }
     if (frame.is_guessed)
         dwexpr_libdw_error = "a frame has no call frame information";
     stack->is_cut_off |= frame.is_guessed;
-    if (!stack->code)
-        stack->code = add_registers(stack, state, &frame);
+    stack->code = add_registers(stack, state, &frame);
     if (!stack->code)
         stack->code = dwexpr_libdw_add(&stack->frames, &frame, sizeof frame);
     return stack->code ? DWARF_CB_ABORT : DWARF_CB_OK;
@@ -264,8 +238,6 @@ uint32_t dwexpr_libdw_unwind(dwexpr_libdw_target *target, pid_t thread, size_t m
     found->target = target;
     found->thread = thread;
     found->most = most;
-    if (target->core)
-        dwexpr_libdw_read_notes(target, thread, &found->sets);
     if (dwfl_getthread_frames(target->dwfl, thread, on_frame, found) < 0) {
         dwexpr_libdw_error = dwfl_errmsg(-1);
         found->is_cut_off = 1;
@@ -291,7 +263,6 @@ void dwexpr_libdw_free_stack(dwexpr_libdw_stack *stack)
 {
     if (!stack)
         return;
-    free(stack->traced);
     free(stack->registers.items);
     free(stack->frames.items);
     free(stack);

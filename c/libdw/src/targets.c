@@ -13,9 +13,9 @@
 
 /* ---- memory */
 
-/* Reads at most `size` bytes that were loaded from an ELF file, and sets `size` to how many it read. Gives back 0; 1 if
- * no segment has bytes for the address; or -1 if the file ends before them. */
-static int read_segments(Elf *elf, Dwarf_Addr bias, uint64_t address, uint8_t *bytes, size_t *size)
+/* Reads at most `size` bytes that were loaded from an ELF file. Gives back how many; 0 if no segment has bytes for the
+ * address; or -1 if the file ends before them. */
+static ssize_t read_segments(Elf *elf, Dwarf_Addr bias, uint64_t address, uint8_t *bytes, size_t size)
 {
     size_t count = 0, i, length;
     const char *file = elf_rawfile(elf, &length);
@@ -27,44 +27,38 @@ static int read_segments(Elf *elf, Dwarf_Addr bias, uint64_t address, uint8_t *b
         offset = address - bias - segment.p_vaddr;
         if (segment.p_type != PT_LOAD || offset >= segment.p_filesz)
             continue;
-        if (*size > segment.p_filesz - offset)
-            *size = (size_t)(segment.p_filesz - offset);
-        if (segment.p_offset > length || offset + *size > length - segment.p_offset)
+        if (size > segment.p_filesz - offset)
+            size = (size_t)(segment.p_filesz - offset);
+        if (segment.p_offset > length || offset + size > length - segment.p_offset)
             return -1;
-        memcpy(bytes, file + segment.p_offset + offset, *size);
-        return 0;
+        memcpy(bytes, file + segment.p_offset + offset, size);
+        return (ssize_t)size;
     }
-    return 1;
+    return 0;
 }
 
 /* Reads memory of a core dump. Pages that never changed aren't in it, but in the file that was loaded. */
-static int read_core(const dwexpr_libdw_target *target, uint64_t address, uint8_t *bytes, size_t *size)
+static ssize_t read_core(const dwexpr_libdw_target *target, uint64_t address, uint8_t *bytes, size_t size)
 {
     Dwarf_Addr bias;
     Elf *elf;
-    const int failed = read_segments(target->core, 0, address, bytes, size);
-    if (failed <= 0)
-        return failed;
+    const ssize_t count = read_segments(target->core, 0, address, bytes, size);
+    if (count)
+        return count;
     elf = dwfl_module_getelf(dwfl_addrmodule(target->dwfl, address), &bias);
-    return !elf || read_segments(elf, bias, address, bytes, size);
-}
-
-static int read_process(const dwexpr_libdw_target *target, uint64_t address, uint8_t *bytes, size_t *size)
-{
-    const ssize_t count = pread(target->file, bytes, *size, (off_t)address);
-    *size = count > 0 ? (size_t)count : 0;
-    return count <= 0;
+    return elf ? read_segments(elf, bias, address, bytes, size) : 0;
 }
 
 int dwexpr_libdw_read_memory(const dwexpr_libdw_target *target, uint64_t address, uint8_t *bytes, size_t size)
 {
     while (size) {
-        size_t count = size;
-        if (target->core ? read_core(target, address, bytes, &count) : read_process(target, address, bytes, &count))
+        const ssize_t count = target->core ? read_core(target, address, bytes, size)
+                                           : pread(target->file, bytes, size, (off_t)address);
+        if (count <= 0)
             return 1;
-        address += count;
+        address += (size_t)count;
         bytes += count;
-        size -= count;
+        size -= (size_t)count;
     }
     return 0;
 }

@@ -238,7 +238,7 @@ static uint64_t size_of_entry(struct dwexpr_libdw_given *given, Dwarf_Die *entry
 uint32_t dwexpr_libdw_element(dwexpr_libdw_frame *frame, Dwarf_Die *array, const uint64_t *object,
                               const int64_t *indexes, size_t count, uint64_t *begin, uint64_t *bits)
 {
-    struct dwexpr_libdw_given given = {frame, object, NULL, 0};
+    struct dwexpr_libdw_given given = {.frame = frame, .object = object};
     struct dimension found[MOST_DIMENSIONS];
     const size_t length = read_dimensions(&given, array, found);
     const int is_reversed = !is_first_fastest(&given, array);
@@ -265,7 +265,7 @@ uint32_t dwexpr_libdw_element(dwexpr_libdw_frame *frame, Dwarf_Die *array, const
 
 uint32_t dwexpr_libdw_data(dwexpr_libdw_frame *frame, Dwarf_Die *type, uint64_t object, uint64_t *address)
 {
-    struct dwexpr_libdw_given given = {frame, &object, NULL, 0};
+    struct dwexpr_libdw_given given = {.frame = frame, .object = &object};
     const uint64_t is_allocated = number_of(&given, type, DW_AT_allocated, 1);
     const uint64_t is_associated = number_of(&given, type, DW_AT_associated, 1);
     if (!given.code && (!is_allocated || !is_associated))
@@ -342,7 +342,7 @@ static uint64_t size_of(struct dwexpr_libdw_given *given, const Dwarf_Die *type)
 
 uint32_t dwexpr_libdw_size(dwexpr_libdw_frame *frame, Dwarf_Die *type, const uint64_t *object, uint64_t *bytes)
 {
-    struct dwexpr_libdw_given given = {frame, object, NULL, 0};
+    struct dwexpr_libdw_given given = {.frame = frame, .object = object};
     *bytes = size_of(&given, type);
     return given.code;
 }
@@ -382,7 +382,7 @@ static uint64_t member_begin(struct dwexpr_libdw_given *given, Dwarf_Die *member
 uint32_t dwexpr_libdw_member(dwexpr_libdw_frame *frame, Dwarf_Die *member, const uint64_t *object, uint64_t *begin,
                              uint64_t *bits)
 {
-    struct dwexpr_libdw_given given = {frame, object, NULL, 0};
+    struct dwexpr_libdw_given given = {.frame = frame, .object = object};
     const int is_old = dwarf_hasattr(member, DW_AT_bit_offset);
     uint64_t count;
     *begin = member_begin(&given, member);

@@ -74,12 +74,18 @@ int dwexpr_libdw_scalar(Dwarf_Die *type, Dwarf_Word *size, Dwarf_Word *encoding)
 
 /* ---- evaluate.c */
 
-/* What an attribute's number is computed with: a frame and, unless they are NULL, the object's address and the value
- * that is on the stack at first. */
+/* What an expression is for. A frame base's can't ask for the frame base; a CFA's can only ask for registers and
+ * memory. */
+enum dwexpr_libdw_purpose { FOR_VALUE, FOR_BASE, FOR_CFA };
+
+/* What an expression, or an attribute's number, is computed with: a frame and, unless they are NULL, the object's
+ * address and the value that is on the stack at first. */
 struct dwexpr_libdw_given {
     dwexpr_libdw_frame *frame;
     const uint64_t *object, *initial;
     uint32_t code; /* why the first number of several isn't known, else 0 */
+    enum dwexpr_libdw_purpose purpose;
+    uint32_t *left; /* how many more expressions may be evaluated; NULL for as many as the frame's limit says */
 };
 
 uint32_t dwexpr_libdw_number_with(const struct dwexpr_libdw_given *given, Dwarf_Attribute *attribute, uint64_t *number);

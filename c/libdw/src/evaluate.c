@@ -206,23 +206,18 @@ static int moves_only(dwexpr_text text, dwexpr_encoding encoding)
 /* The integer type that stands for a base type. */
 static int base_type_of(struct job *job, uint64_t offset, uint32_t *value_type)
 {
+    static const uint8_t integers[] = {
+        [DW_ATE_signed] = DW_ATE_signed, [DW_ATE_signed_char] = DW_ATE_signed, [DW_ATE_unsigned] = DW_ATE_unsigned,
+        [DW_ATE_unsigned_char] = DW_ATE_unsigned, [DW_ATE_address] = DW_ATE_unsigned,
+        [DW_ATE_boolean] = DW_ATE_unsigned, [DW_ATE_UTF] = DW_ATE_unsigned, [DW_ATE_float] = DW_ATE_unsigned,
+    };
     Dwarf_Die type;
     Dwarf_Word size, encoding;
-    if (entry_of(job->value->unit, DW_OP_convert, offset, &type) || dwexpr_libdw_scalar(&type, &size, &encoding))
+    if (entry_of(job->value->unit, DW_OP_convert, offset, &type) || dwexpr_libdw_scalar(&type, &size, &encoding) ||
+        encoding >= sizeof integers ||
+        (encoding == DW_ATE_float && !moves_only(job->value->texts[0], job->value->encoding)))
         return 1;
-    switch (encoding) {
-    case DW_ATE_float:
-        if (!moves_only(job->value->texts[0], job->value->encoding))
-            return 1;
-        encoding = DW_ATE_unsigned;
-        break;
-    case DW_ATE_signed_char: encoding = DW_ATE_signed; break;
-    case DW_ATE_unsigned_char: case DW_ATE_address: case DW_ATE_boolean: case DW_ATE_UTF:
-        encoding = DW_ATE_unsigned;
-        break;
-    default: break;
-    }
-    *value_type = dwexpr_type_from_encoding((uint8_t)(encoding > 0xff ? 0 : encoding), size);
+    *value_type = dwexpr_type_from_encoding(integers[encoding], size);
     return *value_type == DWEXPR_NO_TYPE;
 }
 

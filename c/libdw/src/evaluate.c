@@ -655,31 +655,24 @@ static uint32_t read_number(const dwexpr_libdw_value *value, Dwarf_Word size, in
     return 0;
 }
 
-/* The value of a variable, or of a member of an object, in whole bytes at a place that is a number: a discriminant in
- * Ada. */
-static uint32_t value_of(const struct dwexpr_libdw_given *given, Dwarf_Die *variable, dwexpr_libdw_value **value)
-{
-    Dwarf_Attribute attribute;
-    Dwarf_Word place;
-    *value = NULL;
-    if (dwarf_tag(variable) != DW_TAG_member)
-        return dwexpr_libdw_variable(given->frame, variable, value);
-    if (!given->object || dwarf_hasattr(variable, DW_AT_bit_size) || dwarf_hasattr(variable, DW_AT_data_bit_offset) ||
-        dwarf_formudata(dwarf_attr(variable, DW_AT_data_member_location, &attribute), &place))
-        return DWEXPR_LIBDW_NO_NUMBER;
-    return make_value(given->frame, attribute.cu, *given->object + place, value);
-}
-
-/* The number that a variable has, or a member of an object, as a bound of an array. */
+/* The number that a variable has, as a bound of an array, or a member of an object, in whole bytes at a place that is a
+ * number: a discriminant in Ada. */
 static uint32_t variable_number(const struct dwexpr_libdw_given *given, Dwarf_Die *variable, uint64_t *number)
 {
+    const int is_member = dwarf_tag(variable) == DW_TAG_member;
     dwexpr_libdw_value *value;
+    Dwarf_Attribute attribute;
     Dwarf_Die type;
-    Dwarf_Word size, encoding;
+    Dwarf_Word size, encoding, place;
     uint32_t code;
     if (dwexpr_libdw_type(variable, &type) || dwexpr_libdw_scalar(&type, &size, &encoding))
         return DWEXPR_LIBDW_NO_NUMBER;
-    code = value_of(given, variable, &value);
+    if (is_member && (!given->object || dwarf_hasattr(variable, DW_AT_bit_size) ||
+                      dwarf_hasattr(variable, DW_AT_data_bit_offset) ||
+                      dwarf_formudata(dwarf_attr(variable, DW_AT_data_member_location, &attribute), &place)))
+        return DWEXPR_LIBDW_NO_NUMBER;
+    code = is_member ? make_value(given->frame, attribute.cu, *given->object + place, &value)
+                     : dwexpr_libdw_variable(given->frame, variable, &value);
     if (!code)
         code = read_number(value, size, encoding == DW_ATE_signed || encoding == DW_ATE_signed_char, number);
     dwexpr_libdw_release(value);

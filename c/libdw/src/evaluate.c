@@ -22,23 +22,23 @@ static uint32_t evaluate(const struct dwexpr_libdw_given *given, dwexpr_libdw_te
 
 /* ---- answers from the frame */
 
-static uint32_t register_number(const dwexpr_libdw_frame *frame, uint32_t number, int big_endian, uint64_t *content)
+static uint32_t register_number(const dwexpr_libdw_value *value, uint32_t number, uint64_t *content)
 {
     uint8_t bytes[DWEXPR_LIBDW_REGISTER_SIZE];
     size_t size;
-    const uint32_t code = dwexpr_libdw_register(frame, number, bytes, &size);
+    const uint32_t code = dwexpr_libdw_register(value->frame, number, bytes, &size);
     if (!code)
-        *content = dwexpr_libdw_number_of(bytes, size, big_endian);
+        *content = dwexpr_libdw_number_of(bytes, size, value->encoding.big_endian);
     return code;
 }
 
-static uint32_t memory_number(const struct job *job, uint64_t *content)
+static uint32_t memory_number(const dwexpr_libdw_value *value, uint64_t *content)
 {
-    const dwexpr_outcome *asked = &job->value->outcome;
+    const dwexpr_outcome *asked = &value->outcome;
     uint8_t bytes[UINT8_MAX] = {0};
     const uint32_t code = asked->flag ? DWEXPR_LIBDW_NOT_READABLE
-                                      : dwexpr_libdw_memory(job->given.frame, asked->number, bytes, asked->size);
-    *content = dwexpr_libdw_number_of(bytes, asked->size, job->value->encoding.big_endian);
+                                      : dwexpr_libdw_memory(value->frame, asked->number, bytes, asked->size);
+    *content = dwexpr_libdw_number_of(bytes, asked->size, value->encoding.big_endian);
     return code;
 }
 
@@ -49,7 +49,7 @@ static uint32_t take_number(uint32_t code, dwexpr_libdw_value *value, uint64_t *
     if (!code && value->outcome.value_type != DWEXPR_NO_TYPE)
         *number = value->outcome.value;
     else if (!code && value->outcome.pieces == 1 && value->pieces[0].kind == DWEXPR_IN_REGISTER)
-        code = register_number(value->frame, (uint32_t)value->pieces[0].number, value->encoding.big_endian, number);
+        code = register_number(value, (uint32_t)value->pieces[0].number, number);
     else if (!code)
         code = DWEXPR_LIBDW_NO_NUMBER;
     dwexpr_libdw_release(value);
@@ -62,7 +62,6 @@ static uint32_t expression_in(dwexpr_libdw_frame *frame, Dwarf_Attribute *attrib
     Dwfl_Module *module;
     Dwarf_Addr bias;
     Dwarf_Block block;
-    memset(expression, 0, sizeof *expression);
     /* a list has addresses of its module */
     if (dwexpr_libdw_find_module(frame, attribute->cu, &module, &bias) && dwarf_formblock(attribute, &block))
         return DWEXPR_LIBDW_WANTS + DWEXPR_WANTS_RELOCATED;
@@ -255,8 +254,6 @@ static uint32_t begin(struct job **top, const struct dwexpr_libdw_given *given, 
     dwexpr_libdw_keep(expression, &value->memory);
     if (!value->texts[0].length)
         return DWEXPR_LIBDW_OPTIMIZED_AWAY;
-    /* it has the bias of addresses */
-    dwexpr_libdw_find_place(given->frame);
     job->evaluation.memory = job->memory;
     dwexpr_evaluation_begin(&job->evaluation);
     return dwexpr_evaluation_evaluate(&job->evaluation, value->texts, 1, value->encoding, &settings, &value->outcome,
@@ -347,10 +344,8 @@ static uint32_t answer(struct job **top)
     if (asked->base_type && base_type_of(job, asked->base_type, &answer->value_type))
         return DWEXPR_LIBDW_WANTS + DWEXPR_WANTS_BASE_TYPE;
     switch (asked->request) {
-    case DWEXPR_WANTS_MEMORY: why = memory_number(job, &answer->number); break;
-    case DWEXPR_WANTS_REGISTER:
-        why = register_number(frame, asked->register_number, job->value->encoding.big_endian, &answer->number);
-        break;
+    case DWEXPR_WANTS_MEMORY: why = memory_number(job->value, &answer->number); break;
+    case DWEXPR_WANTS_REGISTER: why = register_number(job->value, asked->register_number, &answer->number); break;
     case DWEXPR_WANTS_FRAME_BASE:
         why = find_base(frame, job->given.left);
         answer->number = frame->base;
@@ -499,53 +494,36 @@ static uint32_t make_value(const dwexpr_libdw_frame *frame, Dwarf_CU *unit, uint
     return dwexpr_libdw_encoding(unit, &(*value)->encoding);
 }
 
-/* Makes the one piece of a value these bytes. */
-static void hold_bytes(dwexpr_libdw_value *value, const uint8_t *bytes, size_t length)
-{
-    value->pieces[0].kind = DWEXPR_HOLDS_BYTES;
-    value->pieces[0].block_length = length;
-    value->texts[0].bytes = bytes;
-    value->texts[0].length = length;
-    value->texts_length = 1;
-}
-
-/* Makes the one piece of a value a number, of more than 64 bits if its type has more. */
-static uint32_t hold_number(Dwarf_Die *variable, Dwarf_Attribute *attribute, uint64_t number, dwexpr_libdw_value *value)
-{
-    const unsigned form = dwarf_whatform(attribute);
-    const int big_endian = value->encoding.big_endian;
-    Dwarf_Die type;
-    Dwarf_Word size, kind;
-    uint8_t *bytes;
-    value->pieces[0].kind = DWEXPR_HOLDS_VALUE;
-    value->pieces[0].value_type = DWEXPR_U64;
-    value->pieces[0].number = number;
-    if (dwexpr_libdw_type(variable, &type) || dwexpr_libdw_scalar(&type, &size, &kind) || size <= 8 ||
-        size > DWEXPR_LIBDW_REGISTER_SIZE)
-        return 0;
-    bytes = dwexpr_libdw_take(&value->memory, (size_t)size);
-    if (!bytes)
-        return DWEXPR_LIBDW_NO_MEMORY;
-    memset(bytes, (form == DW_FORM_sdata || form == DW_FORM_implicit_const || kind == DW_ATE_signed) && number >> 63
-                      ? 0xff : 0, (size_t)size);
-    dwexpr_libdw_bytes_of(number, 8, big_endian, bytes + (big_endian ? size - 8 : 0));
-    hold_bytes(value, bytes, (size_t)size);
-    return 0;
-}
-
-/* The value of DW_AT_const_value. */
-static uint32_t constant(Dwarf_Die *variable, Dwarf_Attribute *attribute, dwexpr_libdw_value *value)
+/* Makes the one piece of a value what DW_AT_const_value says: a string, a block, or a number, which has more than 64
+ * bits if its type has more. */
+static uint32_t hold_constant(dwexpr_libdw_value *value, Dwarf_Die *variable, Dwarf_Attribute *attribute)
 {
     const char *string = dwarf_formstring(attribute);
-    Dwarf_Block block;
-    Dwarf_Word number;
-    if (string)
-        hold_bytes(value, (const uint8_t *)string, strlen(string) + 1);
-    else if (!dwarf_formblock(attribute, &block))
-        hold_bytes(value, block.data, (size_t)block.length);
-    else
-        return dwarf_formudata(attribute, &number) ? DWEXPR_LIBDW_FAILED
-                                                   : hold_number(variable, attribute, number, value);
+    const unsigned form = dwarf_whatform(attribute);
+    const int big_endian = value->encoding.big_endian;
+    Dwarf_Block block = {string ? strlen(string) + 1 : 0, (unsigned char *)(uintptr_t)string};
+    Dwarf_Die type;
+    Dwarf_Word number, kind;
+    if (!string && dwarf_formblock(attribute, &block)) {
+        if (dwarf_formudata(attribute, &number))
+            return DWEXPR_LIBDW_FAILED;
+        value->pieces[0].kind = DWEXPR_HOLDS_VALUE;
+        value->pieces[0].value_type = DWEXPR_U64;
+        value->pieces[0].number = number;
+        if (dwexpr_libdw_type(variable, &type) || dwexpr_libdw_scalar(&type, &block.length, &kind) ||
+            block.length <= 8 || block.length > DWEXPR_LIBDW_REGISTER_SIZE)
+            return 0;
+        block.data = dwexpr_libdw_take(&value->memory, (size_t)block.length);
+        if (!block.data)
+            return DWEXPR_LIBDW_NO_MEMORY;
+        memset(block.data, (form == DW_FORM_sdata || form == DW_FORM_implicit_const || kind == DW_ATE_signed) &&
+                               number >> 63 ? 0xff : 0, (size_t)block.length);
+        dwexpr_libdw_bytes_of(number, 8, big_endian, block.data + (big_endian ? block.length - 8 : 0));
+    }
+    value->pieces[0].kind = DWEXPR_HOLDS_BYTES;
+    value->pieces[0].block_length = (size_t)block.length;
+    value->texts[0] = (dwexpr_text){block.data, (size_t)block.length};
+    value->texts_length = 1;
     return 0;
 }
 
@@ -592,7 +570,7 @@ uint32_t dwexpr_libdw_variable(dwexpr_libdw_frame *frame, Dwarf_Die *variable, d
         return code;
     if (dwarf_attr_integrate(variable, DW_AT_const_value, &attribute)) {
         code = make_value(frame, attribute.cu, 0, value);
-        return code ? code : constant(variable, &attribute, *value);
+        return code ? code : hold_constant(*value, variable, &attribute);
     }
     if (!dwarf_attr_integrate(variable, DW_AT_location, &attribute))
         return dwarf_hasattr(variable, DW_AT_declaration) ? named(frame, variable, 1, value)
@@ -693,7 +671,6 @@ uint32_t dwexpr_libdw_number_with(const struct dwexpr_libdw_given *given, Dwarf_
     struct dwexpr_libdw_given own = *given;
     const uint32_t code = dwexpr_libdw_find_place(given->frame);
     Dwarf_Die entry;
-    Dwarf_Word found;
     *number = 0;
     if (name == DW_AT_data_member_location || name == DW_AT_vtable_elem_location)
         own.initial = given->object;
@@ -703,10 +680,7 @@ uint32_t dwexpr_libdw_number_with(const struct dwexpr_libdw_given *given, Dwarf_
         return attribute_number(&own, attribute, number);
     if (dwarf_formref_die(attribute, &entry))
         return variable_number(given, &entry, number);
-    if (dwarf_formudata(attribute, &found))
-        return DWEXPR_LIBDW_NO_NUMBER;
-    *number = found;
-    return 0;
+    return dwarf_formudata(attribute, number) ? DWEXPR_LIBDW_NO_NUMBER : 0;
 }
 
 uint32_t dwexpr_libdw_number(dwexpr_libdw_frame *frame, Dwarf_Attribute *attribute, const uint64_t *object,

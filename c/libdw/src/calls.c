@@ -138,48 +138,42 @@ static int find_tail_call(const dwexpr_libdw_frame *between, const dwexpr_libdw_
 /* How many functions are followed at most, in search of a tail call of the first one. */
 enum { MOST_FUNCTIONS = 32 };
 
-/* Adds the functions that one calls by tail calls. Gives back 1 if one of them may be the first function, or if there
- * is no memory to know; else 0. */
-static int add_tail_calls(dwexpr_libdw_frame *functions, int at, int *count)
+/* Whether the function of a frame may have called itself by tail calls: then its caller's call site tells nothing. It
+ * may if there is no memory to know. */
+static int may_call_itself(dwexpr_libdw_frame *frame)
 {
-    dwexpr_libdw_frame *next;
+    dwexpr_libdw_frame *functions, *next;
     struct dwexpr_libdw_walk walk;
     Dwarf_Die site;
     uint64_t address;
-    int found = 0, i;
-    dwexpr_libdw_begin_walk(&walk, &functions[at].place.function);
-    while (!found && next_call_site(&walk, 1, &site)) {
-        next = &functions[*count];
-        if (is_named(&site, &functions[at], &functions[0], &address) || *count == MOST_FUNCTIONS)
-            found = 1;
-        else if (!enter(&functions[at], address, next))
-            found = next->code == DWEXPR_LIBDW_NO_MEMORY;
-        else {
-            for (i = 0; functions[i].place.function.addr != next->place.function.addr; i++)
-                ;
-            *count += i == *count;
-        }
-    }
-    free(walk.path.items);
-    return found || walk.code;
-}
-
-/* Whether the function of a frame may have called itself by tail calls: then its caller's call site tells nothing. */
-static int may_call_itself(dwexpr_libdw_frame *frame)
-{
-    dwexpr_libdw_frame *functions;
-    int count = 1, i;
+    int count = 1, at, i, found;
     if (frame->is_checked)
         return frame->may_call_itself;
-    frame->is_checked = 1;
     functions = (dwexpr_libdw_frame *)malloc((MOST_FUNCTIONS + 1) * sizeof *functions);
-    frame->may_call_itself = !functions;
+    found = !functions;
     if (functions)
         functions[0] = *frame;
-    for (i = 0; i < count && !frame->may_call_itself; i++)
-        frame->may_call_itself = add_tail_calls(functions, i, &count);
+    for (at = 0; at < count && !found; at++) {
+        dwexpr_libdw_begin_walk(&walk, &functions[at].place.function);
+        while (!found && next_call_site(&walk, 1, &site)) {
+            next = &functions[count];
+            if (is_named(&site, &functions[at], &functions[0], &address) || count == MOST_FUNCTIONS)
+                found = 1;
+            else if (!enter(&functions[at], address, next))
+                found = next->code == DWEXPR_LIBDW_NO_MEMORY;
+            else {
+                for (i = 0; functions[i].place.function.addr != next->place.function.addr; i++)
+                    ;
+                count += i == count;
+            }
+        }
+        free(walk.path.items);
+        found |= walk.code != 0;
+    }
     free(functions);
-    return frame->may_call_itself;
+    frame->is_checked = 1;
+    frame->may_call_itself = found;
+    return found;
 }
 
 /* ---- what it passes */

@@ -142,10 +142,8 @@ static uint32_t register_rule(Dwarf_Frame *state, Elf *elf, int number, dwexpr_l
     expression->is_value = expression->on_cfa && operations[count - 1].atom == DW_OP_stack_value;
     if (operations == kept && expression->on_cfa) {
         const Dwarf_Word distance = count > 1 && kept[1].atom == DW_OP_plus_uconst ? kept[1].number : 0;
-        memset(kept, 0, sizeof kept);
-        kept[0].atom = DW_OP_plus_uconst;
-        kept[0].number = distance;
-        return from_operations(kept, 1, expression);
+        const Dwarf_Op sum = {DW_OP_plus_uconst, distance, 0, 0};
+        return from_operations(&sum, 1, expression);
     }
     code = from_operations(operations + expression->on_cfa, count - (size_t)expression->on_cfa, expression);
     if (!code && expression->is_value)

@@ -132,7 +132,7 @@ static int find_tail_call(const dwexpr_libdw_frame *between, const dwexpr_libdw_
     while (next_call_site(&walk, 1, site))
         count++;
     free(walk.path.items);
-    return !walk.code && count == 1 && is_named(site, between, called, &address) > 0;
+    return !walk.path.code && count == 1 && is_named(site, between, called, &address) > 0;
 }
 
 /* How many functions are followed at most, in search of a tail call of the first one. */
@@ -168,7 +168,7 @@ static int may_call_itself(dwexpr_libdw_frame *frame)
             }
         }
         free(walk.path.items);
-        found |= walk.code != 0;
+        found |= walk.path.code != 0;
     }
     free(functions);
     frame->is_checked = 1;

@@ -7,7 +7,7 @@ void dwexpr_libdw_begin_walk(struct dwexpr_libdw_walk *walk, const Dwarf_Die *fi
 {
     memset(walk, 0, sizeof *walk);
     walk->floor = 1;
-    walk->code = dwexpr_libdw_add(&walk->path, first, sizeof *first);
+    dwexpr_libdw_add(&walk->path, first, sizeof *first);
 }
 
 Dwarf_Die *dwexpr_libdw_here(const struct dwexpr_libdw_walk *walk)
@@ -18,11 +18,9 @@ Dwarf_Die *dwexpr_libdw_here(const struct dwexpr_libdw_walk *walk)
 int dwexpr_libdw_next_entry(struct dwexpr_libdw_walk *walk, int enters)
 {
     Dwarf_Die child;
-    if (!walk->code && enters && dwarf_child(dwexpr_libdw_here(walk), &child) == 0) {
-        walk->code = dwexpr_libdw_add(&walk->path, &child, sizeof child);
-        return !walk->code;
-    }
-    for (; !walk->code && walk->path.length > walk->floor; walk->path.length--) {
+    if (!walk->path.code && enters && dwarf_child(dwexpr_libdw_here(walk), &child) == 0)
+        return !dwexpr_libdw_add(&walk->path, &child, sizeof child);
+    for (; !walk->path.code && walk->path.length > walk->floor; walk->path.length--) {
         Dwarf_Die *entry = dwexpr_libdw_here(walk);
         if (dwarf_siblingof(entry, entry) == 0)
             return 1;

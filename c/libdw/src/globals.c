@@ -9,12 +9,11 @@ struct search {
     struct dwexpr_libdw_walk type; /* the path to a declaration of a type */
     struct dwexpr_libdw_list found;
     int ends; /* with the first that is found */
-    uint32_t code;
 };
 
 static int has_ended(const struct search *search)
 {
-    return search->code || (search->ends && search->found.length);
+    return search->found.code || (search->ends && search->found.length);
 }
 
 static void search_unit(struct search *search, const Dwarf_Die *unit)
@@ -25,7 +24,7 @@ static void search_unit(struct search *search, const Dwarf_Die *unit)
     while (!has_ended(search) && dwexpr_libdw_next_entry(&walk, enters))
         enters = search->visit(search, &walk);
     free(walk.path.items);
-    search->code |= walk.code;
+    search->found.code |= walk.path.code;
 }
 
 static void search_module(struct search *search, Dwfl_Module *module, const void *passed)
@@ -78,7 +77,7 @@ static int visit_global(struct search *search, const struct dwexpr_libdw_walk *w
     const int tag = dwarf_tag(entry);
     if ((tag == DW_TAG_constant || (tag == DW_TAG_variable && !dwarf_hasattr(entry, DW_AT_declaration))) &&
         (!search->name || has_name(entry, search->name)))
-        search->code = dwexpr_libdw_add(&search->found, entry, sizeof *entry);
+        dwexpr_libdw_add(&search->found, entry, sizeof *entry);
     return tag == DW_TAG_namespace || tag == DW_TAG_module;
 }
 
@@ -90,8 +89,8 @@ uint32_t dwexpr_libdw_globals(dwexpr_libdw_frame *frame, Dwfl_Module *module, co
         search_module(&search, module, NULL);
     else
         search_modules(&search, frame);
-    *globals = dwexpr_libdw_give(search.code, &search.found, count);
-    return search.code;
+    *globals = dwexpr_libdw_give(&search.found, count);
+    return search.found.code;
 }
 
 /* ---- types that are only declared */
@@ -113,7 +112,7 @@ static int visit_type(struct search *search, const struct dwexpr_libdw_walk *wal
     Dwarf_Die *entry = dwexpr_libdw_here(walk);
     const int same = depth <= wanted && is_same(entry, (Dwarf_Die *)search->type.path.items + depth - 1);
     if (same && depth == wanted && !dwarf_hasattr(entry, DW_AT_declaration))
-        search->code = dwexpr_libdw_add(&search->found, entry, sizeof *entry);
+        dwexpr_libdw_add(&search->found, entry, sizeof *entry);
     return same && depth < wanted;
 }
 
@@ -124,18 +123,18 @@ uint32_t dwexpr_libdw_definition(dwexpr_libdw_frame *frame, Dwarf_Die *type, Dwa
     size_t count;
     dwarf_diecu(type, &unit, NULL, NULL);
     dwexpr_libdw_begin_walk(&search.type, &unit);
-    while (!search.type.code && dwexpr_libdw_here(&search.type)->addr != type->addr &&
+    while (!search.type.path.code && dwexpr_libdw_here(&search.type)->addr != type->addr &&
            dwexpr_libdw_next_entry(&search.type, 1))
         ;
-    search.code = search.type.code;
+    search.found.code = search.type.path.code;
     search_unit(&search, &unit);
     search_modules(&search, frame);
-    found = dwexpr_libdw_give(search.code, &search.found, &count);
+    found = dwexpr_libdw_give(&search.found, &count);
     if (count)
         *definition = *found;
     free(found);
     free(search.type.path.items);
-    return search.code ? search.code : count ? 0 : DWEXPR_LIBDW_NOT_DEFINED;
+    return search.found.code ? search.found.code : count ? 0 : DWEXPR_LIBDW_NOT_DEFINED;
 }
 
 /* ---- symbols */

@@ -1,23 +1,6 @@
 /* The call that led to a frame, and what it passed (DWARF 5, section 3.4). */
 #include "private.h"
 
-/* Goes to the next call site of a function, in its blocks and in what is inlined into it. Gives back whether there is
- * one. */
-static int next_call_site(struct dwexpr_libdw_walk *walk, Dwarf_Die *site)
-{
-    int enters = walk->path.length == walk->floor; /* where it began */
-    while (dwexpr_libdw_next_entry(walk, enters)) {
-        int tag;
-        *site = *dwexpr_libdw_here(walk);
-        tag = dwarf_tag(site);
-        if (tag == DW_TAG_call_site || tag == DW_TAG_GNU_call_site)
-            return 1;
-        enters = tag == DW_TAG_lexical_block || tag == DW_TAG_inlined_subroutine || tag == DW_TAG_try_block ||
-                 tag == DW_TAG_catch_block;
-    }
-    return 0;
-}
-
 /* An attribute of a call site, which has another name before version 5. */
 static Dwarf_Attribute *attribute_of(Dwarf_Die *site, unsigned name, unsigned old_name, Dwarf_Attribute *attribute)
 {
@@ -32,10 +15,22 @@ static int is_tail_call(Dwarf_Die *site)
     return is_one;
 }
 
-static int origin_of(Dwarf_Die *site, Dwarf_Die *origin)
+/* Goes to the next call site of a function, in its blocks and in what is inlined into it; to the next tail call if
+ * `has_left`. Gives back whether there is one. */
+static int next_call_site(struct dwexpr_libdw_walk *walk, int has_left, Dwarf_Die *site)
 {
-    Dwarf_Attribute attribute;
-    return dwarf_formref_die(attribute_of(site, DW_AT_call_origin, DW_AT_abstract_origin, &attribute), origin) != NULL;
+    int enters = walk->path.length == walk->floor; /* where it began */
+    while (dwexpr_libdw_next_entry(walk, enters)) {
+        Dwarf_Die *entry = dwexpr_libdw_here(walk);
+        const int tag = dwarf_tag(entry);
+        if ((tag == DW_TAG_call_site || tag == DW_TAG_GNU_call_site) && (!has_left || is_tail_call(entry))) {
+            *site = *entry;
+            return 1;
+        }
+        enters = tag == DW_TAG_lexical_block || tag == DW_TAG_inlined_subroutine || tag == DW_TAG_try_block ||
+                 tag == DW_TAG_catch_block;
+    }
+    return 0;
 }
 
 /* Finds the call site that led to a frame, which is in its caller. Gives back whether there is one. */
@@ -51,7 +46,7 @@ static int find_call_site(dwexpr_libdw_frame *frame, Dwarf_Die *site)
     if (!frame->place.function.addr || !caller->place.function.addr)
         return 0;
     dwexpr_libdw_begin_walk(&walk, &caller->place.function);
-    while (!found && next_call_site(&walk, site)) {
+    while (!found && next_call_site(&walk, 0, site)) {
         Dwarf_Attribute attribute;
         Dwarf_Addr address;
         found = !dwarf_formaddr(attribute_of(site, DW_AT_call_return_pc, DW_AT_low_pc, &attribute), &address) &&
@@ -79,9 +74,8 @@ static Dwarf_Die root_of(const Dwarf_Die *function)
 /* The name that a function has for the linker, or else in its source if other units see it. */
 static const char *external_name(Dwarf_Die *function)
 {
-    Dwarf_Attribute attribute;
     const char *name = dwexpr_libdw_linkage_name(function), *plain = dwarf_diename(function);
-    return name != plain || dwarf_attr_integrate(function, DW_AT_external, &attribute) ? name : NULL;
+    return name != plain || dwarf_hasattr_integrate(function, DW_AT_external) ? name : NULL;
 }
 
 /* Whether a call site in `caller` names the function of a frame: 1; 0 if it names another one, whose address is 0 if
@@ -90,12 +84,13 @@ static int is_named(Dwarf_Die *site, const dwexpr_libdw_frame *caller, const dwe
                     uint64_t *address)
 {
     Dwarf_Die origin, function = called->place.function;
+    Dwarf_Attribute attribute;
     const uint64_t entry = dwexpr_libdw_entry_of(called);
     Dwarf_Addr begin;
     struct dwexpr_libdw_symbol symbol;
     const char *wanted = external_name(&function);
     *address = 0;
-    if (!origin_of(site, &origin))
+    if (!dwarf_formref_die(attribute_of(site, DW_AT_call_origin, DW_AT_abstract_origin, &attribute), &origin))
         return -1;
     if (root_of(&origin).addr == root_of(&function).addr)
         return 1;
@@ -131,66 +126,54 @@ static int enter(dwexpr_libdw_frame *caller, uint64_t address, dwexpr_libdw_fram
 static int find_tail_call(const dwexpr_libdw_frame *between, const dwexpr_libdw_frame *called, Dwarf_Die *site)
 {
     struct dwexpr_libdw_walk walk;
-    Dwarf_Die other;
     uint64_t address;
     int count = 0;
     dwexpr_libdw_begin_walk(&walk, &between->place.function);
-    while (next_call_site(&walk, &other))
-        if (is_tail_call(&other)) {
-            *site = other;
-            count++;
-        }
+    while (next_call_site(&walk, 1, site))
+        count++;
     free(walk.path.items);
-    return !walk.code && count == 1 && is_named(site, between, called, &address) > 0;
+    return !walk.path.code && count == 1 && is_named(site, between, called, &address) > 0;
 }
 
 /* How many functions are followed at most, in search of a tail call of the first one. */
 enum { MOST_FUNCTIONS = 32 };
 
-/* Adds the functions that one calls by tail calls. Gives back 1 if one of them may be the first function, or if there
- * is no memory to know; else 0. */
-static int add_tail_calls(dwexpr_libdw_frame *functions, int at, int *count)
+/* Whether the function of a frame may have called itself by tail calls: then its caller's call site tells nothing. It
+ * may if there is no memory to know. */
+static int may_call_itself(dwexpr_libdw_frame *frame)
 {
-    dwexpr_libdw_frame *next;
+    dwexpr_libdw_frame *functions, *next;
     struct dwexpr_libdw_walk walk;
     Dwarf_Die site;
     uint64_t address;
-    int found = 0, i;
-    dwexpr_libdw_begin_walk(&walk, &functions[at].place.function);
-    while (!found && next_call_site(&walk, &site)) {
-        if (!is_tail_call(&site))
-            continue;
-        next = &functions[*count];
-        if (is_named(&site, &functions[at], &functions[0], &address) || *count == MOST_FUNCTIONS)
-            found = 1;
-        else if (!enter(&functions[at], address, next))
-            found = next->code == DWEXPR_LIBDW_NO_MEMORY;
-        else {
-            for (i = 0; functions[i].place.function.addr != next->place.function.addr; i++)
-                ;
-            *count += i == *count;
-        }
-    }
-    free(walk.path.items);
-    return found || walk.code;
-}
-
-/* Whether the function of a frame may have called itself by tail calls: then its caller's call site tells nothing. */
-static int may_call_itself(dwexpr_libdw_frame *frame)
-{
-    dwexpr_libdw_frame *functions;
-    int count = 1, i;
+    int count = 1, at, i, found;
     if (frame->is_checked)
         return frame->may_call_itself;
-    frame->is_checked = 1;
     functions = (dwexpr_libdw_frame *)malloc((MOST_FUNCTIONS + 1) * sizeof *functions);
-    frame->may_call_itself = !functions;
+    found = !functions;
     if (functions)
         functions[0] = *frame;
-    for (i = 0; i < count && !frame->may_call_itself; i++)
-        frame->may_call_itself = add_tail_calls(functions, i, &count);
+    for (at = 0; at < count && !found; at++) {
+        dwexpr_libdw_begin_walk(&walk, &functions[at].place.function);
+        while (!found && next_call_site(&walk, 1, &site)) {
+            next = &functions[count];
+            if (is_named(&site, &functions[at], &functions[0], &address) || count == MOST_FUNCTIONS)
+                found = 1;
+            else if (!enter(&functions[at], address, next))
+                found = next->code == DWEXPR_LIBDW_NO_MEMORY;
+            else {
+                for (i = 0; functions[i].place.function.addr != next->place.function.addr; i++)
+                    ;
+                count += i == count;
+            }
+        }
+        free(walk.path.items);
+        found |= walk.path.code != 0;
+    }
     free(functions);
-    return frame->may_call_itself;
+    frame->is_checked = 1;
+    frame->may_call_itself = found;
+    return found;
 }
 
 /* ---- what it passes */

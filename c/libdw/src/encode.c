@@ -44,8 +44,9 @@ static int put_fixed(struct writer *writer, uint64_t number, size_t size, int is
     return 0;
 }
 
-/* Writes a LEB128 number in its shortest form, or with bytes that change nothing at its end, so that it has `size`. */
-static void put_leb(struct writer *writer, uint64_t number, size_t size, int is_signed)
+/* Writes a LEB128 number in its shortest form, or with bytes that change nothing at its end, so that it has `size`.
+ * Gives back 0. */
+static int put_leb(struct writer *writer, uint64_t number, size_t size, int is_signed)
 {
     uint64_t sign = is_signed && number >> 63 ? UINT64_MAX : 0;
     size_t count = 0;
@@ -57,6 +58,7 @@ static void put_leb(struct writer *writer, uint64_t number, size_t size, int is_
         byte |= (uint8_t)(more ? 0x80 : 0);
         put(writer, &byte, 1);
     }
+    return 0;
 }
 
 /* Writes the operands of an operation. If they have `size` bytes, and one LEB128 number, it is made as long as that
@@ -71,57 +73,48 @@ static int put_operands(struct writer *writer, const Dwarf_Op *op, size_t size, 
     if (fixed)
         return put_fixed(writer, op->number, (size_t)1 << (fixed - sizes) / 2, (int)((fixed - sizes) % 2),
                          encoding.big_endian);
+    if ((form == 'k' || form == 'L') && !block)
+        return -1;
     switch (form) {
     case '-': return 0;
     case 'a': return put_fixed(writer, op->number, encoding.address_size, 0, encoding.big_endian);
     case 'r': return put_fixed(writer, op->number, reference, 0, encoding.big_endian);
-    case 'w': case 'x': { /* libdw extends it by its sign */
-        const size_t length = form == 'w' ? 2 : 4;
-        const int is_signed = op->number >> 63 != 0;
-        return put_fixed(writer, op->number, length, is_signed, encoding.big_endian);
-    }
+    /* libdw extends these by their sign */
+    case 'w': return put_fixed(writer, op->number, 2, op->number >> 63 != 0, encoding.big_endian);
+    case 'x': return put_fixed(writer, op->number, 4, op->number >> 63 != 0, encoding.big_endian);
     case 'p': {
         /* libdw may read the offset without its sign: -64 is as 64 then, and the size alone tells them apart */
         const size_t length = size > reference ? size - reference : 0;
-        uint64_t front = op->number2;
+        uint64_t front = op->number2, beyond;
         while (front >> 7)
             front >>= 7;
         if (put_fixed(writer, op->number, reference, 0, encoding.big_endian) ||
             (!length && !(op->number2 >> 63) && front & 0x40))
             return -1;
-        if (length && length < 10 && op->number2 >> 7 * length && op->number2 >> 7 * length != UINT64_MAX >> 7 * length)
+        if (!length || length >= 10)
+            return put_leb(writer, op->number2, length, 1);
+        beyond = op->number2 >> 7 * length;
+        if (beyond && beyond != UINT64_MAX >> 7 * length)
             return -1;
-        if (length && length < 10)
-            put_leb(writer, op->number2 & (((uint64_t)1 << 7 * length) - 1), length, 0);
-        else
-            put_leb(writer, op->number2, length, 1);
-        return 0;
+        return put_leb(writer, op->number2 & ~(UINT64_MAX << 7 * length), length, 0);
     }
-    case 'u': case 's': case 'R': case 'P': case 'T':
-        put_leb(writer, op->number, size, form == 's');
-        return 0;
+    case 'u': case 's': case 'R': case 'P': case 'T': return put_leb(writer, op->number, size, form == 's');
     case 'V': case 'K': case 'O':
         put_leb(writer, op->number, 0, 0);
-        put_leb(writer, op->number2, 0, form == 'O');
-        return 0;
+        return put_leb(writer, op->number2, 0, form == 'O');
     case 'D': return put_fixed(writer, op->number, 1, 0, 0);
     case 'E':
         if (put_fixed(writer, op->number, 1, 0, 0))
             return -1;
-        put_leb(writer, op->number2, size > 1 ? size - 1 : 0, 0);
-        return 0;
+        return put_leb(writer, op->number2, size > 1 ? size - 1 : 0, 0);
     case 'k': { /* libdw points to the block's length */
         size_t length = 1;
-        while (block && block[length - 1] & 0x80)
+        while (block[length - 1] & 0x80)
             length++;
-        if (!block)
-            return -1;
         put(writer, block, length + (size_t)op->number);
         return 0;
     }
     case 'L': /* libdw points to the byte of the block's length */
-        if (!block)
-            return -1;
         put_leb(writer, op->number, size > 1u + block[0] ? size - 1 - block[0] : 0, 0);
         put(writer, block, 1u + block[0]);
         return 0;

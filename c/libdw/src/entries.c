@@ -7,7 +7,7 @@ void dwexpr_libdw_begin_walk(struct dwexpr_libdw_walk *walk, const Dwarf_Die *fi
 {
     memset(walk, 0, sizeof *walk);
     walk->floor = 1;
-    walk->code = dwexpr_libdw_add(&walk->path, first, sizeof *first);
+    dwexpr_libdw_add(&walk->path, first, sizeof *first);
 }
 
 Dwarf_Die *dwexpr_libdw_here(const struct dwexpr_libdw_walk *walk)
@@ -18,11 +18,9 @@ Dwarf_Die *dwexpr_libdw_here(const struct dwexpr_libdw_walk *walk)
 int dwexpr_libdw_next_entry(struct dwexpr_libdw_walk *walk, int enters)
 {
     Dwarf_Die child;
-    if (!walk->code && enters && dwarf_child(dwexpr_libdw_here(walk), &child) == 0) {
-        walk->code = dwexpr_libdw_add(&walk->path, &child, sizeof child);
-        return !walk->code;
-    }
-    for (; !walk->code && walk->path.length > walk->floor; walk->path.length--) {
+    if (!walk->path.code && enters && dwarf_child(dwexpr_libdw_here(walk), &child) == 0)
+        return !dwexpr_libdw_add(&walk->path, &child, sizeof child);
+    for (; !walk->path.code && walk->path.length > walk->floor; walk->path.length--) {
         Dwarf_Die *entry = dwexpr_libdw_here(walk);
         if (dwarf_siblingof(entry, entry) == 0)
             return 1;
@@ -165,23 +163,21 @@ static void read_dimension(struct dwexpr_libdw_given *given, Dwarf_Die *range, s
 {
     const int is_whole = dwarf_tag(range) == DW_TAG_enumeration_type; /* each of its values is an index */
     Dwarf_Sword first = 0;
-    uint64_t end = INT64_MAX;
+    uint64_t end = INT64_MAX, count;
     int steps;
     dwarf_default_lower_bound(language_of(range), &first);
     found->stride = stride_of(given, range);
     found->lower = is_whole ? (uint64_t)INT64_MIN : number_of(given, range, DW_AT_lower_bound, (uint64_t)first);
-    found->has_count = is_whole || dwarf_hasattr_integrate(range, DW_AT_upper_bound);
+    found->has_count = is_whole || dwarf_hasattr_integrate(range, DW_AT_upper_bound) ||
+                       dwarf_hasattr_integrate(range, DW_AT_count);
     found->index = *range;
     for (steps = 0; steps < 64 && dwarf_tag(&found->index) == DW_TAG_subrange_type; steps++)
         dwexpr_libdw_type(&found->index, &found->index);
     if (!is_whole)
         end = number_of(given, range, DW_AT_upper_bound, found->lower - 1) + 1;
     /* an upper bound below the lower one is an array without elements */
-    found->count = (int64_t)end < (int64_t)found->lower ? 0 : indexes_between(&found->index, found->lower, end);
-    if (dwarf_hasattr_integrate(range, DW_AT_count)) {
-        found->count = number_of(given, range, DW_AT_count, 0);
-        found->has_count = 1;
-    }
+    count = (int64_t)end < (int64_t)found->lower ? 0 : indexes_between(&found->index, found->lower, end);
+    found->count = number_of(given, range, DW_AT_count, count);
 }
 
 enum { MOST_DIMENSIONS = 64 };
@@ -214,13 +210,11 @@ static size_t read_dimensions(struct dwexpr_libdw_given *given, Dwarf_Die *array
 /* Whether the first index of an array is the one that changes fastest (DW_AT_ordering, else as the language has it). */
 static int is_first_fastest(struct dwexpr_libdw_given *given, Dwarf_Die *array)
 {
-    static const int fortran[] = {DW_LANG_Fortran77, DW_LANG_Fortran90, DW_LANG_Fortran95, DW_LANG_Fortran03,
-                                  DW_LANG_Fortran08};
-    uint64_t usual = DW_ORD_row_major;
-    size_t i;
-    for (i = 0; i < sizeof fortran / sizeof *fortran; i++)
-        if (language_of(array) == fortran[i])
-            usual = DW_ORD_col_major;
+    const int language = language_of(array);
+    const int is_fortran = language == DW_LANG_Fortran77 || language == DW_LANG_Fortran90 ||
+                           language == DW_LANG_Fortran95 || language == DW_LANG_Fortran03 ||
+                           language == DW_LANG_Fortran08;
+    const uint64_t usual = is_fortran ? DW_ORD_col_major : DW_ORD_row_major;
     return number_of(given, array, DW_AT_ordering, usual) == DW_ORD_col_major;
 }
 
@@ -238,7 +232,7 @@ static uint64_t size_of_entry(struct dwexpr_libdw_given *given, Dwarf_Die *entry
 uint32_t dwexpr_libdw_element(dwexpr_libdw_frame *frame, Dwarf_Die *array, const uint64_t *object,
                               const int64_t *indexes, size_t count, uint64_t *begin, uint64_t *bits)
 {
-    struct dwexpr_libdw_given given = {frame, object, NULL, 0};
+    struct dwexpr_libdw_given given = {.frame = frame, .object = object};
     struct dimension found[MOST_DIMENSIONS];
     const size_t length = read_dimensions(&given, array, found);
     const int is_reversed = !is_first_fastest(&given, array);
@@ -265,7 +259,7 @@ uint32_t dwexpr_libdw_element(dwexpr_libdw_frame *frame, Dwarf_Die *array, const
 
 uint32_t dwexpr_libdw_data(dwexpr_libdw_frame *frame, Dwarf_Die *type, uint64_t object, uint64_t *address)
 {
-    struct dwexpr_libdw_given given = {frame, &object, NULL, 0};
+    struct dwexpr_libdw_given given = {.frame = frame, .object = &object};
     const uint64_t is_allocated = number_of(&given, type, DW_AT_allocated, 1);
     const uint64_t is_associated = number_of(&given, type, DW_AT_associated, 1);
     if (!given.code && (!is_allocated || !is_associated))
@@ -279,27 +273,24 @@ uint32_t dwexpr_libdw_data(dwexpr_libdw_frame *frame, Dwarf_Die *type, uint64_t 
 /* The bytes of a type that isn't an array, or that has DW_AT_byte_size. */
 static uint64_t other_size(struct dwexpr_libdw_given *given, Dwarf_Die *type)
 {
+    const int tag = dwarf_tag(type);
     Dwarf_Attribute attribute;
     Dwarf_Die unit, target;
     uint8_t address_size = 0;
-    uint64_t bytes;
+    uint64_t bytes = 0;
     if (has_in_base(type, DW_AT_byte_size, &attribute)) {
         given->code = dwexpr_libdw_number_with(given, &attribute, &bytes);
         return bytes;
     }
     dwarf_diecu(type, &unit, &address_size, NULL);
-    switch (dwarf_tag(type)) {
-    case DW_TAG_pointer_type: case DW_TAG_reference_type: case DW_TAG_rvalue_reference_type: return address_size;
-    case DW_TAG_ptr_to_member_type: /* of a function it has a second word */
+    if (tag == DW_TAG_pointer_type || tag == DW_TAG_reference_type || tag == DW_TAG_rvalue_reference_type)
+        return address_size;
+    if (tag == DW_TAG_ptr_to_member_type) /* of a function it has a second word */
         return !dwexpr_libdw_type(type, &target) && dwarf_tag(&target) == DW_TAG_subroutine_type ? 2u * address_size
                                                                                                  : address_size;
-    case DW_TAG_string_type:
-        if (dwarf_attr_integrate(type, DW_AT_string_length, &attribute)) {
-            given->code = dwexpr_libdw_string_length(given, type, &attribute, &bytes);
-            return bytes;
-        }
-        break;
-    default: break;
+    if (tag == DW_TAG_string_type && dwarf_attr_integrate(type, DW_AT_string_length, &attribute)) {
+        given->code = dwexpr_libdw_string_length(given, type, &attribute, &bytes);
+        return bytes;
     }
     if (!dwarf_hasattr_integrate(type, DW_AT_bit_size))
         given->code = DWEXPR_LIBDW_NO_NUMBER;
@@ -342,7 +333,7 @@ static uint64_t size_of(struct dwexpr_libdw_given *given, const Dwarf_Die *type)
 
 uint32_t dwexpr_libdw_size(dwexpr_libdw_frame *frame, Dwarf_Die *type, const uint64_t *object, uint64_t *bytes)
 {
-    struct dwexpr_libdw_given given = {frame, object, NULL, 0};
+    struct dwexpr_libdw_given given = {.frame = frame, .object = object};
     *bytes = size_of(&given, type);
     return given.code;
 }
@@ -358,6 +349,8 @@ static uint64_t old_offset(struct dwexpr_libdw_given *given, Dwarf_Die *member, 
     dwexpr_encoding encoding = {.big_endian = 0};
     if (!given->code)
         given->code = dwexpr_libdw_encoding(member->cu, &encoding);
+    if (given->code)
+        return 0;
     return encoding.big_endian ? highest : 8 * bytes - highest - bits;
 }
 
@@ -382,7 +375,7 @@ static uint64_t member_begin(struct dwexpr_libdw_given *given, Dwarf_Die *member
 uint32_t dwexpr_libdw_member(dwexpr_libdw_frame *frame, Dwarf_Die *member, const uint64_t *object, uint64_t *begin,
                              uint64_t *bits)
 {
-    struct dwexpr_libdw_given given = {frame, object, NULL, 0};
+    struct dwexpr_libdw_given given = {.frame = frame, .object = object};
     const int is_old = dwarf_hasattr(member, DW_AT_bit_offset);
     uint64_t count;
     *begin = member_begin(&given, member);
@@ -393,7 +386,6 @@ uint32_t dwexpr_libdw_member(dwexpr_libdw_frame *frame, Dwarf_Die *member, const
     if (bits)
         *bits = count;
     if (is_old)
-        count = old_offset(&given, member, count);
-    *begin += is_old && !given.code ? count : 0;
+        *begin += old_offset(&given, member, count);
     return given.code;
 }

@@ -1,10 +1,6 @@
 /* Expressions, evaluated in a frame. */
 #include "private.h"
 
-/* What an expression is for. A frame base's can't ask for the frame base; a CFA's can only ask for registers and
- * memory. */
-enum purpose { FOR_VALUE, FOR_BASE, FOR_CFA };
-
 /* The most operations of an expression. */
 #define OPERATIONS 100000
 #define TEXTS (sizeof ((dwexpr_libdw_value *)0)->texts / sizeof(dwexpr_text))
@@ -13,62 +9,49 @@ enum purpose { FOR_VALUE, FOR_BASE, FOR_CFA };
  * values that go through many callers take no stack. */
 struct job {
     struct job *waits; /* the one that waits for this one's number, or NULL */
-    struct job *asks;  /* the one for which this one has to wait, or NULL */
-    enum purpose purpose;
-    Dwarf_Attribute unit; /* its `cu`; nothing else of it is set */
+    struct dwexpr_libdw_given given;
     dwexpr_libdw_value *value;
     dwexpr_answer answer;
     struct dwexpr_libdw_question question; /* in its frame */
-    uint32_t *left; /* how many more expressions may be evaluated */
     dwexpr_evaluation evaluation;
     uint64_t memory[DWEXPR_EVALUATION_SIZE / 8];
 };
 
-static uint32_t evaluate_for(enum purpose purpose, const struct dwexpr_libdw_given *given,
-                             const dwexpr_libdw_text *expression, uint32_t *left, dwexpr_libdw_value **value);
+static uint32_t evaluate(const struct dwexpr_libdw_given *given, dwexpr_libdw_text *expression,
+                         dwexpr_libdw_value **value);
 
 /* ---- answers from the frame */
 
-static uint32_t register_number(const dwexpr_libdw_frame *frame, uint32_t number, int big_endian, uint64_t *content)
+static uint32_t register_number(const dwexpr_libdw_value *value, uint32_t number, uint64_t *content)
 {
     uint8_t bytes[DWEXPR_LIBDW_REGISTER_SIZE];
     size_t size;
-    const uint32_t code = dwexpr_libdw_register(frame, number, bytes, &size);
+    const uint32_t code = dwexpr_libdw_register(value->frame, number, bytes, &size);
     if (!code)
-        *content = dwexpr_libdw_number_of(bytes, size, big_endian);
+        *content = dwexpr_libdw_number_of(bytes, size, value->encoding.big_endian);
     return code;
 }
 
-static uint32_t memory_number(const struct job *job, uint64_t *content)
+static uint32_t memory_number(const dwexpr_libdw_value *value, uint64_t *content)
 {
-    const dwexpr_outcome *asked = &job->value->outcome;
+    const dwexpr_outcome *asked = &value->outcome;
     uint8_t bytes[UINT8_MAX] = {0};
     const uint32_t code = asked->flag ? DWEXPR_LIBDW_NOT_READABLE
-                                      : dwexpr_libdw_memory(job->question.frame, asked->number, bytes, asked->size);
-    *content = dwexpr_libdw_number_of(bytes, asked->size, job->value->encoding.big_endian);
+                                      : dwexpr_libdw_memory(value->frame, asked->number, bytes, asked->size);
+    *content = dwexpr_libdw_number_of(bytes, asked->size, value->encoding.big_endian);
     return code;
 }
 
-/* The number of a value that is one, or that is in a register. */
-static uint32_t number_of_value(const dwexpr_libdw_frame *frame, const dwexpr_libdw_value *value, uint64_t *number)
+/* Frees the value that an evaluation with this code gave, if any, and gives its number: of one that has a number, or
+ * that is in a register. */
+static uint32_t take_number(uint32_t code, dwexpr_libdw_value *value, uint64_t *number)
 {
-    if (value->outcome.value_type != DWEXPR_NO_TYPE) {
+    if (!code && value->outcome.value_type != DWEXPR_NO_TYPE)
         *number = value->outcome.value;
-        return 0;
-    }
-    if (value->outcome.pieces != 1 || value->pieces[0].kind != DWEXPR_IN_REGISTER)
-        return DWEXPR_LIBDW_NO_NUMBER;
-    return register_number(frame, (uint32_t)value->pieces[0].number, value->encoding.big_endian, number);
-}
-
-/* The number that an expression comes to. */
-static uint32_t expression_number(enum purpose purpose, const struct dwexpr_libdw_given *given,
-                                  const dwexpr_libdw_text *expression, uint32_t *left, uint64_t *number)
-{
-    dwexpr_libdw_value *value;
-    uint32_t code = evaluate_for(purpose, given, expression, left, &value);
-    if (!code)
-        code = number_of_value(given->frame, value, number);
+    else if (!code && value->outcome.pieces == 1 && value->pieces[0].kind == DWEXPR_IN_REGISTER)
+        code = register_number(value, (uint32_t)value->pieces[0].number, number);
+    else if (!code)
+        code = DWEXPR_LIBDW_NO_NUMBER;
     dwexpr_libdw_release(value);
     return code;
 }
@@ -79,28 +62,33 @@ static uint32_t expression_in(dwexpr_libdw_frame *frame, Dwarf_Attribute *attrib
     Dwfl_Module *module;
     Dwarf_Addr bias;
     Dwarf_Block block;
-    memset(expression, 0, sizeof *expression);
     /* a list has addresses of its module */
     if (dwexpr_libdw_find_module(frame, attribute->cu, &module, &bias) && dwarf_formblock(attribute, &block))
         return DWEXPR_LIBDW_WANTS + DWEXPR_WANTS_RELOCATED;
     return dwexpr_libdw_expression(attribute, frame->place.address + frame->place.bias - bias, expression);
 }
 
-/* The number that an attribute's expression comes to. */
-static uint32_t attribute_number(enum purpose purpose, const struct dwexpr_libdw_given *given,
-                                 Dwarf_Attribute *attribute, uint32_t *left, uint64_t *number)
+/* The value that an attribute's expression comes to. */
+static uint32_t attribute_value(const struct dwexpr_libdw_given *given, Dwarf_Attribute *attribute,
+                                dwexpr_libdw_value **value)
 {
     dwexpr_libdw_text expression;
-    uint32_t code = expression_in(given->frame, attribute, &expression);
-    if (!code)
-        code = expression_number(purpose, given, &expression, left, number);
-    dwexpr_libdw_free_text(&expression);
-    return code;
+    const uint32_t code = expression_in(given->frame, attribute, &expression);
+    *value = NULL;
+    return code ? code : evaluate(given, &expression, value);
+}
+
+/* The number that an attribute's expression comes to. */
+static uint32_t attribute_number(const struct dwexpr_libdw_given *given, Dwarf_Attribute *attribute, uint64_t *number)
+{
+    dwexpr_libdw_value *value;
+    const uint32_t code = attribute_value(given, attribute, &value);
+    return take_number(code, value, number);
 }
 
 static uint32_t find_base(dwexpr_libdw_frame *frame, uint32_t *left)
 {
-    const struct dwexpr_libdw_given given = {frame, NULL, NULL, 0};
+    const struct dwexpr_libdw_given given = {.frame = frame, .purpose = FOR_BASE, .left = left};
     Dwarf_Attribute attribute;
     uint32_t code;
     if (frame->has_base)
@@ -109,17 +97,18 @@ static uint32_t find_base(dwexpr_libdw_frame *frame, uint32_t *left)
     if (!frame->place.function.addr ||
         !dwarf_attr_integrate(&frame->place.function, DW_AT_frame_base, &attribute))
         return DWEXPR_LIBDW_OPTIMIZED_AWAY;
-    code = attribute_number(FOR_BASE, &given, &attribute, left, &frame->base);
+    code = attribute_number(&given, &attribute, &frame->base);
     frame->has_base = !code;
     return code;
 }
 
 static uint32_t find_cfa(dwexpr_libdw_frame *frame, uint32_t *left)
 {
-    const struct dwexpr_libdw_given given = {frame, NULL, NULL, 0};
+    const struct dwexpr_libdw_given given = {.frame = frame, .purpose = FOR_CFA, .left = left};
     Dwarf_Frame *state;
     Elf *elf;
     dwexpr_libdw_text rule;
+    dwexpr_libdw_value *value = NULL;
     uint32_t code;
     if (frame->has_cfa)
         return 0;
@@ -128,19 +117,20 @@ static uint32_t find_cfa(dwexpr_libdw_frame *frame, uint32_t *left)
     code = dwexpr_libdw_rule(state, elf, DWEXPR_LIBDW_CFA, &rule);
     free(state);
     if (!code)
-        code = expression_number(FOR_CFA, &given, &rule, left, &frame->cfa);
+        code = evaluate(&given, &rule, &value);
+    code = take_number(code, value, &frame->cfa);
     frame->has_cfa = !code;
-    dwexpr_libdw_free_text(&rule);
     return code;
 }
 
 /* ---- answers from the debug information */
 
 /* The entry that an operation names. */
-static int entry_of(Dwarf_Attribute *unit, uint8_t opcode, uint64_t offset, Dwarf_Die *entry)
+static int entry_of(Dwarf_CU *unit, uint8_t opcode, uint64_t offset, Dwarf_Die *entry)
 {
     Dwarf_Op operation = {opcode, offset, 0, 0};
-    return !unit->cu || dwarf_getlocation_die(unit, &operation, entry);
+    Dwarf_Attribute attribute = {.cu = unit};
+    return !unit || dwarf_getlocation_die(&attribute, &operation, entry);
 }
 
 static int has_bytes(dwexpr_text text, const uint8_t *bytes, size_t length)
@@ -158,10 +148,10 @@ static uint32_t location_of(struct job *job, size_t *index)
     dwexpr_libdw_text called = {.memory = NULL};
     uint32_t code = 0;
     size_t i = 0;
-    if (entry_of(&job->unit, asked->flag ? DW_OP_call_ref : DW_OP_call4, asked->number, &entry))
+    if (entry_of(value->unit, asked->flag ? DW_OP_call_ref : DW_OP_call4, asked->number, &entry))
         return DWEXPR_LIBDW_FAILED;
     if (dwarf_attr_integrate(&entry, DW_AT_location, &attribute))
-        code = expression_in(job->question.frame, &attribute, &called);
+        code = expression_in(job->given.frame, &attribute, &called);
     if (code && code != DWEXPR_LIBDW_OPTIMIZED_AWAY)
         return code;
     /* a second call of the same entry is a call of the same text */
@@ -185,9 +175,8 @@ static int find_tls(const dwexpr_libdw_frame *frame, Dwfl_Module *module, uint64
 static int indexed_address(struct job *job, uint64_t *address)
 {
     Dwarf_Op operation = {DW_OP_addrx, job->value->outcome.number, 0, 0};
-    Dwarf_Attribute attribute;
-    return !job->unit.cu || dwarf_getlocation_attr(&job->unit, &operation, &attribute) ||
-           dwarf_formaddr(&attribute, address);
+    Dwarf_Attribute unit = {.cu = job->value->unit}, attribute;
+    return !unit.cu || dwarf_getlocation_attr(&unit, &operation, &attribute) || dwarf_formaddr(&attribute, address);
 }
 
 /* Whether an expression has no operations but of these kinds. */
@@ -216,79 +205,57 @@ static int moves_only(dwexpr_text text, dwexpr_encoding encoding)
 /* The integer type that stands for a base type. */
 static int base_type_of(struct job *job, uint64_t offset, uint32_t *value_type)
 {
+    static const uint8_t integers[] = {
+        [DW_ATE_signed] = DW_ATE_signed, [DW_ATE_signed_char] = DW_ATE_signed, [DW_ATE_unsigned] = DW_ATE_unsigned,
+        [DW_ATE_unsigned_char] = DW_ATE_unsigned, [DW_ATE_address] = DW_ATE_unsigned,
+        [DW_ATE_boolean] = DW_ATE_unsigned, [DW_ATE_UTF] = DW_ATE_unsigned, [DW_ATE_float] = DW_ATE_unsigned,
+    };
     Dwarf_Die type;
     Dwarf_Word size, encoding;
-    if (entry_of(&job->unit, DW_OP_convert, offset, &type) || dwexpr_libdw_scalar(&type, &size, &encoding))
+    if (entry_of(job->value->unit, DW_OP_convert, offset, &type) || dwexpr_libdw_scalar(&type, &size, &encoding) ||
+        encoding >= sizeof integers ||
+        (encoding == DW_ATE_float && !moves_only(job->value->texts[0], job->value->encoding)))
         return 1;
-    switch (encoding) {
-    case DW_ATE_float:
-        if (!moves_only(job->value->texts[0], job->value->encoding))
-            return 1;
-        encoding = DW_ATE_unsigned;
-        break;
-    case DW_ATE_signed_char: encoding = DW_ATE_signed; break;
-    case DW_ATE_unsigned_char: case DW_ATE_address: case DW_ATE_boolean: case DW_ATE_UTF:
-        encoding = DW_ATE_unsigned;
-        break;
-    default: break;
-    }
-    *value_type = dwexpr_type_from_encoding((uint8_t)(encoding > 0xff ? 0 : encoding), size);
+    *value_type = dwexpr_type_from_encoding(integers[encoding], size);
     return *value_type == DWEXPR_NO_TYPE;
 }
 
 /* ---- jobs */
 
-static void end_job(struct job *job)
+/* Begins an evaluation, for which the top job waits, as the top one. It keeps the expression's memory, or frees it if
+ * the top job stays, as there can't be one more. */
+static uint32_t begin(struct job **top, const struct dwexpr_libdw_given *given, dwexpr_libdw_text *expression)
 {
-    if (job)
-        dwexpr_libdw_release(job->value);
-    free(job);
-}
-
-/* Makes an evaluation. `left` counts how many more there may be. */
-static uint32_t make_job(enum purpose purpose, dwexpr_libdw_frame *frame, const dwexpr_libdw_text *expression,
-                         uint32_t *left, struct job **made)
-{
-    struct job *job;
-    *made = NULL;
-    if (!*left)
-        return DWEXPR_LIBDW_TOO_MANY_EXPRESSIONS;
-    --*left;
-    job = (struct job *)calloc(1, sizeof *job);
-    if (job)
-        job->value = (dwexpr_libdw_value *)calloc(1, sizeof *job->value);
-    if (!job || !job->value) {
-        end_job(job);
-        return DWEXPR_LIBDW_NO_MEMORY;
-    }
-    job->purpose = purpose;
-    job->left = left;
-    job->question.frame = frame;
-    job->question.encoding = expression->encoding;
-    job->unit.cu = expression->unit;
-    job->value->unit = expression->unit;
-    job->value->frame = frame;
-    job->value->encoding = expression->encoding;
-    job->value->texts[0] = expression->text;
-    job->value->texts_length = 1;
-    job->evaluation.memory = job->memory;
-    dwexpr_evaluation_begin(&job->evaluation);
-    *made = job;
-    return 0;
-}
-
-static uint32_t start(struct job *job, const struct dwexpr_libdw_given *given)
-{
-    dwexpr_libdw_value *value = job->value;
+    struct job *job = (struct job *)calloc(1, sizeof *job);
+    dwexpr_libdw_value *value = (dwexpr_libdw_value *)calloc(1, sizeof *value);
     const dwexpr_settings settings = {.max_iterations = OPERATIONS,
                                       .has_object_address = given->object != NULL,
                                       .has_initial_value = given->initial != NULL,
                                       .object_address = given->object ? *given->object : 0,
                                       .initial_value = given->initial ? *given->initial : 0};
+    if (!job || !value || !*given->left) {
+        dwexpr_libdw_free_text(expression);
+        free(job);
+        free(value);
+        return *given->left ? DWEXPR_LIBDW_NO_MEMORY : DWEXPR_LIBDW_TOO_MANY_EXPRESSIONS;
+    }
+    --*given->left;
+    job->waits = *top;
+    *top = job;
+    job->given = *given;
+    job->question.frame = given->frame;
+    job->question.encoding = expression->encoding;
+    job->value = value;
+    value->unit = expression->unit;
+    value->frame = given->frame;
+    value->encoding = expression->encoding;
+    value->texts[0] = expression->text;
+    value->texts_length = 1;
+    dwexpr_libdw_keep(expression, &value->memory);
     if (!value->texts[0].length)
         return DWEXPR_LIBDW_OPTIMIZED_AWAY;
-    /* it has the bias of addresses */
-    dwexpr_libdw_find_place(job->question.frame);
+    job->evaluation.memory = job->memory;
+    dwexpr_evaluation_begin(&job->evaluation);
     return dwexpr_evaluation_evaluate(&job->evaluation, value->texts, 1, value->encoding, &settings, &value->outcome,
                                       value->pieces, DWEXPR_MAX_PIECES);
 }
@@ -310,28 +277,30 @@ static uint32_t refused(const struct job *job, uint32_t why)
 
 /* ---- values on entry */
 
-/* Makes the job that evaluates an attribute for a question, if it is found. The first job waits for its number. */
-static uint32_t ask(struct job *job, int is_found, Dwarf_Attribute *attribute)
+/* Begins the job that evaluates an attribute for a question of the top job, if it is found. */
+static uint32_t ask(struct job **top, int is_found, Dwarf_Attribute *attribute)
 {
-    dwexpr_libdw_text expression = {.memory = NULL};
-    uint32_t code = is_found ? expression_in(job->question.asked, attribute, &expression) : DWEXPR_LIBDW_NO_NUMBER;
+    const struct job *job = *top;
+    const struct dwexpr_libdw_given given = {.frame = job->question.asked, .left = job->given.left};
+    dwexpr_libdw_text expression;
+    uint32_t code = is_found ? expression_in(given.frame, attribute, &expression) : DWEXPR_LIBDW_NO_NUMBER;
     if (!code)
-        code = make_job(FOR_VALUE, job->question.asked, &expression, job->left, &job->asks);
-    if (code) {
-        dwexpr_libdw_free_text(&expression);
-        return refused(job, code);
-    }
-    dwexpr_libdw_keep(&expression, &job->asks->value->memory);
-    job->asks->waits = job;
-    return 0;
+        code = begin(top, &given, &expression);
+    return *top == job ? refused(job, code) : code;
 }
 
-/* Goes on with a job that has waited for this number. */
-static uint32_t take(struct job *job, uint64_t number)
+/* Ends the top job, and goes on with the one that has waited for its number. */
+static uint32_t end(struct job **top, uint32_t code)
 {
+    struct job *ended = *top, *job = *top = ended->waits;
     Dwarf_Attribute attribute;
+    uint64_t number;
+    code = take_number(code, ended->value, &number);
+    free(ended);
+    if (code)
+        return refused(job, code);
     if (job->question.waits_for_target)
-        return ask(job, dwexpr_libdw_ask_target(&job->question, number, &attribute), &attribute);
+        return ask(top, dwexpr_libdw_ask_target(&job->question, number, &attribute), &attribute);
     job->answer.number = number;
     return resume(job);
 }
@@ -355,18 +324,19 @@ static const struct {
     [DWEXPR_WANTS_BASE_TYPE] = {DWEXPR_ANSWER_BASE_TYPE, FOR_BASE},
 };
 
-/* Answers what a job asks for and goes on with it, or makes the job for which it has to wait. */
-static uint32_t answer(struct job *job)
+/* Answers what the top job asks for and goes on with it, or begins the job for which it has to wait. */
+static uint32_t answer(struct job **top)
 {
+    struct job *job = *top;
     const dwexpr_outcome *asked = &job->value->outcome;
-    dwexpr_libdw_frame *frame = job->question.frame;
+    dwexpr_libdw_frame *frame = job->given.frame;
+    Dwarf_CU *unit = job->value->unit;
     Dwarf_Attribute attribute;
     dwexpr_answer *answer = &job->answer;
     Dwfl_Module *module;
     Dwarf_Addr bias = 0;
-    int failed = 0;
     uint32_t why = 0;
-    if (asked->request > DWEXPR_WANTS_BASE_TYPE || job->purpose > requests[asked->request].last_purpose)
+    if (asked->request > DWEXPR_WANTS_BASE_TYPE || job->given.purpose > requests[asked->request].last_purpose)
         return refused(job, 0);
     memset(answer, 0, sizeof *answer);
     answer->kind = requests[asked->request].answer;
@@ -374,84 +344,60 @@ static uint32_t answer(struct job *job)
     if (asked->base_type && base_type_of(job, asked->base_type, &answer->value_type))
         return DWEXPR_LIBDW_WANTS + DWEXPR_WANTS_BASE_TYPE;
     switch (asked->request) {
-    case DWEXPR_WANTS_MEMORY: why = memory_number(job, &answer->number); break;
-    case DWEXPR_WANTS_REGISTER:
-        why = register_number(frame, asked->register_number, job->value->encoding.big_endian, &answer->number);
-        break;
+    case DWEXPR_WANTS_MEMORY: why = memory_number(job->value, &answer->number); break;
+    case DWEXPR_WANTS_REGISTER: why = register_number(job->value, asked->register_number, &answer->number); break;
     case DWEXPR_WANTS_FRAME_BASE:
-        why = find_base(frame, job->left);
+        why = find_base(frame, job->given.left);
         answer->number = frame->base;
         break;
     case DWEXPR_WANTS_CFA:
-        why = find_cfa(frame, job->left);
+        why = find_cfa(frame, job->given.left);
         answer->number = frame->cfa;
         break;
     case DWEXPR_WANTS_TLS:
-        failed = dwexpr_libdw_find_module(frame, job->unit.cu, &module, &bias) ||
-                 find_tls(frame, module, asked->number, &answer->number);
+        why = dwexpr_libdw_find_module(frame, unit, &module, &bias) ||
+              find_tls(frame, module, asked->number, &answer->number);
         break;
     case DWEXPR_WANTS_LOCATION: why = location_of(job, &answer->text); break;
     case DWEXPR_WANTS_RELOCATED:
-        failed = dwexpr_libdw_find_module(frame, job->unit.cu, &module, &bias);
+        why = dwexpr_libdw_find_module(frame, unit, &module, &bias) != 0;
         answer->number = asked->number + bias;
         break;
     case DWEXPR_WANTS_INDEXED:
-        failed = indexed_address(job, &answer->number) ||
-                 (asked->flag && dwexpr_libdw_find_module(frame, job->unit.cu, &module, &bias));
+        why = indexed_address(job, &answer->number) ||
+              (asked->flag && dwexpr_libdw_find_module(frame, unit, &module, &bias));
         answer->number += bias;
         break;
     case DWEXPR_WANTS_ENTRY_VALUE:
         job->question.place = dwexpr_outcome_block(asked, job->value->texts, job->value->texts_length);
         job->question.entry.addr = NULL;
-        return ask(job, dwexpr_libdw_ask(&job->question, &attribute), &attribute);
+        return ask(top, dwexpr_libdw_ask(&job->question, &attribute), &attribute);
     case DWEXPR_WANTS_PARAMETER:
-        failed = entry_of(&job->unit, DW_OP_GNU_parameter_ref, asked->number, &job->question.entry);
-        return ask(job, !failed && dwexpr_libdw_ask(&job->question, &attribute), &attribute);
+        return ask(top, !entry_of(unit, DW_OP_GNU_parameter_ref, asked->number, &job->question.entry) &&
+                            dwexpr_libdw_ask(&job->question, &attribute), &attribute);
     default: break; /* a base type */
     }
-    return failed || why ? refused(job, why) : resume(job);
+    return why ? refused(job, why) : resume(job);
 }
 
-/* Evaluates the first job, and all for which it waits. */
-static uint32_t run(struct job *first, const struct dwexpr_libdw_given *given)
+/* Evaluates an expression, and all for which it waits. Its memory goes to the value, or is freed. */
+static uint32_t evaluate(const struct dwexpr_libdw_given *given, dwexpr_libdw_text *expression,
+                         dwexpr_libdw_value **value)
 {
-    static const struct dwexpr_libdw_given nothing = {NULL, NULL, NULL, 0};
-    struct job *job = first;
-    uint32_t code = start(first, given);
-    for (;;) {
-        if (!code && job->value->outcome.request != DWEXPR_COMPLETE) {
-            code = answer(job);
-        } else if (job == first) {
-            return code;
-        } else {
-            struct job *waits = job->waits;
-            uint64_t number = 0;
-            if (!code)
-                code = number_of_value(job->question.frame, job->value, &number);
-            end_job(job);
-            job = waits;
-            job->asks = NULL;
-            code = code ? refused(job, code) : take(job, number);
-        }
-        if (job->asks) {
-            job = job->asks;
-            code = start(job, &nothing);
-        }
+    struct dwexpr_libdw_given own = *given;
+    uint32_t left = given->frame->limit, code;
+    struct job *job = NULL;
+    left += left < UINT32_MAX; /* this one isn't counted */
+    own.left = given->left ? given->left : &left;
+    code = begin(&job, &own, expression);
+    while (job) {
+        const int is_done = code || job->value->outcome.request == DWEXPR_COMPLETE;
+        if (is_done && !job->waits)
+            break;
+        code = is_done ? end(&job, code) : answer(&job);
     }
-}
-
-static uint32_t evaluate_for(enum purpose purpose, const struct dwexpr_libdw_given *given,
-                             const dwexpr_libdw_text *expression, uint32_t *left, dwexpr_libdw_value **value)
-{
-    struct job *job;
-    uint32_t code = make_job(purpose, given->frame, expression, left, &job);
-    *value = NULL;
-    if (code)
-        return code;
-    code = run(job, given);
-    *value = job->value;
-    job->value = NULL;
-    end_job(job);
+    *value = job ? job->value : NULL;
+    free(job);
     return code;
 }
 
@@ -468,13 +414,14 @@ uint32_t dwexpr_libdw_evaluate(dwexpr_libdw_frame *frame, const dwexpr_libdw_tex
                                const uint64_t *initial, dwexpr_libdw_value **value)
 {
     const int takes_cfa = expression->on_cfa && !initial;
-    const struct dwexpr_libdw_given given = {frame, object, takes_cfa ? &frame->cfa : initial, 0};
-    uint32_t left = frame->limit;
-    left += left < UINT32_MAX;
+    const struct dwexpr_libdw_given given = {.frame = frame, .object = object,
+                                             .initial = takes_cfa ? &frame->cfa : initial};
+    dwexpr_libdw_text lent = *expression;
+    lent.memory = NULL;
     *value = NULL;
-    if (takes_cfa && find_cfa(frame, &left))
+    if (takes_cfa && find_cfa(frame, NULL))
         return DWEXPR_LIBDW_WANTS + DWEXPR_WANTS_CFA;
-    return evaluate_for(FOR_VALUE, &given, expression, &left, value);
+    return evaluate(&given, &lent, value);
 }
 
 /* ---- the frame of an entry's function */
@@ -483,20 +430,19 @@ uint32_t dwexpr_libdw_evaluate(dwexpr_libdw_frame *frame, const dwexpr_libdw_tex
  * that function. GCC writes a link also if no caller sets it. NULL if it isn't known. */
 static dwexpr_libdw_frame *enclosing_frame(dwexpr_libdw_frame *inner, const Dwarf_Die *function)
 {
-    const struct dwexpr_libdw_given given = {inner, NULL, NULL, 0};
+    const struct dwexpr_libdw_given given = {.frame = inner};
     Dwarf_Attribute attribute;
     dwexpr_libdw_frame *frame, *found = NULL;
-    uint32_t left = inner->limit;
     uint64_t base = 0;
     int count = 0;
     const int has_link = dwarf_attr_integrate(&inner->place.function, DW_AT_static_link, &attribute) &&
-                         !attribute_number(FOR_VALUE, &given, &attribute, &left, &base);
+                         !attribute_number(&given, &attribute, &base);
     for (frame = inner->source.caller; frame; frame = frame->source.caller) {
         if (dwexpr_libdw_find_place(frame) == DWEXPR_LIBDW_NO_MEMORY)
             return NULL;
         if (frame->place.function.addr != function->addr)
             continue;
-        if (has_link && !find_base(frame, &left) && frame->base == base)
+        if (has_link && !find_base(frame, NULL) && frame->base == base)
             return frame;
         found = frame;
         count++;
@@ -548,53 +494,36 @@ static uint32_t make_value(const dwexpr_libdw_frame *frame, Dwarf_CU *unit, uint
     return dwexpr_libdw_encoding(unit, &(*value)->encoding);
 }
 
-/* Makes the one piece of a value these bytes. */
-static void hold_bytes(dwexpr_libdw_value *value, const uint8_t *bytes, size_t length)
-{
-    value->pieces[0].kind = DWEXPR_HOLDS_BYTES;
-    value->pieces[0].block_length = length;
-    value->texts[0].bytes = bytes;
-    value->texts[0].length = length;
-    value->texts_length = 1;
-}
-
-/* Makes the one piece of a value a number, of more than 64 bits if its type has more. */
-static uint32_t hold_number(Dwarf_Die *variable, Dwarf_Attribute *attribute, uint64_t number, dwexpr_libdw_value *value)
-{
-    const unsigned form = dwarf_whatform(attribute);
-    const int big_endian = value->encoding.big_endian;
-    Dwarf_Die type;
-    Dwarf_Word size, kind;
-    uint8_t *bytes;
-    value->pieces[0].kind = DWEXPR_HOLDS_VALUE;
-    value->pieces[0].value_type = DWEXPR_U64;
-    value->pieces[0].number = number;
-    if (dwexpr_libdw_type(variable, &type) || dwexpr_libdw_scalar(&type, &size, &kind) || size <= 8 ||
-        size > DWEXPR_LIBDW_REGISTER_SIZE)
-        return 0;
-    bytes = dwexpr_libdw_take(&value->memory, (size_t)size);
-    if (!bytes)
-        return DWEXPR_LIBDW_NO_MEMORY;
-    memset(bytes, (form == DW_FORM_sdata || form == DW_FORM_implicit_const || kind == DW_ATE_signed) && number >> 63
-                      ? 0xff : 0, (size_t)size);
-    dwexpr_libdw_bytes_of(number, 8, big_endian, bytes + (big_endian ? size - 8 : 0));
-    hold_bytes(value, bytes, (size_t)size);
-    return 0;
-}
-
-/* The value of DW_AT_const_value. */
-static uint32_t constant(Dwarf_Die *variable, Dwarf_Attribute *attribute, dwexpr_libdw_value *value)
+/* Makes the one piece of a value what DW_AT_const_value says: a string, a block, or a number, which has more than 64
+ * bits if its type has more. */
+static uint32_t hold_constant(dwexpr_libdw_value *value, Dwarf_Die *variable, Dwarf_Attribute *attribute)
 {
     const char *string = dwarf_formstring(attribute);
-    Dwarf_Block block;
-    Dwarf_Word number;
-    if (string)
-        hold_bytes(value, (const uint8_t *)string, strlen(string) + 1);
-    else if (!dwarf_formblock(attribute, &block))
-        hold_bytes(value, block.data, (size_t)block.length);
-    else
-        return dwarf_formudata(attribute, &number) ? DWEXPR_LIBDW_FAILED
-                                                   : hold_number(variable, attribute, number, value);
+    const unsigned form = dwarf_whatform(attribute);
+    const int big_endian = value->encoding.big_endian;
+    Dwarf_Block block = {string ? strlen(string) + 1 : 0, (unsigned char *)(uintptr_t)string};
+    Dwarf_Die type;
+    Dwarf_Word number, kind;
+    if (!string && dwarf_formblock(attribute, &block)) {
+        if (dwarf_formudata(attribute, &number))
+            return DWEXPR_LIBDW_FAILED;
+        value->pieces[0].kind = DWEXPR_HOLDS_VALUE;
+        value->pieces[0].value_type = DWEXPR_U64;
+        value->pieces[0].number = number;
+        if (dwexpr_libdw_type(variable, &type) || dwexpr_libdw_scalar(&type, &block.length, &kind) ||
+            block.length <= 8 || block.length > DWEXPR_LIBDW_REGISTER_SIZE)
+            return 0;
+        block.data = dwexpr_libdw_take(&value->memory, (size_t)block.length);
+        if (!block.data)
+            return DWEXPR_LIBDW_NO_MEMORY;
+        memset(block.data, (form == DW_FORM_sdata || form == DW_FORM_implicit_const || kind == DW_ATE_signed) &&
+                               number >> 63 ? 0xff : 0, (size_t)block.length);
+        dwexpr_libdw_bytes_of(number, 8, big_endian, block.data + (big_endian ? block.length - 8 : 0));
+    }
+    value->pieces[0].kind = DWEXPR_HOLDS_BYTES;
+    value->pieces[0].block_length = (size_t)block.length;
+    value->texts[0] = (dwexpr_text){block.data, (size_t)block.length};
+    value->texts_length = 1;
     return 0;
 }
 
@@ -602,10 +531,9 @@ static uint32_t constant(Dwarf_Die *variable, Dwarf_Attribute *attribute, dwexpr
 static uint32_t hidden(dwexpr_libdw_frame *frame, Dwarf_Die *variable, Dwfl_Module *module, dwexpr_libdw_value **value)
 {
     Dwarf_Die *globals;
-    Dwarf_Attribute attribute;
     size_t count, i;
     uint32_t code = dwexpr_libdw_globals(frame, module, dwexpr_libdw_linkage_name(variable), &globals, &count);
-    for (i = 0; i < count && !dwarf_attr_integrate(&globals[i], DW_AT_external, &attribute); i++)
+    for (i = 0; i < count && !dwarf_hasattr_integrate(&globals[i], DW_AT_external); i++)
         ;
     if (!code)
         code = i < count ? dwexpr_libdw_variable(frame, &globals[i], value) : DWEXPR_LIBDW_NOT_DEFINED;
@@ -634,34 +562,24 @@ static uint32_t named(dwexpr_libdw_frame *frame, Dwarf_Die *variable, int is_dec
 
 uint32_t dwexpr_libdw_variable(dwexpr_libdw_frame *frame, Dwarf_Die *variable, dwexpr_libdw_value **value)
 {
-    Dwarf_Attribute attribute, flag;
-    dwexpr_libdw_text expression;
-    dwexpr_libdw_frame *owner = frame;
+    Dwarf_Attribute attribute;
+    struct dwexpr_libdw_given given = {.frame = frame};
     uint32_t code = dwexpr_libdw_find_place(frame);
     *value = NULL;
     if (code == DWEXPR_LIBDW_NO_MEMORY)
         return code;
     if (dwarf_attr_integrate(variable, DW_AT_const_value, &attribute)) {
         code = make_value(frame, attribute.cu, 0, value);
-        return code ? code : constant(variable, &attribute, *value);
+        return code ? code : hold_constant(*value, variable, &attribute);
     }
     if (!dwarf_attr_integrate(variable, DW_AT_location, &attribute))
         return dwarf_hasattr(variable, DW_AT_declaration) ? named(frame, variable, 1, value)
                                                           : DWEXPR_LIBDW_OPTIMIZED_AWAY;
     if (!is_fixed(&attribute))
-        code = find_owner(frame, variable, &owner);
+        code = find_owner(frame, variable, &given.frame);
     else
-        code = dwarf_attr_integrate(variable, DW_AT_external, &flag) ? named(frame, variable, 0, value) : 0;
-    if (code || *value)
-        return code;
-    code = expression_in(owner, &attribute, &expression);
-    if (!code)
-        code = dwexpr_libdw_evaluate(owner, &expression, NULL, NULL, value);
-    if (*value)
-        dwexpr_libdw_keep(&expression, &(*value)->memory);
-    else
-        dwexpr_libdw_free_text(&expression);
-    return code;
+        code = dwarf_hasattr_integrate(variable, DW_AT_external) ? named(frame, variable, 0, value) : 0;
+    return code || *value ? code : attribute_value(&given, &attribute, value);
 }
 
 uint32_t dwexpr_libdw_on_entry(dwexpr_libdw_frame *frame, Dwarf_Die *parameter, dwexpr_libdw_value **value)
@@ -696,8 +614,7 @@ uint32_t dwexpr_libdw_on_entry(dwexpr_libdw_frame *frame, Dwarf_Die *parameter, 
 
 uint32_t dwexpr_libdw_points_into(const dwexpr_libdw_value *value, const dwexpr_piece *piece, Dwarf_Die *variable)
 {
-    Dwarf_Attribute unit = {.cu = value->unit};
-    return piece->kind != DWEXPR_POINTS_INTO || entry_of(&unit, DW_OP_implicit_pointer, piece->number, variable)
+    return piece->kind != DWEXPR_POINTS_INTO || entry_of(value->unit, DW_OP_implicit_pointer, piece->number, variable)
                ? DWEXPR_LIBDW_FAILED
                : 0;
 }
@@ -716,31 +633,24 @@ static uint32_t read_number(const dwexpr_libdw_value *value, Dwarf_Word size, in
     return 0;
 }
 
-/* The value of a variable, or of a member of an object, in whole bytes at a place that is a number: a discriminant in
- * Ada. */
-static uint32_t value_of(const struct dwexpr_libdw_given *given, Dwarf_Die *variable, dwexpr_libdw_value **value)
-{
-    Dwarf_Attribute attribute;
-    Dwarf_Word place;
-    *value = NULL;
-    if (dwarf_tag(variable) != DW_TAG_member)
-        return dwexpr_libdw_variable(given->frame, variable, value);
-    if (!given->object || dwarf_hasattr(variable, DW_AT_bit_size) || dwarf_hasattr(variable, DW_AT_data_bit_offset) ||
-        dwarf_formudata(dwarf_attr(variable, DW_AT_data_member_location, &attribute), &place))
-        return DWEXPR_LIBDW_NO_NUMBER;
-    return make_value(given->frame, attribute.cu, *given->object + place, value);
-}
-
-/* The number that a variable has, or a member of an object, as a bound of an array. */
+/* The number that a variable has, as a bound of an array, or a member of an object, in whole bytes at a place that is a
+ * number: a discriminant in Ada. */
 static uint32_t variable_number(const struct dwexpr_libdw_given *given, Dwarf_Die *variable, uint64_t *number)
 {
+    const int is_member = dwarf_tag(variable) == DW_TAG_member;
     dwexpr_libdw_value *value;
+    Dwarf_Attribute attribute;
     Dwarf_Die type;
-    Dwarf_Word size, encoding;
+    Dwarf_Word size, encoding, place;
     uint32_t code;
     if (dwexpr_libdw_type(variable, &type) || dwexpr_libdw_scalar(&type, &size, &encoding))
         return DWEXPR_LIBDW_NO_NUMBER;
-    code = value_of(given, variable, &value);
+    if (is_member && (!given->object || dwarf_hasattr(variable, DW_AT_bit_size) ||
+                      dwarf_hasattr(variable, DW_AT_data_bit_offset) ||
+                      dwarf_formudata(dwarf_attr(variable, DW_AT_data_member_location, &attribute), &place)))
+        return DWEXPR_LIBDW_NO_NUMBER;
+    code = is_member ? make_value(given->frame, attribute.cu, *given->object + place, &value)
+                     : dwexpr_libdw_variable(given->frame, variable, &value);
     if (!code)
         code = read_number(value, size, encoding == DW_ATE_signed || encoding == DW_ATE_signed_char, number);
     dwexpr_libdw_release(value);
@@ -759,28 +669,24 @@ uint32_t dwexpr_libdw_number_with(const struct dwexpr_libdw_given *given, Dwarf_
 {
     const unsigned name = dwarf_whatattr(attribute);
     struct dwexpr_libdw_given own = *given;
-    uint32_t left = given->frame->limit, code = dwexpr_libdw_find_place(given->frame);
+    const uint32_t code = dwexpr_libdw_find_place(given->frame);
     Dwarf_Die entry;
-    Dwarf_Word found;
     *number = 0;
     if (name == DW_AT_data_member_location || name == DW_AT_vtable_elem_location)
         own.initial = given->object;
     if (code == DWEXPR_LIBDW_NO_MEMORY)
         return code;
     if (is_location(attribute))
-        return attribute_number(FOR_VALUE, &own, attribute, &left, number);
+        return attribute_number(&own, attribute, number);
     if (dwarf_formref_die(attribute, &entry))
         return variable_number(given, &entry, number);
-    if (dwarf_formudata(attribute, &found))
-        return DWEXPR_LIBDW_NO_NUMBER;
-    *number = found;
-    return 0;
+    return dwarf_formudata(attribute, number) ? DWEXPR_LIBDW_NO_NUMBER : 0;
 }
 
 uint32_t dwexpr_libdw_number(dwexpr_libdw_frame *frame, Dwarf_Attribute *attribute, const uint64_t *object,
                              uint64_t *number)
 {
-    const struct dwexpr_libdw_given given = {frame, object, NULL, 0};
+    const struct dwexpr_libdw_given given = {.frame = frame, .object = object};
     return dwexpr_libdw_number_with(&given, attribute, number);
 }
 
@@ -789,19 +695,15 @@ uint32_t dwexpr_libdw_string_length(const struct dwexpr_libdw_given *given, Dwar
 {
     Dwarf_Attribute size;
     Dwarf_Word count;
-    dwexpr_libdw_text place;
-    dwexpr_libdw_value *value = NULL;
+    dwexpr_libdw_value *value;
     uint32_t code;
     if (!is_location(attribute))
         return dwexpr_libdw_number_with(given, attribute, bytes);
-    code = expression_in(given->frame, attribute, &place);
-    if (!code)
-        code = dwexpr_libdw_evaluate(given->frame, &place, given->object, NULL, &value);
-    if (dwarf_formudata(dwarf_attr_integrate(type, DW_AT_string_length_byte_size, &size), &count))
-        count = place.encoding.address_size;
+    code = attribute_value(given, attribute, &value);
+    if (!code && dwarf_formudata(dwarf_attr_integrate(type, DW_AT_string_length_byte_size, &size), &count))
+        count = value->encoding.address_size;
     if (!code)
         code = read_number(value, count, 0, bytes);
     dwexpr_libdw_release(value);
-    dwexpr_libdw_free_text(&place);
     return code;
 }

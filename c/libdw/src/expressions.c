@@ -3,23 +3,23 @@
 
 uint32_t dwexpr_libdw_add(struct dwexpr_libdw_list *list, const void *item, size_t size)
 {
-    if (list->length == list->room) {
+    if (!list->code && list->length == list->room) {
         void *more = realloc(list->items, (2 * list->room + 8) * size);
-        if (!more)
-            return DWEXPR_LIBDW_NO_MEMORY;
-        list->items = more;
+        list->code = more ? 0 : DWEXPR_LIBDW_NO_MEMORY;
+        list->items = more ? more : list->items;
         list->room = 2 * list->room + 8;
     }
-    memcpy((char *)list->items + list->length++ * size, item, size);
-    return 0;
+    if (!list->code)
+        memcpy((char *)list->items + list->length++ * size, item, size);
+    return list->code;
 }
 
-void *dwexpr_libdw_give(uint32_t code, const struct dwexpr_libdw_list *list, size_t *count)
+void *dwexpr_libdw_give(const struct dwexpr_libdw_list *list, size_t *count)
 {
-    if (code)
+    if (list->code)
         free(list->items);
-    *count = code ? 0 : list->length;
-    return code ? NULL : list->items;
+    *count = list->code ? 0 : list->length;
+    return list->code ? NULL : list->items;
 }
 
 /* What stands before the bytes of each item in a list of memory. */
@@ -142,10 +142,8 @@ static uint32_t register_rule(Dwarf_Frame *state, Elf *elf, int number, dwexpr_l
     expression->is_value = expression->on_cfa && operations[count - 1].atom == DW_OP_stack_value;
     if (operations == kept && expression->on_cfa) {
         const Dwarf_Word distance = count > 1 && kept[1].atom == DW_OP_plus_uconst ? kept[1].number : 0;
-        memset(kept, 0, sizeof kept);
-        kept[0].atom = DW_OP_plus_uconst;
-        kept[0].number = distance;
-        return from_operations(kept, 1, expression);
+        const Dwarf_Op sum = {DW_OP_plus_uconst, distance, 0, 0};
+        return from_operations(&sum, 1, expression);
     }
     code = from_operations(operations + expression->on_cfa, count - (size_t)expression->on_cfa, expression);
     if (!code && expression->is_value)

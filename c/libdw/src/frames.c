@@ -96,7 +96,7 @@ static uint32_t find_scopes(Dwarf_Die *unit, Dwarf_Addr address, struct dwexpr_l
         }
     }
     walk->path.length = walk->floor;
-    return walk->code;
+    return walk->path.code;
 }
 
 /* ---- the place of a frame */
@@ -240,18 +240,17 @@ uint32_t dwexpr_libdw_locate(dwexpr_libdw_frame *frame, dwexpr_libdw_place *plac
 uint32_t dwexpr_libdw_scopes(dwexpr_libdw_frame *frame, Dwarf_Die **scopes, size_t *count)
 {
     struct dwexpr_libdw_walk walk;
-    struct dwexpr_libdw_list found = {NULL, 0, 0};
-    uint32_t code = dwexpr_libdw_find_place(frame);
-    if (!code && !frame->place.unit.addr)
-        code = DWEXPR_LIBDW_NO_UNIT;
-    if (!code) {
-        code = find_scopes(&frame->place.unit, frame->place.address, &walk);
-        for (; !code && walk.path.length; walk.path.length--)
-            code = dwexpr_libdw_add(&found, dwexpr_libdw_here(&walk), sizeof **scopes);
+    struct dwexpr_libdw_list found = {.code = dwexpr_libdw_find_place(frame)};
+    if (!found.code && !frame->place.unit.addr)
+        found.code = DWEXPR_LIBDW_NO_UNIT;
+    if (!found.code) {
+        found.code = find_scopes(&frame->place.unit, frame->place.address, &walk);
+        for (; !found.code && walk.path.length; walk.path.length--)
+            dwexpr_libdw_add(&found, dwexpr_libdw_here(&walk), sizeof **scopes);
         free(walk.path.items);
     }
-    *scopes = dwexpr_libdw_give(code, &found, count);
-    return code;
+    *scopes = dwexpr_libdw_give(&found, count);
+    return found.code;
 }
 
 /* ---- variables */
@@ -261,14 +260,12 @@ struct found {
     struct dwexpr_libdw_list entries;
     unsigned level;
     int is_enclosing;
-    uint32_t code;
 };
 
 static void add_entry(struct found *found, const Dwarf_Die *entry)
 {
     const dwexpr_libdw_entry added = {*entry, found->level, found->is_enclosing};
-    if (!found->code)
-        found->code = dwexpr_libdw_add(&found->entries, &added, sizeof added);
+    dwexpr_libdw_add(&found->entries, &added, sizeof added);
 }
 
 /* Whether a child of a scope is the instance of an entry. */
@@ -291,7 +288,7 @@ static void add_variables(struct found *found, Dwarf_Die *parent, Dwarf_Die *sco
 {
     Dwarf_Die entry;
     int more;
-    for (more = dwarf_child(parent, &entry); more == 0 && !found->code; more = dwarf_siblingof(&entry, &entry)) {
+    for (more = dwarf_child(parent, &entry); more == 0; more = dwarf_siblingof(&entry, &entry)) {
         const int tag = dwarf_tag(&entry);
         if (tag == DW_TAG_common_block && dwarf_tag(parent) != DW_TAG_common_block)
             add_variables(found, &entry, scope);
@@ -306,7 +303,7 @@ uint32_t dwexpr_libdw_variables(dwexpr_libdw_frame *frame, dwexpr_libdw_entry **
     struct found found = {.level = 0};
     Dwarf_Die *scopes, *scope, *function;
     size_t length;
-    found.code = dwexpr_libdw_scopes(frame, &scopes, &length);
+    found.entries.code = dwexpr_libdw_scopes(frame, &scopes, &length);
     for (scope = function = scopes; function < scopes + length; function++) {
         const int tag = dwarf_tag(function);
         if (tag != DW_TAG_subprogram && tag != DW_TAG_inlined_subroutine)
@@ -324,6 +321,6 @@ uint32_t dwexpr_libdw_variables(dwexpr_libdw_frame *frame, dwexpr_libdw_entry **
         found.is_enclosing |= tag == DW_TAG_subprogram;
     }
     free(scopes);
-    *entries = dwexpr_libdw_give(found.code, &found.entries, count);
-    return found.code;
+    *entries = dwexpr_libdw_give(&found.entries, count);
+    return found.entries.code;
 }

@@ -8,14 +8,12 @@ struct search {
     const char *name;              /* of a variable; NULL for all */
     struct dwexpr_libdw_walk type; /* the path to a declaration of a type */
     struct dwexpr_libdw_list found;
-    int ends;
-    uint32_t code;
+    int ends; /* with the first that is found */
 };
 
-static void add_found(struct search *search, const Dwarf_Die *entry)
+static int has_ended(const struct search *search)
 {
-    search->code = dwexpr_libdw_add(&search->found, entry, sizeof *entry);
-    search->ends |= search->code != 0;
+    return search->found.code || (search->ends && search->found.length);
 }
 
 static void search_unit(struct search *search, const Dwarf_Die *unit)
@@ -23,40 +21,34 @@ static void search_unit(struct search *search, const Dwarf_Die *unit)
     struct dwexpr_libdw_walk walk;
     int enters = 1;
     dwexpr_libdw_begin_walk(&walk, unit);
-    while (!search->ends && dwexpr_libdw_next_entry(&walk, enters))
+    while (!has_ended(search) && dwexpr_libdw_next_entry(&walk, enters))
         enters = search->visit(search, &walk);
     free(walk.path.items);
-    if (walk.code)
-        search->code = walk.code;
-    search->ends |= walk.code != 0;
+    search->found.code |= walk.path.code;
 }
 
 static void search_module(struct search *search, Dwfl_Module *module, const void *passed)
 {
     Dwarf_Die *unit = NULL;
     Dwarf_Addr bias;
-    while (!search->ends && (unit = dwfl_module_nextcu(module, unit, &bias)) != NULL) {
+    while (!has_ended(search) && (unit = dwfl_module_nextcu(module, unit, &bias)) != NULL) {
         const Dwarf_Die entries = dwexpr_libdw_entries(unit);
         if (entries.addr != passed)
             search_unit(search, &entries);
     }
 }
 
-/* Searches the units of a module; or of all if that is NULL, the frame's unit first, and then its module. */
-static void search_units(struct search *search, dwexpr_libdw_frame *frame, Dwfl_Module *module)
+/* Searches the units of all modules, the frame's unit first, and then its module. */
+static void search_modules(struct search *search, dwexpr_libdw_frame *frame)
 {
     const Dwarf_Die *first = &frame->place.unit;
+    Dwfl_Module *module;
     ptrdiff_t at = 0;
     dwexpr_libdw_find_place(frame);
-    if (module) {
-        search_module(search, module, NULL);
-        return;
-    }
     if (first->addr)
         search_unit(search, first);
-    if (frame->place.module)
-        search_module(search, frame->place.module, first->addr);
-    while (!search->ends && (at = dwexpr_libdw_next_module(frame->source.dwfl, at, &module)) > 0)
+    search_module(search, frame->place.module, first->addr);
+    while (!has_ended(search) && (at = dwexpr_libdw_next_module(frame->source.dwfl, at, &module)) > 0)
         if (module != frame->place.module)
             search_module(search, module, first->addr);
 }
@@ -85,7 +77,7 @@ static int visit_global(struct search *search, const struct dwexpr_libdw_walk *w
     const int tag = dwarf_tag(entry);
     if ((tag == DW_TAG_constant || (tag == DW_TAG_variable && !dwarf_hasattr(entry, DW_AT_declaration))) &&
         (!search->name || has_name(entry, search->name)))
-        add_found(search, entry);
+        dwexpr_libdw_add(&search->found, entry, sizeof *entry);
     return tag == DW_TAG_namespace || tag == DW_TAG_module;
 }
 
@@ -93,9 +85,12 @@ uint32_t dwexpr_libdw_globals(dwexpr_libdw_frame *frame, Dwfl_Module *module, co
                               size_t *count)
 {
     struct search search = {.visit = visit_global, .name = name};
-    search_units(&search, frame, module);
-    *globals = dwexpr_libdw_give(search.code, &search.found, count);
-    return search.code;
+    if (module)
+        search_module(&search, module, NULL);
+    else
+        search_modules(&search, frame);
+    *globals = dwexpr_libdw_give(&search.found, count);
+    return search.found.code;
 }
 
 /* ---- types that are only declared */
@@ -116,34 +111,30 @@ static int visit_type(struct search *search, const struct dwexpr_libdw_walk *wal
     const size_t depth = walk->path.length, wanted = search->type.path.length;
     Dwarf_Die *entry = dwexpr_libdw_here(walk);
     const int same = depth <= wanted && is_same(entry, (Dwarf_Die *)search->type.path.items + depth - 1);
-    if (same && depth == wanted && !dwarf_hasattr(entry, DW_AT_declaration)) {
-        search->ends = 1;
-        add_found(search, entry);
-    }
+    if (same && depth == wanted && !dwarf_hasattr(entry, DW_AT_declaration))
+        dwexpr_libdw_add(&search->found, entry, sizeof *entry);
     return same && depth < wanted;
 }
 
 uint32_t dwexpr_libdw_definition(dwexpr_libdw_frame *frame, Dwarf_Die *type, Dwarf_Die *definition)
 {
-    struct search search = {.visit = visit_type};
+    struct search search = {.visit = visit_type, .ends = 1};
     Dwarf_Die unit, *found;
     size_t count;
     dwarf_diecu(type, &unit, NULL, NULL);
     dwexpr_libdw_begin_walk(&search.type, &unit);
-    while (!search.type.code && dwexpr_libdw_here(&search.type)->addr != type->addr &&
+    while (!search.type.path.code && dwexpr_libdw_here(&search.type)->addr != type->addr &&
            dwexpr_libdw_next_entry(&search.type, 1))
         ;
-    search.code = search.type.code;
-    if (!search.code)
-        search_unit(&search, &unit);
-    if (!search.ends && !search.code)
-        search_units(&search, frame, NULL);
-    found = dwexpr_libdw_give(search.code, &search.found, &count);
+    search.found.code = search.type.path.code;
+    search_unit(&search, &unit);
+    search_modules(&search, frame);
+    found = dwexpr_libdw_give(&search.found, &count);
     if (count)
         *definition = *found;
     free(found);
     free(search.type.path.items);
-    return search.code ? search.code : count ? 0 : DWEXPR_LIBDW_NOT_DEFINED;
+    return search.found.code ? search.found.code : count ? 0 : DWEXPR_LIBDW_NOT_DEFINED;
 }
 
 /* ---- symbols */

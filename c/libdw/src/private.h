@@ -37,12 +37,14 @@ void dwexpr_libdw_bytes_of(uint64_t number, size_t size, int big_endian, uint8_t
 struct dwexpr_libdw_list {
     void *items;
     size_t length, room;
+    uint32_t code; /* why the list isn't complete, else 0 */
 };
 
-/* Adds a copy of an item. Answers 0 or DWEXPR_LIBDW_NO_MEMORY. */
+/* Adds a copy of an item to a list whose code is 0. Answers the code, which is DWEXPR_LIBDW_NO_MEMORY if there is none
+ * for the item. */
 uint32_t dwexpr_libdw_add(struct dwexpr_libdw_list *list, const void *item, size_t size);
 /* The items for a client, who frees them, and how many there are; NULL and 0 if the code isn't 0. */
-void *dwexpr_libdw_give(uint32_t code, const struct dwexpr_libdw_list *list, size_t *count);
+void *dwexpr_libdw_give(const struct dwexpr_libdw_list *list, size_t *count);
 
 /* Takes so many bytes of memory, and puts them to a list. Gives back NULL if there is none. */
 uint8_t *dwexpr_libdw_take(void **list, size_t size);
@@ -55,9 +57,8 @@ void dwexpr_libdw_keep(dwexpr_libdw_text *expression, void **list);
 /* A walk through entries, each before its children, without recursion. It ends, since libdw goes to no entry that
  * stands before. Free `path.items` after it. */
 struct dwexpr_libdw_walk {
-    struct dwexpr_libdw_list path; /* the entries from where it began to where it is */
-    size_t floor;  /* the walk ends when it would leave the first so many entries of the path */
-    uint32_t code; /* DWEXPR_LIBDW_NO_MEMORY if that ended it */
+    struct dwexpr_libdw_list path; /* the entries from where it began to where it is; its code ends the walk */
+    size_t floor; /* the walk ends when it would leave the first so many entries of the path */
 };
 
 void dwexpr_libdw_begin_walk(struct dwexpr_libdw_walk *walk, const Dwarf_Die *first);
@@ -74,12 +75,18 @@ int dwexpr_libdw_scalar(Dwarf_Die *type, Dwarf_Word *size, Dwarf_Word *encoding)
 
 /* ---- evaluate.c */
 
-/* What an attribute's number is computed with: a frame and, unless they are NULL, the object's address and the value
- * that is on the stack at first. */
+/* What an expression is for. A frame base's can't ask for the frame base; a CFA's can only ask for registers and
+ * memory. */
+enum dwexpr_libdw_purpose { FOR_VALUE, FOR_BASE, FOR_CFA };
+
+/* What an expression, or an attribute's number, is computed with: a frame and, unless they are NULL, the object's
+ * address and the value that is on the stack at first. */
 struct dwexpr_libdw_given {
     dwexpr_libdw_frame *frame;
     const uint64_t *object, *initial;
     uint32_t code; /* why the first number of several isn't known, else 0 */
+    enum dwexpr_libdw_purpose purpose;
+    uint32_t *left; /* how many more expressions may be evaluated; NULL for as many as the frame's limit says */
 };
 
 uint32_t dwexpr_libdw_number_with(const struct dwexpr_libdw_given *given, Dwarf_Attribute *attribute, uint64_t *number);

@@ -41,7 +41,6 @@ static void mark_unknown(const struct destination *place, uint64_t at, uint64_t 
 static uint32_t copy_memory(const struct destination *place, uint64_t address, uint64_t bit, uint64_t at,
                             uint64_t count)
 {
-    const dwexpr_libdw_source *source = &place->frame->source;
     uint8_t part[256];
     uint32_t code = 0;
     uint64_t most = 8 * sizeof part;
@@ -51,9 +50,9 @@ static uint32_t copy_memory(const struct destination *place, uint64_t address, u
         const uint64_t bits = count < most - bit ? count : most - bit;
         const size_t size = (size_t)((bit + bits + 7) / 8);
         memset(part, 0, size);
-        if (source->read_memory && !source->read_memory(source->context, address, part, size)) {
+        if (!dwexpr_libdw_memory(place->frame, address, part, size)) {
             copy_bits(place->bytes, at, part, bit, bits, place->big_endian);
-        } else if (source->read_memory && size > 1) {
+        } else if (size > 1) {
             most = 8 * ((size + 1) / 2);
             continue;
         } else {
@@ -84,7 +83,7 @@ static uint32_t copy_content(const struct destination *place, const uint8_t *fro
     return known < count ? DWEXPR_LIBDW_TOO_SMALL : 0;
 }
 
-/* Copies the bits of a piece to a place in the bytes. */
+/* Copies the bits of a piece to a place in the bytes. They are unknown if it is NULL. */
 static uint32_t copy_piece(const struct destination *place, const dwexpr_libdw_value *value, const dwexpr_piece *piece,
                            uint64_t at, uint64_t count)
 {
@@ -92,7 +91,7 @@ static uint32_t copy_piece(const struct destination *place, const dwexpr_libdw_v
     dwexpr_text block;
     size_t size;
     uint32_t code = DWEXPR_LIBDW_OPTIMIZED_AWAY;
-    switch (piece->kind) {
+    switch (piece ? piece->kind : DWEXPR_EMPTY) {
     case DWEXPR_AT_ADDRESS: return copy_memory(place, piece->number, piece->bit_offset, at, count);
     case DWEXPR_IN_REGISTER:
         code = dwexpr_libdw_register(place->frame, (uint32_t)piece->number, content, &size);
@@ -127,14 +126,11 @@ uint32_t dwexpr_libdw_read(const dwexpr_libdw_frame *frame, const dwexpr_libdw_v
         memset(unknown, 0, size);
     for (done = 0; done < size_in_bits; done += count) {
         const dwexpr_piece *piece = i < value->outcome.pieces ? &value->pieces[i++] : NULL;
-        uint32_t failed = DWEXPR_LIBDW_OPTIMIZED_AWAY;
+        uint32_t failed;
         count = size_in_bits - done;
         if (piece && piece->has_size && piece->size_in_bits < count)
             count = piece->size_in_bits;
-        if (piece)
-            failed = copy_piece(&place, value, piece, done, count);
-        else
-            mark_unknown(&place, done, count);
+        failed = copy_piece(&place, value, piece, done, count);
         code = code ? code : failed;
     }
     return code;

@@ -1,25 +1,16 @@
 /* The frames of a thread, and their registers. */
-#define _GNU_SOURCE /* ptrace */
 #include "targets.h"
 
 #if _ELFUTILS_PREREQ(0, 188) /* dwfl_frame_reg */
 
-#include <sys/ptrace.h>
-#include <sys/uio.h>
-
 /* How many registers of a frame libdwfl is asked for, from number 0. */
 #define ASKED_REGISTERS 128
-
-/* A register of a frame, as libdwfl tells it. */
-struct known_register {
-    uint32_t number;
-    Dwarf_Word content;
-};
 
 struct stack_frame {
     dwexpr_libdw_frame frame;
     dwexpr_libdw_stack *stack;
-    size_t registers, register_count; /* in those of the stack */
+    Dwarf_Word registers[ASKED_REGISTERS]; /* as libdwfl tells them */
+    uint8_t is_told[ASKED_REGISTERS];
     int is_guessed; /* the one that it called has no call frame information: libdwfl takes its frame pointer */
     bool is_interrupted; /* by a signal: the one that it called is the kernel's, whose call frame information says so */
 };
@@ -28,9 +19,8 @@ struct dwexpr_libdw_stack {
     dwexpr_libdw_target *target;
     pid_t thread;
     size_t most;
-    struct dwexpr_libdw_list frames, registers; /* of stack_frame, of known_register */
+    struct dwexpr_libdw_list frames; /* of stack_frame */
     struct dwexpr_libdw_sets sets; /* of the innermost frame */
-    uint8_t *traced; /* the bytes of a process's sets */
     int is_cut_off;
     uint32_t code;
 };
@@ -97,39 +87,30 @@ static int is_kept(dwexpr_libdw_frame *caller, unsigned machine, uint32_t number
     const char *producer;
     if (machine == EM_X86_64 && (number == RBX || number == FS_BASE))
         return 1;
-    dwexpr_libdw_find_place(caller);
-    if (!caller->place.unit.addr)
+    if (dwexpr_libdw_find_place(caller))
         return 0;
     producer = dwarf_formstring(dwarf_attr(&caller->place.unit, DW_AT_producer, &attribute));
     return producer && !strncmp(producer, "GNU ", 4);
 }
 
-/* A register as libdwfl tells it. Of x86-64 it mixes up two: in a caller's frame it takes rax, which a call may change,
- * for rbx, which a call keeps (elfutils 0.188). */
-static int is_known(const struct stack_frame *frame, uint32_t number, Dwarf_Word *content)
+/* Whether libdwfl tells a register. Of x86-64 it mixes up two: in a caller's frame it takes rax, which a call may
+ * change, for rbx, which a call keeps (elfutils 0.188). */
+static int is_known(const struct stack_frame *frame, uint32_t number)
 {
     const dwexpr_libdw_stack *stack = frame->stack;
-    const struct known_register *registers = (const struct known_register *)stack->registers.items;
-    size_t i;
     if (frame != frames_of(stack) && stack->target->machine == EM_X86_64 && number == RAX && !frame->is_interrupted)
         return 0;
-    for (i = frame->registers; i < frame->registers + frame->register_count; i++)
-        if (registers[i].number == number) {
-            *content = registers[i].content;
-            return 1;
-        }
-    return 0;
+    return number < ASKED_REGISTERS && frame->is_told[number];
 }
 
 static int read_register(void *context, uint32_t number, uint8_t *bytes, size_t *size)
 {
     struct stack_frame *first = (struct stack_frame *)context, *frame;
     const dwexpr_libdw_target *target = first->stack->target;
-    Dwarf_Word content;
     for (frame = first;; frame--) {
-        if (is_known(frame, number, &content)) {
+        if (is_known(frame, number)) {
             *size = target->word;
-            dwexpr_libdw_bytes_of(content, *size, target->big_endian, bytes);
+            dwexpr_libdw_bytes_of(frame->registers[number], *size, target->big_endian, bytes);
             return 0;
         }
         if (frame == frames_of(frame->stack))
@@ -181,42 +162,10 @@ static int find_tls(void *context, Dwfl_Module *module, uint64_t offset, uint64_
     const dwexpr_libdw_stack *stack = ((const struct stack_frame *)context)->stack;
     uint64_t pointer;
     return find_thread_pointer(stack, &pointer) ||
-           dwexpr_libdw_find_block(stack->target, module, pointer, offset, address);
+           dwexpr_libdw_find_block(stack->target, &stack->sets, module, pointer, offset, address);
 }
 
 /* ---- the walk through the frames */
-
-/* Reads the thread's register sets by ptrace; libdwfl keeps it stopped during the walk. */
-static uint32_t trace_sets(dwexpr_libdw_stack *stack)
-{
-    size_t room = 65536;
-    uint8_t *bytes = stack->traced = (uint8_t *)malloc(room);
-    int set;
-    if (!bytes)
-        return DWEXPR_LIBDW_NO_MEMORY;
-    for (set = GENERAL; set < SETS; set++) {
-        struct iovec part = {bytes, room};
-        if (ptrace(PTRACE_GETREGSET, stack->thread, (void *)(uintptr_t)dwexpr_libdw_notes[set].type, &part))
-            continue;
-        stack->sets.bytes[set] = bytes;
-        stack->sets.lengths[set] = part.iov_len;
-        bytes += part.iov_len;
-        room -= part.iov_len;
-    }
-    return 0;
-}
-
-static uint32_t add_registers(dwexpr_libdw_stack *stack, Dwfl_Frame *state, struct stack_frame *frame)
-{
-    struct known_register known = {.number = 0};
-    uint32_t code = 0;
-    frame->registers = stack->registers.length;
-    for (; known.number < ASKED_REGISTERS && !code; known.number++)
-        if (!dwfl_frame_reg(state, known.number, &known.content))
-            code = dwexpr_libdw_add(&stack->registers, &known, sizeof known);
-    frame->register_count = stack->registers.length - frame->registers;
-    return code;
-}
 
 static int on_frame(Dwfl_Frame *state, void *given)
 {
@@ -224,9 +173,10 @@ static int on_frame(Dwfl_Frame *state, void *given)
     struct stack_frame frame = {.stack = stack};
     dwexpr_libdw_source source = {.dwfl = stack->target->dwfl, .read_register = read_register,
                                   .read_memory = read_memory, .find_tls = find_tls};
-    Dwarf_Frame *rules;
+    Dwarf_Frame *rules = NULL;
     Elf *elf;
     bool is_activation = false;
+    unsigned i;
     if (stack->frames.length == stack->most) {
         stack->code = DWEXPR_LIBDW_TOO_MANY_FRAMES;
         return DWARF_CB_ABORT;
@@ -236,20 +186,17 @@ static int on_frame(Dwfl_Frame *state, void *given)
     dwexpr_libdw_begin_frame(&frame.frame, &source);
     if (stack->frames.length) {
         frame.is_guessed = dwexpr_libdw_find_state(&frames_of(stack)[stack->frames.length - 1].frame, &rules, &elf);
-        if (!frame.is_guessed) {
-            dwarf_frame_info(rules, NULL, NULL, &frame.is_interrupted);
-            free(rules);
-        }
-    } else if (!stack->target->core) {
-        stack->code = trace_sets(stack);
+        dwarf_frame_info(rules, NULL, NULL, &frame.is_interrupted);
+        free(rules);
+    } else {
+        dwexpr_libdw_read_sets(stack->target, stack->thread, &stack->sets);
     }
     if (frame.is_guessed)
         dwexpr_libdw_error = "a frame has no call frame information";
     stack->is_cut_off |= frame.is_guessed;
-    if (!stack->code)
-        stack->code = add_registers(stack, state, &frame);
-    if (!stack->code)
-        stack->code = dwexpr_libdw_add(&stack->frames, &frame, sizeof frame);
+    for (i = 0; i < ASKED_REGISTERS; i++)
+        frame.is_told[i] = !dwfl_frame_reg(state, i, &frame.registers[i]);
+    stack->code = dwexpr_libdw_add(&stack->frames, &frame, sizeof frame);
     return stack->code ? DWARF_CB_ABORT : DWARF_CB_OK;
 }
 
@@ -264,8 +211,6 @@ uint32_t dwexpr_libdw_unwind(dwexpr_libdw_target *target, pid_t thread, size_t m
     found->target = target;
     found->thread = thread;
     found->most = most;
-    if (target->core)
-        dwexpr_libdw_read_notes(target, thread, &found->sets);
     if (dwfl_getthread_frames(target->dwfl, thread, on_frame, found) < 0) {
         dwexpr_libdw_error = dwfl_errmsg(-1);
         found->is_cut_off = 1;
@@ -291,8 +236,6 @@ void dwexpr_libdw_free_stack(dwexpr_libdw_stack *stack)
 {
     if (!stack)
         return;
-    free(stack->traced);
-    free(stack->registers.items);
     free(stack->frames.items);
     free(stack);
 }

@@ -1,5 +1,5 @@
 /* Processes and core dumps: their threads, memory and sets of registers. */
-#define _GNU_SOURCE /* pread */
+#define _GNU_SOURCE /* pread, ptrace */
 #include "targets.h"
 
 #if _ELFUTILS_PREREQ(0, 188) /* dwfl_frame_reg */
@@ -7,18 +7,15 @@
 #include <errno.h>
 #include <fcntl.h>
 #include <stdio.h>
+#include <sys/ptrace.h>
+#include <sys/uio.h>
 #include <unistd.h>
-
-const struct dwexpr_libdw_note dwexpr_libdw_notes[SETS] = {
-    [GENERAL] = {"CORE", NT_PRSTATUS}, [FLOATING] = {"CORE", NT_FPREGSET}, [FXSAVE] = {"LINUX", NT_PRXFPREG},
-    [XSAVE] = {"LINUX", NT_X86_XSTATE}, [SEGMENTS] = {"LINUX", NT_386_TLS},
-};
 
 /* ---- memory */
 
-/* Reads at most `size` bytes that were loaded from an ELF file, and sets `size` to how many it read. Gives back 0; 1 if
- * no segment has bytes for the address; or -1 if the file ends before them. */
-static int read_segments(Elf *elf, Dwarf_Addr bias, uint64_t address, uint8_t *bytes, size_t *size)
+/* Reads at most `size` bytes that were loaded from an ELF file. Gives back how many; 0 if no segment has bytes for the
+ * address; or -1 if the file ends before them. */
+static ssize_t read_segments(Elf *elf, Dwarf_Addr bias, uint64_t address, uint8_t *bytes, size_t size)
 {
     size_t count = 0, i, length;
     const char *file = elf_rawfile(elf, &length);
@@ -30,58 +27,52 @@ static int read_segments(Elf *elf, Dwarf_Addr bias, uint64_t address, uint8_t *b
         offset = address - bias - segment.p_vaddr;
         if (segment.p_type != PT_LOAD || offset >= segment.p_filesz)
             continue;
-        if (*size > segment.p_filesz - offset)
-            *size = (size_t)(segment.p_filesz - offset);
-        if (segment.p_offset > length || offset + *size > length - segment.p_offset)
+        if (size > segment.p_filesz - offset)
+            size = (size_t)(segment.p_filesz - offset);
+        if (segment.p_offset > length || offset + size > length - segment.p_offset)
             return -1;
-        memcpy(bytes, file + segment.p_offset + offset, *size);
-        return 0;
+        memcpy(bytes, file + segment.p_offset + offset, size);
+        return (ssize_t)size;
     }
-    return 1;
+    return 0;
 }
 
 /* Reads memory of a core dump. Pages that never changed aren't in it, but in the file that was loaded. */
-static int read_core(const dwexpr_libdw_target *target, uint64_t address, uint8_t *bytes, size_t *size)
+static ssize_t read_core(const dwexpr_libdw_target *target, uint64_t address, uint8_t *bytes, size_t size)
 {
     Dwarf_Addr bias;
     Elf *elf;
-    const int failed = read_segments(target->core, 0, address, bytes, size);
-    if (failed <= 0)
-        return failed;
+    const ssize_t count = read_segments(target->core, 0, address, bytes, size);
+    if (count)
+        return count;
     elf = dwfl_module_getelf(dwfl_addrmodule(target->dwfl, address), &bias);
-    return !elf || read_segments(elf, bias, address, bytes, size);
-}
-
-static int read_process(const dwexpr_libdw_target *target, uint64_t address, uint8_t *bytes, size_t *size)
-{
-    const ssize_t count = pread(target->file, bytes, *size, (off_t)address);
-    *size = count > 0 ? (size_t)count : 0;
-    return count <= 0;
+    return elf ? read_segments(elf, bias, address, bytes, size) : 0;
 }
 
 int dwexpr_libdw_read_memory(const dwexpr_libdw_target *target, uint64_t address, uint8_t *bytes, size_t size)
 {
     while (size) {
-        size_t count = size;
-        if (target->core ? read_core(target, address, bytes, &count) : read_process(target, address, bytes, &count))
+        const ssize_t count = target->core ? read_core(target, address, bytes, size)
+                                           : pread(target->file, bytes, size, (off_t)address);
+        if (count <= 0)
             return 1;
-        address += count;
+        address += (size_t)count;
         bytes += count;
-        size -= count;
+        size -= (size_t)count;
     }
     return 0;
 }
 
-/* ---- the notes of a core dump, and what /proc has of a process */
+/* ---- sets */
 
-/* Keeps the address of the program's headers in the auxiliary vector, which tells the program from other files. */
-static void keep_program(dwexpr_libdw_target *target, const uint8_t *words, size_t length)
-{
-    const size_t size = target->word;
-    for (; length >= 2 * size; words += 2 * size, length -= 2 * size)
-        if (dwexpr_libdw_number_of(words, size, target->big_endian) == AT_PHDR)
-            target->program = dwexpr_libdw_number_of(words + size, size, target->big_endian);
-}
+/* The note of each set in a core dump. ptrace has the same types. */
+static const struct {
+    const char *name;
+    uint32_t type;
+} notes[SETS] = {
+    [GENERAL] = {"CORE", NT_PRSTATUS}, [FLOATING] = {"CORE", NT_FPREGSET}, [FXSAVE] = {"LINUX", NT_PRXFPREG},
+    [XSAVE] = {"LINUX", NT_X86_XSTATE}, [SEGMENTS] = {"LINUX", NT_386_TLS}, [VECTOR] = {"CORE", NT_AUXV},
+};
 
 /* The notes of a core dump's segment, or NULL if it has none. */
 static Elf_Data *notes_of(Elf *core, size_t index)
@@ -93,61 +84,75 @@ static Elf_Data *notes_of(Elf *core, size_t index)
     return elf_getdata_rawchunk(core, (int64_t)segment.p_offset, (size_t)segment.p_filesz, ELF_T_NHDR);
 }
 
-/* Reads the auxiliary vector of a core dump. */
-static void read_vector(dwexpr_libdw_target *target)
-{
-    size_t count = 0, i, at, name_at, bytes_at;
-    GElf_Nhdr header;
-    elf_getphdrnum(target->core, &count);
-    for (i = 0; i < count; i++) {
-        Elf_Data *notes = notes_of(target->core, i);
-        for (at = 0; (at = gelf_getnote(notes, at, &header, &name_at, &bytes_at)) > 0;)
-            if (header.n_type == NT_AUXV && header.n_namesz == sizeof "CORE" &&
-                !memcmp((const char *)notes->d_buf + name_at, "CORE", sizeof "CORE"))
-                keep_program(target, (const uint8_t *)notes->d_buf + bytes_at, header.n_descsz);
-    }
-}
-
-/* The register set that a note has, or SETS if it has none. */
+/* The set that a note has, or SETS if it has none. */
 static int set_of(const GElf_Nhdr *header, const char *name)
 {
     int set = GENERAL;
-    while (set < SETS && (header->n_type != dwexpr_libdw_notes[set].type ||
-                          header->n_namesz != strlen(dwexpr_libdw_notes[set].name) + 1 ||
-                          memcmp(name, dwexpr_libdw_notes[set].name, header->n_namesz)))
+    while (set < SETS && (header->n_type != notes[set].type || header->n_namesz != strlen(notes[set].name) + 1 ||
+                          memcmp(name, notes[set].name, header->n_namesz)))
         set++;
     return set;
 }
 
-/* Takes the register sets of a thread. A thread's notes begin with NT_PRSTATUS. */
-static void take_sets(const dwexpr_libdw_target *target, Elf_Data *notes, pid_t thread, struct dwexpr_libdw_sets *sets)
+/* Takes the sets of a thread from notes. A thread's notes begin with NT_PRSTATUS. */
+static void take_sets(const dwexpr_libdw_target *target, Elf_Data *from, pid_t thread, struct dwexpr_libdw_sets *sets)
 {
     /* in NT_PRSTATUS: the thread's number, and its general registers */
     const size_t thread_at = target->word == 4 ? 24 : 32, registers_at = target->word == 4 ? 72 : 112;
     GElf_Nhdr header;
     size_t at = 0, name_at, bytes_at;
     int is_thread = 0;
-    while ((at = gelf_getnote(notes, at, &header, &name_at, &bytes_at)) > 0) {
-        const uint8_t *bytes = (const uint8_t *)notes->d_buf + bytes_at;
-        const int set = set_of(&header, (const char *)notes->d_buf + name_at);
+    while ((at = gelf_getnote(from, at, &header, &name_at, &bytes_at)) > 0) {
+        const uint8_t *bytes = (const uint8_t *)from->d_buf + bytes_at;
+        const int set = set_of(&header, (const char *)from->d_buf + name_at);
         const size_t front = set == GENERAL ? registers_at : 0;
         if (set == SETS || header.n_descsz <= front)
             continue;
         if (set == GENERAL)
             is_thread = (pid_t)dwexpr_libdw_number_of(bytes + thread_at, 4, target->big_endian) == thread;
-        if (is_thread) {
+        if (is_thread || set == VECTOR) {
             sets->bytes[set] = bytes + front;
             sets->lengths[set] = header.n_descsz - front;
         }
     }
 }
 
-void dwexpr_libdw_read_notes(const dwexpr_libdw_target *target, pid_t thread, struct dwexpr_libdw_sets *sets)
+/* Opens a file that /proc has of the process. */
+static int open_proc(const dwexpr_libdw_target *target, const char *name)
 {
+    char path[64];
+    snprintf(path, sizeof path, "/proc/%ld/%s", (long)dwfl_pid(target->dwfl), name);
+    return open(path, O_RDONLY | O_CLOEXEC);
+}
+
+/* Reads the start of such a file. Returns how many bytes there are. */
+static size_t read_proc(const dwexpr_libdw_target *target, const char *name, void *bytes, size_t size)
+{
+    const int file = open_proc(target, name);
+    const ssize_t count = file < 0 ? 0 : read(file, bytes, size);
+    if (file >= 0)
+        close(file);
+    return count > 0 ? (size_t)count : 0;
+}
+
+void dwexpr_libdw_read_sets(const dwexpr_libdw_target *target, pid_t thread, struct dwexpr_libdw_sets *sets)
+{
+    uint8_t *bytes = sets->traced;
     size_t count = 0, i;
+    int set;
     elf_getphdrnum(target->core, &count);
     for (i = 0; i < count; i++)
         take_sets(target, notes_of(target->core, i), thread, sets);
+    for (set = GENERAL; set < SETS && !target->core; set++) {
+        struct iovec part = {bytes, (size_t)(sets->traced + sizeof sets->traced - bytes)};
+        if (set == VECTOR)
+            part.iov_len = read_proc(target, "auxv", bytes, part.iov_len);
+        else if (ptrace(PTRACE_GETREGSET, thread, (void *)(uintptr_t)notes[set].type, &part))
+            continue;
+        sets->bytes[set] = bytes;
+        sets->lengths[set] = part.iov_len;
+        bytes += part.iov_len;
+    }
 }
 
 /* ---- why there is no target */
@@ -193,48 +198,8 @@ static uint32_t make_target(const Dwfl_Callbacks *finders, dwexpr_libdw_target *
     if (!*target)
         return DWEXPR_LIBDW_NO_MEMORY;
     (*target)->file = -1;
-    (*target)->word = 8;
     (*target)->owned = finders ? dwfl_begin(finders) : NULL;
     return ended(finders && !(*target)->owned ? DWEXPR_LIBDW_NO_MEMORY : 0, target);
-}
-
-/* Keeps the order of words, and their size, from the start of an ELF file. */
-static void keep_header(dwexpr_libdw_target *target, const unsigned char *ident, unsigned machine)
-{
-    target->big_endian = ident[EI_DATA] == ELFDATA2MSB;
-    target->word = ident[EI_CLASS] == ELFCLASS32 ? 4 : 8;
-    target->machine = machine;
-}
-
-/* Opens a file that /proc has of the process. */
-static int open_proc(const dwexpr_libdw_target *target, const char *name)
-{
-    char path[64];
-    snprintf(path, sizeof path, "/proc/%ld/%s", (long)dwfl_pid(target->dwfl), name);
-    return open(path, O_RDONLY | O_CLOEXEC);
-}
-
-/* Reads the start of such a file. Returns how many bytes there are. */
-static size_t read_proc(const dwexpr_libdw_target *target, const char *name, uint8_t *bytes, size_t size)
-{
-    const int file = open_proc(target, name);
-    const ssize_t count = file < 0 ? 0 : read(file, bytes, size);
-    if (file >= 0)
-        close(file);
-    return count > 0 ? (size_t)count : 0;
-}
-
-static void read_process_header(dwexpr_libdw_target *target)
-{
-    uint8_t bytes[1024];
-    uint16_t machine;
-    if (read_proc(target, "exe", bytes, EI_NIDENT + 4) == EI_NIDENT + 4) {
-        /* a process runs on this machine, so its file's words are in the order of this program's */
-        memcpy(&machine, bytes + EI_NIDENT + 2, sizeof machine);
-        keep_header(target, bytes, machine);
-    }
-    keep_program(target, bytes, read_proc(target, "auxv", bytes, sizeof bytes));
-    target->file = open_proc(target, "mem");
 }
 
 static uint32_t begin_target(dwexpr_libdw_target *target, Dwfl *dwfl, Elf *core)
@@ -245,11 +210,14 @@ static uint32_t begin_target(dwexpr_libdw_target *target, Dwfl *dwfl, Elf *core)
     target->core = core;
     if (core) {
         gelf_getehdr(core, &header);
-        keep_header(target, header.e_ident, header.e_machine);
-        read_vector(target);
     } else {
-        read_process_header(target);
+        /* its words are in the order of this machine, and the first fields are the same for words of 32 bits */
+        read_proc(target, "exe", &header, sizeof header);
+        target->file = open_proc(target, "mem");
     }
+    target->big_endian = header.e_ident[EI_DATA] == ELFDATA2MSB;
+    target->word = header.e_ident[EI_CLASS] == ELFCLASS32 ? 4 : 8;
+    target->machine = header.e_machine;
     failed = dwfl_getthreads(dwfl, on_thread, target);
     if (failed == DWARF_CB_ABORT)
         return DWEXPR_LIBDW_NO_MEMORY;

@@ -6,14 +6,9 @@
 
 #pragma GCC visibility push(hidden)
 
-/* The kernel's sets of registers: general, floating point, FXSAVE's on i386, XSAVE's, and segments on i386. */
-enum set { GENERAL, FLOATING, FXSAVE, XSAVE, SEGMENTS, SETS };
-
-/* The note of each set in a core dump. ptrace has the same types. */
-extern const struct dwexpr_libdw_note {
-    const char *name;
-    uint32_t type;
-} dwexpr_libdw_notes[SETS];
+/* The kernel's sets of registers: general, floating point, FXSAVE's on i386, XSAVE's, and segments on i386; and the
+ * auxiliary vector, which is that of all threads. */
+enum set { GENERAL, FLOATING, FXSAVE, XSAVE, SEGMENTS, VECTOR, SETS };
 
 struct dwexpr_libdw_target {
     Dwfl *dwfl;
@@ -25,23 +20,23 @@ struct dwexpr_libdw_target {
     int big_endian;
     size_t word;  /* the bytes of an address */
     unsigned machine;
-    Dwarf_Addr program; /* an address in the program itself, 0 if it isn't known */
 };
 
 /* What dwexpr_libdw_target_error says. */
 extern _Thread_local const char *dwexpr_libdw_error;
 
-/* The register sets of a thread, as bytes. */
+/* The sets of a thread, as bytes. */
 struct dwexpr_libdw_sets {
     const uint8_t *bytes[SETS];
     size_t lengths[SETS];
+    uint8_t traced[65536]; /* those of a process */
 };
 
-/* Finds the sets of a thread in the notes of a core dump. */
-void dwexpr_libdw_read_notes(const dwexpr_libdw_target *target, pid_t thread, struct dwexpr_libdw_sets *sets);
-/* The address of an offset in a module's thread-local storage, of the thread with a thread pointer. */
-int dwexpr_libdw_find_block(const dwexpr_libdw_target *target, Dwfl_Module *module, uint64_t pointer, uint64_t offset,
-                            uint64_t *address);
+/* Reads the sets of a thread that libdwfl keeps stopped, or that a core dump has. */
+void dwexpr_libdw_read_sets(const dwexpr_libdw_target *target, pid_t thread, struct dwexpr_libdw_sets *sets);
+/* The address of an offset in a module's thread-local storage, of the thread with these sets and a thread pointer. */
+int dwexpr_libdw_find_block(const dwexpr_libdw_target *target, const struct dwexpr_libdw_sets *sets,
+                            Dwfl_Module *module, uint64_t pointer, uint64_t offset, uint64_t *address);
 int dwexpr_libdw_read_memory(const dwexpr_libdw_target *target, uint64_t address, uint8_t *bytes, size_t size);
 
 #pragma GCC visibility pop

@@ -104,15 +104,26 @@ static uint64_t program_block(const GElf_Phdr *segment, uint64_t pointer)
     return pointer - first - (segment->p_memsz - first + align - 1) / align * align;
 }
 
-int dwexpr_libdw_find_block(const dwexpr_libdw_target *target, Dwfl_Module *module, uint64_t pointer, uint64_t offset,
-                            uint64_t *address)
+/* An address in the program itself: that of its headers, by the auxiliary vector. 0 if it isn't known. */
+static Dwarf_Addr program_of(const struct dwexpr_libdw_sets *sets, size_t word)
 {
+    size_t at;
+    for (at = 0; at + 2 * word <= sets->lengths[VECTOR]; at += 2 * word)
+        if (dwexpr_libdw_number_of(sets->bytes[VECTOR] + at, word, 0) == AT_PHDR)
+            return dwexpr_libdw_number_of(sets->bytes[VECTOR] + at + word, word, 0);
+    return 0;
+}
+
+int dwexpr_libdw_find_block(const dwexpr_libdw_target *target, const struct dwexpr_libdw_sets *sets,
+                            Dwfl_Module *module, uint64_t pointer, uint64_t offset, uint64_t *address)
+{
+    const Dwarf_Addr program = program_of(sets, target->word);
     GElf_Phdr segment;
     Dwarf_Addr bias;
     /* GCC 12 writes an address for an offset in split debug information of version 5 */
     if (!dwexpr_libdw_find_segment(module, PT_TLS, &segment, &bias) || offset >= segment.p_memsz)
         return 1;
-    if (!target->program || dwfl_addrmodule(target->dwfl, target->program) != module)
+    if (!program || dwfl_addrmodule(target->dwfl, program) != module)
         return find_library_block(target, module, pointer, offset, address);
     *address = program_block(&segment, pointer) + offset;
     return 0;

@@ -87,7 +87,7 @@ static void check_words(dwexpr_libdw_frame **frames, Dwarf_Die unit, const char 
     dwexpr_libdw_value *value = NULL;
     dwexpr_libdw_frame *frame = frames[0];
     Dwarf_Die variable;
-    size_t total;
+    size_t total = 0; /* if no variable is looked for */
     uint32_t code;
     int found;
     sscanf(words, "%63s %7s %63s", name, kind, where);

@@ -14,7 +14,8 @@ import sys
 from tree import Entry, Tree
 
 SIGNED, UNSIGNED, BOOLEAN, FLOAT = 5, 7, 2, 4
-C99, ADA, FORTRAN, RUST = 0x0C, 0x0D, 0x08, 0x1C
+C99, ADA, RUST = 0x0C, 0x0D, 0x1C
+FORTRANS = 0x07, 0x08, 0x0E, 0x22, 0x23
 NUMBERS = 2**63
 
 
@@ -107,7 +108,7 @@ class Types(Tree):
     def orders(self):
         """As the language has it: the first index of Fortran is the fastest, and begins at 1, as Ada's does."""
         pair = index(upper_bound=2), index(upper_bound=3)
-        said = {ADA: "size 24; at 2,1 96 32", FORTRAN: "size 24; at 2,1 32 32"}
+        said = {ADA: "size 24; at 2,1 96 32"} | dict.fromkeys(FORTRANS, "size 24; at 2,1 32 32")
         self.variable(said.get(self.language, "size 48; at 1,0 128 32"), self.array(self.int, *pair))
 
     def enumerations(self):
@@ -267,7 +268,7 @@ class Types(Tree):
 
 def main():
     for numbers in itertools.product((4, 8), (4,), (4, 5), ("le", "be")):
-        for language in (C99, ADA, FORTRAN, RUST):
+        for language in (C99, ADA, *FORTRANS, RUST):
             unit = Types(language, *numbers)
             name = f"{unit.name}-{language}.types"
             (pathlib.Path(sys.argv[1]) / name).write_bytes(unit.elf(unit.sections()))

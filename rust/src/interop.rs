@@ -1,8 +1,8 @@
 //! gimli's readers, and conversions between the types of both crates.
 
 use crate::{
-    BigEndian, DebugAddrIndex, DebugInfoOffset, DieReference, DwAte, DwOp, Encoding, Error, Format, LittleEndian,
-    Reader, ReaderOffset, ReaderOffsetId, Register, Result, RunTimeEndian, UnitOffset, Value, ValueType,
+    BigEndian, DebugAddrIndex, DebugInfoOffset, DieReference, DwAte, DwOp, Encoding, EndianSlice, Error, Format,
+    LittleEndian, Reader, ReaderOffset, ReaderOffsetId, Register, Result, RunTimeEndian, UnitOffset, Value, ValueType,
 };
 use core::fmt;
 use core::ops::Deref;
@@ -127,6 +127,25 @@ impl<R: gimli::Reader> GimliReader<R> {
         let start = self.0.offset_id();
         read(&mut self.0).map_err(|error| error_of(error, start))
     }
+
+    /// Reads a LEB128 number: takes its bytes, at most ten, and decodes them by the proved code. That code reads a long
+    /// number from a copy of its reader, and a copy of this one would be a clone. This one is lent only to functions
+    /// that are inlined, so that the compiler can keep it in registers.
+    #[cfg_attr(not(feature = "small"), inline(always))]
+    fn read_leb128<T>(&mut self, decode: impl Fn(&[u8]) -> Result<T>) -> Result<T> {
+        let first = self.read_u8()?;
+        if first < 128 {
+            return decode(&[first]);
+        }
+        let mut bytes = [first, 0, 0, 0, 0, 0, 0, 0, 0, 0];
+        let mut length = 1;
+        // With `&&` the compiler would unroll this loop, at each of its many places.
+        while (length < bytes.len()) & (bytes[length - 1] >= 128) {
+            bytes[length] = self.read_u8()?;
+            length += 1;
+        }
+        decode_long(decode, &bytes[..length])
+    }
 }
 
 impl<R: gimli::Reader> Reader for GimliReader<R> {
@@ -182,6 +201,32 @@ impl<R: gimli::Reader> Reader for GimliReader<R> {
     fn read_offset(&mut self, format: Format) -> Result<Self::Offset> {
         self.take(|reader| reader.read_offset(format.into())).map(GimliOffset)
     }
+
+    #[cfg_attr(not(feature = "small"), inline(always))]
+    fn read_uleb128(&mut self) -> Result<u64> {
+        self.read_leb128(unsigned)
+    }
+
+    #[cfg_attr(not(feature = "small"), inline(always))]
+    fn read_sleb128(&mut self) -> Result<i64> {
+        self.read_leb128(signed)
+    }
+}
+
+#[cfg_attr(not(feature = "small"), inline(always))]
+fn unsigned(bytes: &[u8]) -> Result<u64> {
+    EndianSlice::new(bytes, LittleEndian).read_uleb128()
+}
+
+#[cfg_attr(not(feature = "small"), inline(always))]
+fn signed(bytes: &[u8]) -> Result<i64> {
+    EndianSlice::new(bytes, LittleEndian).read_sleb128()
+}
+
+// Not inlined, since the decoding of nearly each operand would have it.
+#[inline(never)]
+fn decode_long<T>(decode: impl Fn(&[u8]) -> Result<T>, bytes: &[u8]) -> Result<T> {
+    decode(bytes)
 }
 
 /// A conversion by `From`.

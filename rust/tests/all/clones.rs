@@ -58,6 +58,8 @@ macro_rules! evaluate {
                 RequiresAtLocation(_) => evaluation.resume_with_at_location($reader($called)),
                 RequiresEntryValue(_) => evaluation.resume_with_entry_value($layer::Value::Generic(1)),
                 RequiresBaseType(_) => evaluation.resume_with_base_type($layer::ValueType::Generic),
+                RequiresIndexedAddress { .. } => evaluation.resume_with_indexed_address(1),
+                RequiresWasmLocal { .. } => evaluation.resume_with_wasm_value($layer::Value::Generic(1)),
                 _ => evaluation.resume_with_relocated_address(1),
             };
         }
@@ -89,6 +91,26 @@ fn no_evaluation_clones_a_reader_more_often_than_gimlis() {
         ("bytes", &[0x9e, 2, 1, 2], &[]),
         ("pieces of bytes", &[0x9e, 1, 1, 0x93, 1, 0x9e, 1, 2, 0x93, 1], &[]),
         ("a literal of a type", &[0xa4, 3, 2, 1, 2], &[]),
+        // Numbers of three bytes and more.
+        ("an unsigned number", &[0x10, 0x80, 0x80, 1, 0x9f], &[]),
+        ("an unsigned number of 64 bits", &[0x10, 255, 255, 255, 255, 255, 255, 255, 255, 255, 1, 0x9f], &[]),
+        ("a positive number", &[0x11, 0x80, 0x80, 1, 0x9f], &[]),
+        ("a negative number", &[0x11, 0x80, 0x80, 0x7f, 0x9f], &[]),
+        ("a negative number of ten bytes", &[0x11, 128, 128, 128, 128, 128, 128, 128, 128, 128, 0x7f, 0x9f], &[]),
+        ("a number that is too large", &[0x10, 255, 255, 255, 255, 255, 255, 255, 255, 255, 2], &[]),
+        ("a number that is cut off", &[0x10, 0x80, 0x80, 0x80], &[]),
+        ("far from the frame base", &[0x91, 0x80, 0x80, 0x7f], &[]),
+        ("far from a register", &[0x70, 0x80, 0x80, 1], &[]),
+        ("a register and an offset", &[0x92, 0x80, 0x80, 1, 0x80, 0x80, 0x7f], &[]),
+        ("a register with a high number", &[0x90, 0x80, 0x80, 1], &[]),
+        ("a large piece", &[0x50, 0x93, 0x80, 0x80, 1], &[]),
+        ("large pieces in bits", &[0x50, 0x9d, 0x80, 0x80, 1, 0x80, 0x80, 1, 0x51, 0x9d, 0x80, 0x80, 1, 0], &[]),
+        ("an index of WASM", &[0xed, 0, 0x80, 0x80, 1, 0x9f], &[]),
+        ("an index of an address", &[0xa1, 0x80, 0x80, 1], &[]),
+        ("a padded length of bytes", &[0x9e, 0x82, 0x80, 0, 1, 2], &[]),
+        ("an entry value of a padded length", &[0xa3, 0x81, 0x80, 0, 0x50, 0x9f], &[]),
+        ("a literal of a distant type", &[0xa4, 0x80, 0x80, 1, 2, 1, 2], &[]),
+        ("a call of a number", &[0x98, 5, 0, 0x22], &[0x31, 0x10, 0x80, 0x80, 1]),
     ] {
         let (ours, theirs) = clones_of_both(bytes, called);
         println!("{name}: {ours}, gimli {theirs}");
@@ -96,26 +118,57 @@ fn no_evaluation_clones_a_reader_more_often_than_gimlis() {
     }
 }
 
-/// Only a number of three bytes or more is read from a copy, so that a slice can stay in registers.
+/// The sources read a number of three bytes or more from a copy of the reader, which here would be a clone.
 #[test]
-fn an_operation_is_read_with_a_clone_for_each_long_number() {
+fn no_operation_is_read_with_a_clone() {
+    /// Whether an operation is read from the bytes.
+    fn parse(bytes: &[u8]) -> bool {
+        let mut is_ok = false;
+        let clones = clones_of(|| {
+            is_ok = dwexpr::Operation::parse(&mut GimliReader(counting(bytes)), ENCODING.into()).is_ok();
+        });
+        assert_eq!(clones, 0, "{bytes:x?}");
+        is_ok
+    }
     for opcode in 0..=255 {
-        for (operands, long) in [(&[1; 16], 0), (&[0x80, 1, 1, 1, 1, 1, 1, 1, 1, 1, 1, 1, 1, 1, 1, 1], 0)] {
-            let bytes = [&[opcode][..], operands].concat();
-            let clones = clones_of(|| {
-                let _ = dwexpr::Operation::parse(&mut GimliReader(counting(&bytes)), ENCODING.into());
-            });
-            assert_eq!(clones, long, "{opcode:#x}");
+        // The first number has one byte, two or three. In the last three texts it is too large or cut off.
+        for operands in [
+            &[1; 16][..],
+            &[0x80, 1, 1, 1, 1, 1, 1, 1, 1, 1, 1, 1, 1, 1, 1, 1],
+            &[0x80, 0x80, 1, 1, 1, 1, 1, 1, 1, 1, 1, 1, 1, 1, 1, 1],
+            &[0xff; 16],
+            &[0x80; 3],
+            &[0xff; 9],
+        ] {
+            parse(&[&[opcode][..], operands].concat());
         }
     }
-    // DW_OP_consts, DW_OP_constu and DW_OP_bregx.
-    for (bytes, long) in
-        [(&[0x11, 0x80, 0x80, 1][..], 1), (&[0x10, 0x80, 0x80, 1], 1), (&[0x92, 0x80, 0x80, 1, 0x80, 0x80, 1], 2)]
-    {
-        let clones = clones_of(|| {
-            assert!(dwexpr::Operation::parse(&mut GimliReader(counting(bytes)), ENCODING.into()).is_ok());
-        });
-        assert_eq!(clones, long);
+    for bytes in [
+        // DW_OP_consts, 64 bits too, DW_OP_fbreg and DW_OP_breg0.
+        &[0x11, 0x80, 0x80, 1][..],
+        &[0x11, 0x80, 0x80, 0x7f],
+        &[0x11, 0x80, 0x80, 0x80, 0x80, 0x80, 0x80, 0x80, 0x80, 0x80, 0x7f],
+        &[0x91, 0x80, 0x80, 0x7f],
+        &[0x70, 0x80, 0x80, 1],
+        // DW_OP_constu, 64 bits too, and DW_OP_plus_uconst.
+        &[0x10, 0x80, 0x80, 1],
+        &[0x10, 0xff, 0xff, 0xff, 0xff, 0xff, 0xff, 0xff, 0xff, 0xff, 1],
+        &[0x23, 0x80, 0x80, 1],
+        // DW_OP_bregx, DW_OP_regx, DW_OP_piece and DW_OP_bit_piece.
+        &[0x92, 0x80, 0x80, 1, 0x80, 0x80, 1],
+        &[0x90, 0x80, 0x80, 1],
+        &[0x93, 0x80, 0x80, 1],
+        &[0x9d, 0x80, 0x80, 1, 0x80, 0x80, 1],
+        // DW_OP_addrx, DW_OP_convert, DW_OP_const_type and DW_OP_WASM_location.
+        &[0xa1, 0x80, 0x80, 1],
+        &[0xa8, 0x80, 0x80, 1],
+        &[0xa4, 0x80, 0x80, 1, 1, 5],
+        &[0xed, 0, 0x80, 0x80, 1],
+        // Padded lengths: DW_OP_implicit_value and DW_OP_entry_value.
+        &[0x9e, 0x81, 0x80, 0, 5],
+        &[0xa3, 0x81, 0x80, 0, 0x50],
+    ] {
+        assert!(parse(bytes), "{bytes:x?}");
     }
 }
 

@@ -2,7 +2,9 @@
 
 use super::plain::ERRORS;
 use dwexpr::EvaluationResult::*;
-use dwexpr::{Error, Evaluation, Expression, GimliOffset, GimliReader, Location, Operation, Piece, Value, ValueType};
+use dwexpr::{
+    Error, Evaluation, Expression, GimliOffset, GimliReader, Location, Operation, Piece, ReaderOffset, Value, ValueType,
+};
 use gimli::Reader as _;
 
 pub const ENCODING: gimli::Encoding = gimli::Encoding { address_size: 8, format: gimli::Format::Dwarf32, version: 5 };
@@ -35,7 +37,6 @@ fn an_error_tells_where_gimlis_does() {
 
 #[test]
 fn an_offset_is_gimlis() {
-    use dwexpr::ReaderOffset;
     type Offset = GimliOffset<u32>;
     let highest = u64::from(u32::MAX);
     assert_eq!(Offset::BITS, 32);
@@ -54,6 +55,72 @@ fn a_reader_is_gimlis_too() {
     assert_eq!((reader.slice(), reader[1]), (&[1, 2, 3][..], 2));
     assert_eq!(gimli::Reader::read_u16(&mut { *reader }), Ok(0x0201));
     assert_eq!(reader, GimliReader(little(&[1, 2, 3])));
+}
+
+/// LEB128 numbers of each length up to 11 bytes: small, large, padded, too large and cut off, before other bytes or at
+/// the end.
+fn numbers() -> Vec<Vec<u8>> {
+    let mut texts = vec![Vec::new()];
+    for length in 1..=11 {
+        for (first, middle) in [(0x80, 0x80), (0xff, 0xff), (0x85, 0x80), (0xa9, 0xd3), (0xc0, 0xbf), (0x8a, 0xff)] {
+            for last in 0..=255 {
+                let mut text = vec![middle; length];
+                text[0] = first;
+                text[length - 1] = last;
+                texts.push([&text[..], &[0x05, 0x7f]].concat());
+                texts.push(text);
+            }
+        }
+    }
+    texts
+}
+
+/// What each call for a LEB128 number reads, and how many bytes it leaves. The place in an error counts from `start`.
+fn read_numbers<R: dwexpr::Reader>(reader: &R, start: u64) -> [(dwexpr::Result<i128>, u64); 3] {
+    fn read<R: dwexpr::Reader, T: Into<i128>>(
+        mut reader: R,
+        start: u64,
+        call: fn(&mut R) -> dwexpr::Result<T>,
+    ) -> (dwexpr::Result<i128>, u64) {
+        let number = call(&mut reader).map(Into::into).map_err(|error| match error {
+            Error::UnexpectedEof(id) => Error::UnexpectedEof(dwexpr::ReaderOffsetId(id.0 - start)),
+            _ => error,
+        });
+        (number, reader.len().into_u64())
+    }
+    [
+        read(reader.clone(), start, R::read_uleb128),
+        read(reader.clone(), start, R::read_uleb128_u32),
+        read(reader.clone(), start, R::read_sleb128),
+    ]
+}
+
+/// `GimliReader` takes the bytes of these numbers by itself.
+#[test]
+fn a_number_is_read_as_from_a_slice() {
+    for text in numbers() {
+        let start = little(&text).offset_id().0;
+        let wanted = read_numbers(&dwexpr::EndianSlice::new(&text, dwexpr::LittleEndian), start);
+        assert_eq!(read_numbers(&GimliReader(little(&text)), start), wanted, "{text:x?}");
+        assert_eq!(read_numbers(&GimliReader(Relocating(little(&text))), start), wanted, "{text:x?}");
+        let shared = gimli::EndianArcSlice::new(text.as_slice().into(), gimli::LittleEndian);
+        let start = shared.offset_id().0;
+        assert_eq!(read_numbers(&GimliReader(shared), start), wanted, "{text:x?}");
+    }
+}
+
+#[test]
+fn a_number_is_read_as_gimli_reads_it() {
+    for text in numbers() {
+        let ours = read_numbers(&GimliReader(little(&text)), 0);
+        let [mut unsigned, mut short, mut signed] = [little(&text); 3];
+        let theirs = [
+            (unsigned.read_uleb128().map(i128::from), unsigned.len() as u64),
+            (short.read_uleb128_u32().map(i128::from), short.len() as u64),
+            (signed.read_sleb128().map(i128::from), signed.len() as u64),
+        ];
+        assert_eq!(ours.map(|(number, left)| (number.map_err(gimli::Error::from), left)), theirs, "{text:x?}");
+    }
 }
 
 /// A reader that adds to each address and offset its distance from the end. It is `Clone` but not `Copy`, as gimli's

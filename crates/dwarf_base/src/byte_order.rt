@@ -20,22 +20,14 @@ pub struct LittleEndian;
 #[derive(Clone, Copy, Debug, Default, PartialEq, Eq, Hash)]
 pub struct BigEndian;
 
-/// A byte order that is known when the program runs.
-#[derive(Clone, Copy, Debug, PartialEq, Eq, Hash)]
+/// A byte order that is known when the program runs. The default is `Little`, on every machine.
+#[derive(Clone, Copy, Debug, Default, PartialEq, Eq, Hash)]
 pub enum RunTimeEndian {
     /// The least significant byte of a number comes first.
+    #[default]
     Little,
     /// The most significant byte of a number comes first.
     Big,
-}
-
-impl Default for RunTimeEndian {
-    ghost is_default = { λ order. is_big_of order ≡ false };
-
-    /// `Little`, on every machine.
-    fn default() -> Self {
-        RunTimeEndian::Little
-    }
 }
 
 impl Endianity for LittleEndian {

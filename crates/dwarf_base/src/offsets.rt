@@ -18,12 +18,20 @@ pub trait ReaderOffset: Debug + Copy + Eq {
     const BITS: u32;
 
     /// The same number.
-    fn from_u8(offset: u8) -> Self
-        ensures { number result ≡ offset };
+    #[inline]
+    final fn from_u8(offset: u8) -> Self
+        ensures { number result ≡ offset }
+    {
+        Self::from_u32(u32::from(offset))
+    }
 
     /// The same number.
-    fn from_u16(offset: u16) -> Self
-        ensures { number result ≡ offset };
+    #[inline]
+    final fn from_u16(offset: u16) -> Self
+        ensures { number result ≡ offset }
+    {
+        Self::from_u32(u32::from(offset))
+    }
 
     /// The number modulo 2^`BITS`.
     fn from_i16(offset: i16) -> Self
@@ -55,16 +63,6 @@ impl ReaderOffset for u32 {
     ghost number = { λ x. x };
 
     const BITS: u32 = 32;
-
-    #[inline]
-    fn from_u8(offset: u8) -> Self {
-        u32::from(offset)
-    }
-
-    #[inline]
-    fn from_u16(offset: u16) -> Self {
-        u32::from(offset)
-    }
 
     #[inline]
     fn from_i16(offset: i16) -> Self {
@@ -100,16 +98,6 @@ impl ReaderOffset for u64 {
     const BITS: u32 = 64;
 
     #[inline]
-    fn from_u8(offset: u8) -> Self {
-        u64::from(offset)
-    }
-
-    #[inline]
-    fn from_u16(offset: u16) -> Self {
-        u64::from(offset)
-    }
-
-    #[inline]
     fn from_i16(offset: i16) -> Self {
         i64::from(offset).cast_unsigned()
     }
@@ -141,16 +129,6 @@ impl ReaderOffset for usize {
     ghost number = { λ x. x };
 
     const BITS: u32 = usize::BITS;
-
-    #[inline]
-    fn from_u8(offset: u8) -> Self {
-        usize::from(offset)
-    }
-
-    #[inline]
-    fn from_u16(offset: u16) -> Self {
-        usize::from(offset)
-    }
 
     #[inline]
     fn from_i16(offset: i16) -> Self {

@@ -60,7 +60,7 @@ pub trait Reader {
     /// Reads one byte. `UnexpectedEof` if there is none.
     #[inline]
     #[tactic(auto, using(crate::proofs::FixedNumbers::fixed_one))]
-    fn read_u8(&mut self) -> Result<u8>
+    final fn read_u8(&mut self) -> Result<u8>
         ensures { Reads (λ x. x) (text self.old) (text self.new) result
             (u8_at (text self.old).bytes) }
     {
@@ -70,7 +70,7 @@ pub trait Reader {
 
     /// Reads an unsigned number of 2 bytes. `UnexpectedEof` if there are fewer.
     #[inline]
-    fn read_u16(&mut self) -> Result<u16>
+    final fn read_u16(&mut self) -> Result<u16>
         ensures { Reads (λ x. x) (text self.old) (text self.new) result
             (fixed_at (text self.old).is_big 2 (text self.old).bytes) }
     {
@@ -80,7 +80,7 @@ pub trait Reader {
 
     /// Reads an unsigned number of 4 bytes. `UnexpectedEof` if there are fewer.
     #[inline]
-    fn read_u32(&mut self) -> Result<u32>
+    final fn read_u32(&mut self) -> Result<u32>
         ensures { Reads (λ x. x) (text self.old) (text self.new) result
             (fixed_at (text self.old).is_big 4 (text self.old).bytes) }
     {
@@ -90,7 +90,7 @@ pub trait Reader {
 
     /// Reads an unsigned number of 8 bytes. `UnexpectedEof` if there are fewer.
     #[inline]
-    fn read_u64(&mut self) -> Result<u64>
+    final fn read_u64(&mut self) -> Result<u64>
         ensures { Reads (λ x. x) (text self.old) (text self.new) result
             (fixed_at (text self.old).is_big 8 (text self.old).bytes) }
     {
@@ -99,7 +99,7 @@ pub trait Reader {
 
     /// Reads a signed number of 1 byte, in two's complement. `UnexpectedEof` if there is none.
     #[inline]
-    fn read_i8(&mut self) -> Result<i8>
+    final fn read_i8(&mut self) -> Result<i8>
         ensures { Reads (λ x. x) (text self.old) (text self.new) result
             (signed_at (text self.old).is_big 1 (text self.old).bytes) }
     {
@@ -109,7 +109,7 @@ pub trait Reader {
 
     /// Reads a signed number of 2 bytes, in two's complement. `UnexpectedEof` if there are fewer.
     #[inline]
-    fn read_i16(&mut self) -> Result<i16>
+    final fn read_i16(&mut self) -> Result<i16>
         ensures { Reads (λ x. x) (text self.old) (text self.new) result
             (signed_at (text self.old).is_big 2 (text self.old).bytes) }
     {
@@ -119,7 +119,7 @@ pub trait Reader {
 
     /// Reads a signed number of 4 bytes, in two's complement. `UnexpectedEof` if there are fewer.
     #[inline]
-    fn read_i32(&mut self) -> Result<i32>
+    final fn read_i32(&mut self) -> Result<i32>
         ensures { Reads (λ x. x) (text self.old) (text self.new) result
             (signed_at (text self.old).is_big 4 (text self.old).bytes) }
     {
@@ -129,7 +129,7 @@ pub trait Reader {
 
     /// Reads a signed number of 8 bytes, in two's complement. `UnexpectedEof` if there are fewer.
     #[inline]
-    fn read_i64(&mut self) -> Result<i64>
+    final fn read_i64(&mut self) -> Result<i64>
         ensures { Reads (λ x. x) (text self.old) (text self.new) result
             (signed_at (text self.old).is_big 8 (text self.old).bytes) }
     {
@@ -140,7 +140,7 @@ pub trait Reader {
     /// Reads an address of `size` bytes (DWARF 5, section 7.5.1). If `size` isn't 1, 2, 4 or 8, it reads no byte and
     /// gives `UnsupportedAddressSize`. `UnexpectedEof` if there are fewer bytes.
     #[inline]
-    fn read_address(&mut self, size: u8) -> Result<u64>
+    final fn read_address(&mut self, size: u8) -> Result<u64>
         ensures { Reads (λ x. x) (text self.old) (text self.new) result
             (address_at (text self.old).is_big size (text self.old).bytes) }
     {
@@ -153,7 +153,7 @@ pub trait Reader {
     /// Reads an offset, of 4 bytes in the 32-bit format and 8 in the 64-bit one (DWARF 5, section 7.4).
     /// `UnexpectedEof` if there are fewer bytes, then `UnsupportedOffset` if it doesn't fit.
     #[inline]
-    fn read_offset(&mut self, format: Format) -> Result<Self::Offset>
+    final fn read_offset(&mut self, format: Format) -> Result<Self::Offset>
         ensures { Reads Self.Offset.number (text self.old) (text self.new) result
             (format_at (text self.old).is_big format Self.Offset.BITS (text self.old).bytes) }
     {
@@ -182,7 +182,12 @@ pub trait Reader {
         if second < 128 {
             return Ok(low);
         }
-        rest_of_uleb128_on_copy(self, low)
+        // The rest is read from a copy, so that the compiler can keep the reader itself in registers. This saves 0.05
+        // of gimli's time or more to evaluate libc and libm in Rust.
+        let mut copy = copy_of(self);
+        let number = rest_of_uleb128(&mut copy, low);
+        *self = copy;
+        number
     }
 
     /// Reads an unsigned LEB128 number of 32 bits. It fails as `read_uleb128` does, and with `BadUnsignedLeb128` if the
@@ -216,7 +221,11 @@ pub trait Reader {
             return Ok(i64::from(first % 128) + 128 * last_byte(second));
         }
         let low = u64::from(first % 128) + 128 * u64::from(second % 128);
-        rest_of_sleb128_on_copy(self, low)
+        // From a copy, as in `read_uleb128`.
+        let mut copy = copy_of(self);
+        let number = rest_of_sleb128(&mut copy, low);
+        *self = copy;
+        number
     }
 }
 
@@ -239,21 +248,7 @@ fn last_byte(byte: u8) -> i64
     i64::from((byte + 64) % 128) - 64
 }
 
-// Reads the rest of an unsigned number; `low` is the number in its first two bytes. It reads from a copy, so that the
-// compiler can keep the reader itself in registers. This saves 0.05 of gimli's time or more to evaluate libc and libm
-// in Rust.
-#[inline(always)]
-fn rest_of_uleb128_on_copy<R: Reader + Copy>(reader: &mut R, low: u64) -> Result<u64>
-    requires { low < 128 ^ 2 }
-    ensures { Reads (λ x. x) (R.text reader.old) (R.text reader.new) result
-        (leb_from unsigned_leb 2 low (R.text reader.old).bytes) }
-{
-    let mut copy = copy_of(reader);
-    let number = rest_of_uleb128(&mut copy, low);
-    *reader = copy;
-    number
-}
-
+// Reads the rest of an unsigned number; `low` is the number in its first two bytes.
 #[inline(never)]
 fn rest_of_uleb128<R: Reader>(reader: &mut R, low: u64) -> Result<u64>
     requires { low < 128 ^ 2 }
@@ -277,19 +272,7 @@ fn rest_of_uleb128<R: Reader>(reader: &mut R, low: u64) -> Result<u64>
     }
 }
 
-// Like `rest_of_uleb128_on_copy`, for a signed number.
-#[inline(always)]
-fn rest_of_sleb128_on_copy<R: Reader + Copy>(reader: &mut R, low: u64) -> Result<i64>
-    requires { low < 128 ^ 2 }
-    ensures { Reads (λ x. x) (R.text reader.old) (R.text reader.new) result
-        (leb_from signed_leb 2 low (R.text reader.old).bytes) }
-{
-    let mut copy = copy_of(reader);
-    let number = rest_of_sleb128(&mut copy, low);
-    *reader = copy;
-    number
-}
-
+// Like `rest_of_uleb128`, for a signed number.
 #[inline(never)]
 fn rest_of_sleb128<R: Reader>(reader: &mut R, low: u64) -> Result<i64>
     requires { low < 128 ^ 2 }

@@ -13,7 +13,7 @@ use crate::reading::Reader;
 ///
 /// Two are equal if their bytes and their byte orders are equal. A `skip`, `split` or `read_fixed` that fails leaves
 /// the reader as it was.
-#[derive(Clone, Copy, Debug, PartialEq, Eq, Hash)]
+#[derive(Clone, Copy, Debug, Default, PartialEq, Eq, Hash)]
 pub struct EndianSlice<'input, E> {
     slice: &'input [u8],
     endian: E,
@@ -65,65 +65,6 @@ impl<'input, E: Endianity> EndianSlice<'input, E> {
         };
         self.slice = rest;
         Ok(*front)
-    }
-
-    #[inline]
-    fn read_two(&mut self) -> Result<u16>
-        ensures value { Gives (λ x. x) result self.new.slice.now
-            (fixed_at (E.is_big self.old.endian) 2 self.old.slice.now) }
-        ensures kept { OnErr result (self.new ≡ self.old) }
-        ensures rest { IsSuffix self.new.slice.now self.old.slice.now }
-        ensures order { self.new.endian ≡ self.old.endian }
-    {
-        let bytes = self.take_front()?;
-        Ok(if self.endian.is_big_endian() {
-            u16::from_be_bytes(bytes)
-        } else {
-            u16::from_le_bytes(bytes)
-        })
-    }
-
-    #[inline]
-    fn read_four(&mut self) -> Result<u32>
-        ensures value { Gives (λ x. x) result self.new.slice.now
-            (fixed_at (E.is_big self.old.endian) 4 self.old.slice.now) }
-        ensures kept { OnErr result (self.new ≡ self.old) }
-        ensures rest { IsSuffix self.new.slice.now self.old.slice.now }
-        ensures order { self.new.endian ≡ self.old.endian }
-    {
-        let bytes = self.take_front()?;
-        Ok(if self.endian.is_big_endian() {
-            u32::from_be_bytes(bytes)
-        } else {
-            u32::from_le_bytes(bytes)
-        })
-    }
-
-    #[inline]
-    fn read_eight(&mut self) -> Result<u64>
-        ensures value { Gives (λ x. x) result self.new.slice.now
-            (fixed_at (E.is_big self.old.endian) 8 self.old.slice.now) }
-        ensures kept { OnErr result (self.new ≡ self.old) }
-        ensures rest { IsSuffix self.new.slice.now self.old.slice.now }
-        ensures order { self.new.endian ≡ self.old.endian }
-    {
-        let bytes = self.take_front()?;
-        Ok(if self.endian.is_big_endian() {
-            u64::from_be_bytes(bytes)
-        } else {
-            u64::from_le_bytes(bytes)
-        })
-    }
-}
-
-impl<'input, E: Endianity + Default> Default for EndianSlice<'input, E> {
-    ghost is_default = { λ reader. (slice_bytes reader ≡ []) × E.is_default (slice_order reader) };
-
-    fn default() -> Self {
-        EndianSlice {
-            slice: &[],
-            endian: E::default(),
-        }
     }
 }
 
@@ -189,14 +130,14 @@ impl<'input, E: Endianity> Reader for EndianSlice<'input, E> {
         ensures fits { IfOk result (λ number. number < 256 ^ n) }
         ensures kept { OnErr result (self.new ≡ self.old) }
     {
-        match n {
-            1 => {
-                let [byte] = self.take_front::<1>()?;
-                Ok(u64::from(byte))
-            }
-            2 => Ok(u64::from(self.read_two()?)),
-            4 => Ok(u64::from(self.read_four()?)),
-            _ => self.read_eight(),
+        match (n, self.endian.is_big_endian()) {
+            (1, _) => Ok(u64::from(u8::from_le_bytes(self.take_front()?))),
+            (2, true) => Ok(u64::from(u16::from_be_bytes(self.take_front()?))),
+            (2, false) => Ok(u64::from(u16::from_le_bytes(self.take_front()?))),
+            (4, true) => Ok(u64::from(u32::from_be_bytes(self.take_front()?))),
+            (4, false) => Ok(u64::from(u32::from_le_bytes(self.take_front()?))),
+            (_, true) => Ok(u64::from_be_bytes(self.take_front()?)),
+            (_, false) => Ok(u64::from_le_bytes(self.take_front()?)),
         }
     }
 }

@@ -37,7 +37,7 @@ returns g c = record {
   value =
       let first = c.in_ok-first.ensures.value in
       let second = c.in_ok-second.ensures.value in
-      gives_from c.rest_of_uleb128_on_copy.result (g.Self.Reader.text c.rest_of_uleb128_on_copy.new.reader).bytes _ _ c.rest_of_uleb128_on_copy.ensures.value (second_more unsigned_leb _ _ _ _ _ _ first (omega arith) second (omega arith) (omega arith));
-  rest = suffix_trans _ _ _ c.rest_of_uleb128_on_copy.ensures.rest (suffix_trans _ _ _ c.in_ok-second.ensures.rest c.in_ok-first.ensures.rest);
+      gives_from c.rest_of_uleb128-number.result (g.Self.Reader.text c.rest_of_uleb128-number.new.reader).bytes _ _ (rw c.copy_of-copy.ensures at c.rest_of_uleb128-number.ensures.value) (second_more unsigned_leb _ _ _ _ _ _ first (omega arith) second (omega arith) (omega arith));
+  rest = suffix_trans _ _ _ (rw c.copy_of-copy.ensures at c.rest_of_uleb128-number.ensures.rest) (suffix_trans _ _ _ c.in_ok-second.ensures.rest c.in_ok-first.ensures.rest);
   order = search rules;
 }

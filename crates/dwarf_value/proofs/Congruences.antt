@@ -1,14 +1,17 @@
 -- Integers that differ by a multiple of a number, and their residues.
-use Rattle.std.proofs.Common.{◌≡◌, ℕ, ◌+◌, ◌-◌, ◌*◌, ◌/◌, ◌%◌, ◌^◌, ◌<◌, ◌≤◌, ℤ, pos, negsuc, ◌+ℤ◌, ◌*ℤ◌, neg_ℤ, sym, ap, ◌∙◌, subst, arith}
+use Rattle.std.proofs.Common.{◌≡◌, ℕ, ◌+◌, ◌-◌, ◌*◌, ◌/◌, ◌%◌, ◌^◌, ◌<◌, ◌≤◌, ℤ, pos, negsuc, ◌+ℤ◌, ◌*ℤ◌, neg_ℤ, sym, ap, ◌∙◌, subst, refl, arith}
 use Rattle.std.proofs.lemmas.Int.{ints}
 use Rattle.std.proofs.lemmas.Nat.{pow_pos, mod_below, pow-add, mod-mul-add}
 use borrow.Author.Differences.{up, down, product_is}
 use lib.IntN.{*ℤ_comm}
+use Rattle.std.specs.Prelude.{IsTrue}
 use Rattle.dwarf_base.specs.Numbers.{residue}
+use Rattle.dwarf_base.specs.Reads.{is_fixed_size}
 use Rattle.dwarf_value.specs.declared.types.Value.TheVariants.{Generic}
 use Rattle.dwarf_value.specs.declared.types.ValueType.{ValueType}
 use Rattle.dwarf_value.specs.declared.types.ValueType.TheVariants as kind
 use Rattle.dwarf_value.specs.Values.{value_of, bit_size_of}
+use Rattle.dwarf_value.proofs.MaskBits.{width_of-le, all_bits_mask, all_bits_width}
 
 -- they are equal once multiples of m are added to both
 pub record Congruent (m : ℕ) (a b : ℤ) : Type 0 where
@@ -82,6 +85,14 @@ unfolding bit_size_of
 bit_size_of-le w kind.Generic h = h
 bit_size_of-le w t h = omega arith
 
+-- the sizes in bytes can be read
+pub byte_size-fixed : (t : ValueType) → IsTrue (is_fixed_size (bit_size_of 64 t / 8))
+unfolding bit_size_of
+byte_size-fixed kind.Generic = refl
+byte_size-fixed t = refl
+
+pub ruleset byte_sizes = (byte_size-fixed, bit_size_of-le, all_bits_mask, all_bits_width)
+
 -- the lowest 64 bits of the integer are enough
 pub value_of-low : (g : ℕ) (t : ValueType) (z : ℤ) → g ≤ 64 → value_of g t (pos (residue 64 z)) ≡ value_of g t z
 value_of-low g t z h = same_value g t _ _ (Congruent-lower _ 64 _ _ (bit_size_of-le g t h) (Congruent-residue 64 z))
@@ -94,7 +105,12 @@ residue-mul x y =
     let second : Congruent (2 ^ 64) (x *ℤ pos b) (x *ℤ y) = Congruent-mul_left (2 ^ 64) (pos b) y x (Congruent-residue 64 y) in
     residue-Congruent 64 (pos (a * b)) _ (Congruent-trans _ _ _ _ first second)
 
-pub ruleset low_bits_only = (value_of-low)
+pub ruleset low_bits_only = (value_of-low, width_of-le, all_bits_mask, all_bits_width)
+
+pub value_of-product : (g : ℕ) (t : ValueType) (x y : ℤ) → g ≤ 64 → value_of g t (pos (residue 64 x * residue 64 y % 2 ^ 64)) ≡ value_of g t (x *ℤ y)
+value_of-product g t x y h = ap (λ r. value_of g t (pos r)) (residue-mul x y) ∙ value_of-low g t (x *ℤ y) h
+
+pub ruleset products = (value_of-product, width_of-le)
 
 -- a residue shifted to the left
 residue-shifted : (x : ℤ) (n : ℕ) → residue 64 x * 2 ^ n % 2 ^ 64 ≡ residue 64 (x *ℤ pos (2 ^ n))
@@ -104,4 +120,4 @@ residue-shifted x n =
 pub value_of-shifted : (t : ValueType) (x : ℤ) (n : ℕ) → value_of 64 t (pos (residue 64 x * 2 ^ n % 2 ^ 64)) ≡ value_of 64 t (x *ℤ pos (2 ^ n))
 value_of-shifted t x n = ap (λ r. value_of 64 t (pos r)) (residue-shifted x n) ∙ value_of-low 64 t (x *ℤ pos (2 ^ n)) (omega arith)
 
-pub ruleset left_shifts = (value_of-shifted)
+pub ruleset left_shifts = (value_of-shifted, bit_size_of-le, width_of-le)

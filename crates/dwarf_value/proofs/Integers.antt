@@ -1,5 +1,6 @@
 -- The integers of values, read with a sign and without.
-use Rattle.std.proofs.Common.{◌≡◌, ◌≢◌, ◌⊎◌, inl, inr, ℕ, zero, suc, ◌+◌, ◌-◌, ◌*◌, ◌/◌, ◌%◌, ◌^◌, ◌<◌, ◌≤◌, min, ℤ, pos, negsuc, neg_ℤ, ◌-ℤ◌, ◌≤ℤ◌, ◌<ℤ◌, Bool, true, false, if◌then◌else◌, refl, sym, ap, ◌∙◌, add-one, arith, nat_lt, pow_mono}
+use Rattle.std.proofs.Common.{◌≡◌, ◌≢◌, ◌⊎◌, inl, inr, ℕ, zero, suc, ◌+◌, ◌-◌, ◌*◌, ◌/◌, ◌%◌, ◌^◌, ◌<◌, ◌≤◌, min, ℤ, pos, negsuc, neg_ℤ, ◌-ℤ◌, ◌≤ℤ◌, ◌<ℤ◌, Bool, true, false, if◌then◌else◌, sym, ap, ◌∙◌, add-one, arith, nat_lt, pow_mono, to_z}
+use Rattle.std.specs.Int.{w64}
 use Rattle.std.specs.Ordering.{int_eq}
 use Rattle.std.proofs.lemmas.Int.{ints}
 use Rattle.std.proofs.lemmas.Nat.{pow_pos, mod_below, pow-add}
@@ -68,18 +69,14 @@ halves (suc w) h =
 halves zero h = absurd (omega arith)
 
 module _ (w mask n : ℕ) (some_bit : 0 < w) (within : w ≤ 64) (ones : mask ≡ 2 ^ w - 1) (fits : n < 2 ^ w) where
-  pub extended_negative : mask / 2 < n → word_integer true 64 (n + (18446744073709551615 - mask)) ≡ word_integer true w n
+  pub extended_negative : mask / 2 < n → to_z w64 (n + (18446744073709551615 - mask)) ≡ word_integer true w n
   unfolding word_integer
   extended_negative h =
       let e = halves w some_bit in let m : 2 ^ w ≤ 2 ^ 64 = pow_mono {i = w} {j = 64} within in let p = pow_pos w in
       grind (arith, ints, nat_tests)
 
-  pub extended : n ≤ mask / 2 → word_integer true 64 n ≡ word_integer true w n
+  pub extended : n ≤ mask / 2 → to_z w64 (n + 0) ≡ word_integer true w n
   unfolding word_integer
   extended h =
       let e = halves w some_bit in let m : 2 ^ w ≤ 2 ^ 64 = pow_mono {i = w} {j = 64} within in let p = pow_pos w in
       grind (arith, ints, nat_tests)
-
-pub without_sign : (j k n : ℕ) → word_integer false j n ≡ word_integer false k n
-unfolding word_integer
-without_sign j k n = refl

@@ -68,7 +68,3 @@ all_bits_mask = address_mask 64 (omega arith)
 
 pub all_bits_width : width_of 18446744073709551615 ≡ 64
 all_bits_width = width_of-low 64
-
-pub ruleset all_bits = (all_bits_mask, all_bits_width)
-
-pub ruleset width_within_64 = (width_of-le)

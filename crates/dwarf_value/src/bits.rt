@@ -1,21 +1,22 @@
 ghost use Rattle.std.specs.Prelude.{◌≡◌};
 ghost use Rattle.dwarf_value.specs.Values.{IsAddressMask, width_of, unary_of, binary_of, Not, Xor, And, Or};
 
+use crate::parts::low_bits;
 use crate::types::Value;
-use crate::word::low_bits;
 use dwarf_base::Result;
 
 impl Value {
     /// The bitwise complement (`DW_OP_not`). It never fails.
     ///
     /// `addr_mask` has a one for each bit of an address; [`is_addr_mask`](crate::is_addr_mask) checks that.
+    #[tactic(auto, using(crate::proofs::Congruences::low_bits_only))]
     #[inline(always)]
     pub fn not(self, addr_mask: u64) -> Result<Value>
         requires { IsAddressMask addr_mask }
         ensures { result ≡ unary_of Not (width_of addr_mask) self }
     {
-        let (value_type, word) = self.parts(addr_mask, false);
-        Ok(Value::wrapped_to_64(value_type, -word.integer() - 1))
+        let (value_type, integer) = self.parts(addr_mask, false);
+        Value::from_u64(value_type, low_bits(-integer - 1))
     }
 
     /// The bitwise and (`DW_OP_and`). `TypeMismatch` if the types differ.

@@ -2,24 +2,26 @@ ghost use Rattle.std.specs.Prelude.{◌≡◌, Ok};
 ghost use Rattle.dwarf_base.specs.Faults.{Returns};
 ghost use Rattle.dwarf_value.specs.Values.{IsAddressMask, width_of, parse_of, to_u64_of, from_u64_of, convert_of, reinterpret_of};
 
+use crate::parts::low_bits;
 use crate::types::{Value, ValueType};
-use crate::word::{Word, low_bits, same_type};
 use dwarf_base::{Error, Reader, Result};
 
 impl Value {
     /// Reads a value of the type from the first bytes, in their byte order. Further bytes are ignored.
     ///
     /// `UnsupportedTypeOperation` for the generic type; else `UnexpectedEof` if there are too few bytes.
+    #[tactic(auto, unfolding(crate::specs::Values::is_same), using(crate::proofs::Congruences::byte_sizes))]
     #[inline(always)]
     pub fn parse<R: Reader + Copy>(value_type: ValueType, bytes: R) -> Result<Value>
         ensures { Returns (λ value. value) result
             (parse_of value_type (R.text bytes).is_big (R.text bytes).bytes) }
     {
-        if same_type(value_type, ValueType::Generic) {
+        if value_type == ValueType::Generic {
             return Err(Error::UnsupportedTypeOperation);
         }
         let mut rest = bytes;
-        let number = rest.read_fixed(value_type.byte_size())?;
+        let byte_size = value_type.bit_size(u64::MAX) / 8;
+        let number = rest.read_fixed(byte_size as u8)?;
         Value::from_u64(value_type, number)
     }
 
@@ -32,17 +34,17 @@ impl Value {
         requires { IsAddressMask addr_mask }
         ensures { result ≡ Ok (to_u64_of (width_of addr_mask) self) }
     {
-        let (_, word) = self.parts(addr_mask, false);
-        Ok(low_bits(word.integer()))
+        let (_, integer) = self.parts(addr_mask, false);
+        Ok(low_bits(integer))
     }
 
     /// The number as a value of the type, wrapped to its size. It never fails.
-    #[tactic(auto, using(crate::proofs::MaskBits::all_bits))]
+    #[tactic(auto, using(crate::proofs::Congruences::low_bits_only))]
     #[inline(always)]
     pub fn from_u64(value_type: ValueType, value: u64) -> Result<Value>
         ensures { result ≡ Ok (from_u64_of value_type value) }
     {
-        Ok(Value::make(value_type, Word::new(value, 64, false), u64::MAX))
+        Ok(Value::make(value_type, value, u64::MAX))
     }
 
     /// Converts the value to another type, through `to_u64` and `from_u64` (`DW_OP_convert`). It never fails.
@@ -62,7 +64,7 @@ impl Value {
     /// A generic value that stays generic keeps all 64 bits.
     ///
     /// `addr_mask` has a one for each bit of an address; [`is_addr_mask`](crate::is_addr_mask) checks that.
-    #[tactic(auto, using(crate::proofs::MaskBits::all_bits))]
+    #[tactic(auto, using(crate::proofs::Congruences::low_bits_only))]
     #[inline(always)]
     pub fn reinterpret(self, value_type: ValueType, addr_mask: u64) -> Result<Value>
         requires { IsAddressMask addr_mask }
@@ -71,7 +73,6 @@ impl Value {
         if self.value_type().bit_size(addr_mask) != value_type.bit_size(addr_mask) {
             return Err(Error::TypeMismatch);
         }
-        let (_, word) = self.parts(u64::MAX, false);
-        Value::from_u64(value_type, low_bits(word.integer()))
+        self.convert(value_type, u64::MAX)
     }
 }

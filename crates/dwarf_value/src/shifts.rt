@@ -4,8 +4,8 @@ ghost use Rattle.std.specs.Prelude.{◌≡◌, ◌^◌, pos, neg_ℤ, ◌≤ℤ�
 ghost use Rattle.dwarf_value.specs.inner.OperandPairs.{IsLength, UnfitLength};
 ghost use Rattle.dwarf_value.specs.Values.{IsAddressMask, width_of, floor_quotient, binary_of, Shl, Shr, Shra};
 
+use crate::parts::low_bits;
 use crate::types::Value;
-use crate::word::low_bits;
 use dwarf_base::{Error, Result};
 
 impl Value {
@@ -20,11 +20,11 @@ impl Value {
         ensures { result ≡ binary_of Shl (width_of addr_mask) self rhs }
     {
         let length = rhs.shift_length(addr_mask)?;
-        let (value_type, word) = self.parts(addr_mask, false);
-        if length >= u64::from(word.width) {
+        let (value_type, integer) = self.parts(addr_mask, false);
+        if length >= u64::from(value_type.bit_size(addr_mask)) {
             return Value::from_u64(value_type, 0);
         }
-        Value::from_u64(value_type, low_bits(word.integer()) << length)
+        Value::from_u64(value_type, low_bits(integer) << length)
     }
 
     /// Shifts to the right by a length of any type, and fills with zeros (`DW_OP_shr`). A generic value is an unsigned
@@ -33,17 +33,18 @@ impl Value {
     /// `InvalidShiftExpression` if the length is negative; else `UnsupportedTypeOperation` for a signed type.
     ///
     /// `addr_mask` has a one for each bit of an address; [`is_addr_mask`](crate::is_addr_mask) checks that.
+    #[tactic(auto, using(crate::proofs::Congruences::low_bits_only))]
     #[inline(always)]
     pub fn shr(self, rhs: Value, addr_mask: u64) -> Result<Value>
         requires { IsAddressMask addr_mask }
         ensures { result ≡ binary_of Shr (width_of addr_mask) self rhs }
     {
         let length = rhs.shift_length(addr_mask)?;
-        let (value_type, word) = self.parts(addr_mask, false);
-        if word.signed {
+        let (value_type, integer) = self.parts(addr_mask, false);
+        if value_type.is_signed(false) {
             return Err(Error::UnsupportedTypeOperation);
         }
-        Ok(Value::wrapped_to_64(value_type, shifted_right(word.integer(), length)))
+        Value::from_u64(value_type, low_bits(shifted_right(integer, length)))
     }
 
     /// Shifts to the right by a length of any type, and fills with copies of the sign (`DW_OP_shra`). A generic value
@@ -52,17 +53,18 @@ impl Value {
     /// `InvalidShiftExpression` if the length is negative; else `UnsupportedTypeOperation` for an unsigned type.
     ///
     /// `addr_mask` has a one for each bit of an address; [`is_addr_mask`](crate::is_addr_mask) checks that.
+    #[tactic(auto, using(crate::proofs::Congruences::low_bits_only))]
     #[inline(always)]
     pub fn shra(self, rhs: Value, addr_mask: u64) -> Result<Value>
         requires { IsAddressMask addr_mask }
         ensures { result ≡ binary_of Shra (width_of addr_mask) self rhs }
     {
         let length = rhs.shift_length(addr_mask)?;
-        let (value_type, word) = self.parts(addr_mask, true);
-        if !word.signed {
+        let (value_type, integer) = self.parts(addr_mask, true);
+        if !value_type.is_signed(true) {
             return Err(Error::UnsupportedTypeOperation);
         }
-        Ok(Value::wrapped_to_64(value_type, shifted_right(word.integer(), length)))
+        Value::from_u64(value_type, low_bits(shifted_right(integer, length)))
     }
 
     /// The length of a shift by this value. `InvalidShiftExpression` if it is negative.
@@ -72,8 +74,7 @@ impl Value {
         ensures { MatchResult result (IsLength (width_of addr_mask) self)
             (UnfitLength (width_of addr_mask) self) }
     {
-        let (_, word) = self.parts(addr_mask, false);
-        let length = word.integer();
+        let (_, length) = self.parts(addr_mask, false);
         if length < 0 {
             return Err(Error::InvalidShiftExpression);
         }

@@ -1,10 +1,8 @@
 //! Values, and their types.
 
-ghost use Rattle.std.specs.Prelude.{◌≡◌, ◌/◌, IsTrue};
-ghost use Rattle.dwarf_base.specs.Reads.{is_fixed_size};
-ghost use Rattle.dwarf_value.specs.Values.{IsAddressMask, width_of, type_of, bit_size_of, from_encoding_of};
+ghost use Rattle.std.specs.Prelude.{◌≡◌};
+ghost use Rattle.dwarf_value.specs.Values.{IsAddressMask, width_of, type_of, bit_size_of, is_signed, from_encoding_of};
 
-use crate::masks::mask_width;
 use dwarf_base::DwAte;
 use dwarf_base::constants::{DW_ATE_signed, DW_ATE_unsigned};
 
@@ -71,14 +69,14 @@ impl ValueType {
     /// The size of the type's values in bits.
     ///
     /// `addr_mask` has a one for each bit of an address; [`is_addr_mask`](crate::is_addr_mask) checks that.
-    #[tactic(auto, unfolding(crate::specs::Values::bit_size_of))]
+    #[tactic(auto, unfolding(crate::specs::Values::bit_size_of, crate::specs::Values::width_of))]
     #[inline(always)]
     pub fn bit_size(self, addr_mask: u64) -> u32
         requires { IsAddressMask addr_mask }
         ensures { result ≡ bit_size_of (width_of addr_mask) self }
     {
         match self {
-            ValueType::Generic => mask_width(addr_mask),
+            ValueType::Generic => addr_mask.count_ones(),
             ValueType::I8 | ValueType::U8 => 8,
             ValueType::I16 | ValueType::U16 => 16,
             ValueType::I32 | ValueType::U32 => 32,
@@ -86,14 +84,17 @@ impl ValueType {
         }
     }
 
-    /// The size of the type's values in bytes, with addresses of 8 bytes.
-    #[tactic(auto, unfolding(crate::specs::Values::bit_size_of), using(crate::proofs::MaskBits::all_bits))]
+    /// Whether the type is signed; the generic type is if `generic` says so.
+    #[tactic(auto, unfolding(crate::specs::Values::is_signed))]
     #[inline(always)]
-    pub(crate) fn byte_size(self) -> u8
-        ensures size { result ≡ bit_size_of 64 self / 8 }
-        ensures fixed { IsTrue (is_fixed_size result) }
+    pub(crate) fn is_signed(self, generic: bool) -> bool
+        ensures { result ≡ is_signed generic self }
     {
-        (self.bit_size(u64::MAX) / 8) as u8
+        match self {
+            ValueType::Generic => generic,
+            ValueType::I8 | ValueType::I16 | ValueType::I32 | ValueType::I64 => true,
+            ValueType::U8 | ValueType::U16 | ValueType::U32 | ValueType::U64 => false,
+        }
     }
 
     /// The type of values for a base type with this encoding and this size in bytes (DWARF 5, sections 5.1 and 7.8).
@@ -117,12 +118,11 @@ impl ValueType {
 
 impl Value {
     /// The value's type.
-    #[tactic(auto, using(crate::proofs::MaskBits::all_bits))]
+    #[tactic(auto, using(crate::proofs::Congruences::low_bits_only))]
     #[inline(always)]
     pub fn value_type(&self) -> ValueType
         ensures { result ≡ type_of self.now }
     {
-        let (value_type, _) = self.parts(u64::MAX, false);
-        value_type
+        self.parts(u64::MAX, false).0
     }
 }

@@ -8,15 +8,14 @@ ghost use Rattle.dwarf_op.specs.inner.Entries.{FollowsOn, operand_of, operands_i
 ghost use Rattle.dwarf_op.specs.Views.{operation_of};
 
 use crate::operands::Shape::{
-    self, Absent, Address, I8, I16, I32, I64, Offset, PieceSize, Reference, RegisterNumber,
-    SectionOffset, Sleb128, U8, U16, U32, U64, Uleb128, WasmIndex,
+    self, Absent, Address, AddressSize, I8, I16, I32, I64, Offset, PieceSize, Reference,
+    RegisterNumber, SectionOffset, Sleb128, U8, U16, U32, U64, Uleb128, WasmPlace,
 };
-use crate::operands::{Operand, WasmPlace, read_operand};
+use crate::operands::{Operand, read_operand};
 use crate::operations::{DieReference, Operation};
 use dwarf_base::constants::*;
 use dwarf_base::{
-    DebugAddrIndex, DebugInfoOffset, DwOp, Encoding, Error, Reader, ReaderOffset, Register, Result,
-    UnitOffset,
+    DebugAddrIndex, DebugInfoOffset, DwOp, Encoding, Error, Reader, Register, Result, UnitOffset,
 };
 
 // The first and last opcode of each range.
@@ -67,11 +66,7 @@ fn read_row<R: Reader + Copy>(opcode: u8, bytes: &mut R, encoding: Encoding) -> 
 {
     match DwOp(opcode) {
         DW_OP_addr => one(Address, Maker::Address, bytes, encoding),
-        DW_OP_deref => Ok(Operation::Deref {
-            size: encoding.address_size,
-            base_type: generic_type(),
-            space: false,
-        }),
+        DW_OP_deref => one(AddressSize, Maker::Deref { space: false }, bytes, encoding),
         DW_OP_const1u => one(U8, Maker::UnsignedConstant, bytes, encoding),
         DW_OP_const1s => one(I8, Maker::SignedConstant, bytes, encoding),
         DW_OP_const2u => one(U16, Maker::UnsignedConstant, bytes, encoding),
@@ -88,11 +83,7 @@ fn read_row<R: Reader + Copy>(opcode: u8, bytes: &mut R, encoding: Encoding) -> 
         DW_OP_pick => one(U8, Maker::Pick, bytes, encoding),
         DW_OP_swap => Ok(Operation::Swap),
         DW_OP_rot => Ok(Operation::Rot),
-        DW_OP_xderef => Ok(Operation::Deref {
-            size: encoding.address_size,
-            base_type: generic_type(),
-            space: true,
-        }),
+        DW_OP_xderef => one(AddressSize, Maker::Deref { space: true }, bytes, encoding),
         DW_OP_abs => Ok(Operation::Abs),
         DW_OP_and => Ok(Operation::And),
         DW_OP_div => Ok(Operation::Div),
@@ -131,7 +122,7 @@ fn read_row<R: Reader + Copy>(opcode: u8, bytes: &mut R, encoding: Encoding) -> 
         DW_OP_regx => one(RegisterNumber, Maker::Register, bytes, encoding),
         DW_OP_fbreg => one(Sleb128, Maker::FrameOffset, bytes, encoding),
         DW_OP_bregx => second(
-            read_operand(RegisterNumber, Operand::none(), bytes, encoding),
+            read_operand(RegisterNumber, bytes, encoding),
             Sleb128,
             Maker::RegisterOffset,
             bytes,
@@ -148,14 +139,14 @@ fn read_row<R: Reader + Copy>(opcode: u8, bytes: &mut R, encoding: Encoding) -> 
         DW_OP_form_tls_address | DW_OP_GNU_push_tls_address => Ok(Operation::TLS),
         DW_OP_call_frame_cfa => Ok(Operation::CallFrameCFA),
         DW_OP_bit_piece => second(
-            read_operand(Uleb128, Operand::none(), bytes, encoding),
+            read_operand(Uleb128, bytes, encoding),
             Uleb128,
             Maker::BitPiece,
             bytes,
             encoding,
         ),
         DW_OP_implicit_value => block(
-            read_operand(Absent, Operand::none(), bytes, encoding),
+            read_operand(Absent, bytes, encoding),
             Offset,
             BlockMaker::ImplicitValue,
             bytes,
@@ -163,7 +154,7 @@ fn read_row<R: Reader + Copy>(opcode: u8, bytes: &mut R, encoding: Encoding) -> 
         ),
         DW_OP_stack_value => Ok(Operation::StackValue),
         DW_OP_implicit_pointer | DW_OP_GNU_implicit_pointer => second(
-            read_operand(Reference, Operand::none(), bytes, encoding),
+            read_operand(Reference, bytes, encoding),
             Sleb128,
             Maker::ImplicitPointer,
             bytes,
@@ -172,35 +163,35 @@ fn read_row<R: Reader + Copy>(opcode: u8, bytes: &mut R, encoding: Encoding) -> 
         DW_OP_addrx | DW_OP_GNU_addr_index => one(Offset, Maker::AddressIndex, bytes, encoding),
         DW_OP_constx | DW_OP_GNU_const_index => one(Offset, Maker::ConstantIndex, bytes, encoding),
         DW_OP_entry_value | DW_OP_GNU_entry_value => block(
-            read_operand(Absent, Operand::none(), bytes, encoding),
+            read_operand(Absent, bytes, encoding),
             Offset,
             BlockMaker::EntryValue,
             bytes,
             encoding,
         ),
         DW_OP_const_type | DW_OP_GNU_const_type => block(
-            read_operand(Offset, Operand::none(), bytes, encoding),
+            read_operand(Offset, bytes, encoding),
             U8,
             BlockMaker::TypedLiteral,
             bytes,
             encoding,
         ),
         DW_OP_regval_type | DW_OP_GNU_regval_type => second(
-            read_operand(RegisterNumber, Operand::none(), bytes, encoding),
+            read_operand(RegisterNumber, bytes, encoding),
             Offset,
-            Maker::TypedRegister,
+            Maker::RegisterOffset,
             bytes,
             encoding,
         ),
         DW_OP_deref_type | DW_OP_GNU_deref_type => second(
-            read_operand(U8, Operand::none(), bytes, encoding),
+            read_operand(U8, bytes, encoding),
             Offset,
             Maker::Deref { space: false },
             bytes,
             encoding,
         ),
         DW_OP_xderef_type => second(
-            read_operand(U8, Operand::none(), bytes, encoding),
+            read_operand(U8, bytes, encoding),
             Offset,
             Maker::Deref { space: true },
             bytes,
@@ -213,13 +204,7 @@ fn read_row<R: Reader + Copy>(opcode: u8, bytes: &mut R, encoding: Encoding) -> 
             bytes,
             encoding,
         ),
-        DW_OP_WASM_location => second(
-            read_operand(U8, Operand::none(), bytes, encoding),
-            WasmIndex,
-            Maker::Wasm,
-            bytes,
-            encoding,
-        ),
+        DW_OP_WASM_location => one(WasmPlace, Maker::Wasm, bytes, encoding),
         DW_OP_GNU_uninit => Ok(Operation::Uninitialized),
         DW_OP_GNU_parameter_ref => one(U32, Maker::ParameterRef, bytes, encoding),
         DW_OP_GNU_variable_value => one(SectionOffset, Maker::VariableValue, bytes, encoding),
@@ -240,7 +225,7 @@ fn one<R: Reader + Copy>(
         (R.text bytes.old) (R.text bytes.new) result
         (operands_in R.Offset.BITS (R.text bytes.old) (row_of_one encoding shape maker)) }
 {
-    let operand = read_operand(shape, Operand::none(), bytes, encoding)?;
+    let operand = read_operand(shape, bytes, encoding)?;
     Ok(make(maker, operand, Operand::none()))
 }
 
@@ -258,7 +243,7 @@ fn second<R: Reader + Copy>(
         (R.text bytes.old) (R.text bytes.new) first result (row_of_second encoding shape maker) }
 {
     let first = first?;
-    let second = read_operand(shape, first, bytes, encoding)?;
+    let second = read_operand(shape, bytes, encoding)?;
     Ok(make(maker, first, second))
 }
 
@@ -277,7 +262,7 @@ fn block<R: Reader + Copy>(
         (R.text bytes.old) (R.text bytes.new) before result (row_of_block encoding size maker) }
 {
     let before = before?;
-    let size = read_operand(size, before, bytes, encoding)?;
+    let size = read_operand(size, bytes, encoding)?;
     let block = bytes.split(size.offset)?;
     Ok(match maker {
         BlockMaker::ImplicitValue => Operation::ImplicitValue { bytes: block },
@@ -303,8 +288,6 @@ enum Maker {
     /// `RegisterOffset` of the register with this number.
     BaseRegister(u8),
     RegisterOffset,
-    /// `RegisterOffset` of a base type.
-    TypedRegister,
     FrameOffset,
     /// `Call` of an entry in the unit.
     UnitCall,
@@ -332,15 +315,7 @@ enum BlockMaker {
     TypedLiteral,
 }
 
-/// The generic type: the base type at offset 0.
-#[inline(always)]
-fn generic_type<O: ReaderOffset>() -> UnitOffset<O>
-    ensures { O.number result.0 ≡ 0 }
-{
-    UnitOffset(O::from_u8(0))
-}
-
-/// Makes the operation from one or two operands.
+/// Makes the operation from one or two operands. The base type 0 is the generic type.
 #[inline(always)]
 fn make<R: Reader>(
     maker: Maker,
@@ -378,16 +353,11 @@ fn make<R: Reader>(
         Maker::RegisterOffset => Operation::RegisterOffset {
             register: first.register,
             offset: second.signed,
-            base_type: generic_type(),
+            base_type: UnitOffset(second.offset),
         },
         Maker::BaseRegister(register) => Operation::RegisterOffset {
             register: Register(u16::from(register)),
             offset: first.signed,
-            base_type: generic_type(),
-        },
-        Maker::TypedRegister => Operation::RegisterOffset {
-            register: first.register,
-            offset: 0,
             base_type: UnitOffset(second.offset),
         },
         Maker::FrameOffset => Operation::FrameOffset {
@@ -429,17 +399,14 @@ fn make<R: Reader>(
         Maker::Reinterpret => Operation::Reinterpret {
             base_type: UnitOffset(first.offset),
         },
-        Maker::Wasm => match second.place {
-            WasmPlace::Local => Operation::WasmLocal {
-                index: second.index,
-            },
-            WasmPlace::Global => Operation::WasmGlobal {
-                index: second.index,
-            },
-            WasmPlace::Stack => Operation::WasmStack {
-                index: second.index,
-            },
-        },
+        Maker::Wasm => {
+            let index = first.index;
+            match first.byte {
+                0 => Operation::WasmLocal { index },
+                2 => Operation::WasmStack { index },
+                _ => Operation::WasmGlobal { index },
+            }
+        }
         Maker::VariableValue => Operation::VariableValue {
             offset: DebugInfoOffset(first.offset),
         },

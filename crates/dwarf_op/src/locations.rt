@@ -6,9 +6,10 @@ use dwarf_base::{DebugInfoOffset, Reader, Register};
 use dwarf_value::Value;
 
 /// Where a piece of a variable is, or what it contains (DWARF 5, section 2.6.1).
-#[derive(Clone, Copy, Debug, PartialEq, Eq)]
+#[derive(Clone, Copy, Debug, Default, PartialEq, Eq)]
 pub enum Location<R: Reader, O = <R as Reader>::Offset> {
     /// Nowhere: the piece was optimized away. `DW_OP_piece` gives it on an empty stack.
+    #[default]
     Empty,
     /// In a register: `DW_OP_reg0` to `DW_OP_reg31`, `DW_OP_regx`.
     Register {
@@ -50,14 +51,6 @@ pub struct Piece<R: Reader, O = <R as Reader>::Offset> {
     pub bit_offset: Option<u64>,
     /// Where it is, or what it contains.
     pub location: Location<R, O>,
-}
-
-impl<R: Reader, O> Default for Location<R, O> {
-    fn default() -> Self
-        ensures { result ≡ Location.Empty }
-    {
-        Location::Empty
-    }
 }
 
 impl<R: Reader, O> Default for Piece<R, O> {

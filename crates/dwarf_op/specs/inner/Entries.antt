@@ -1,5 +1,5 @@
 -- The rows of the table of opcodes, as the decoder's shapes and makers give them.
-use Rattle.std.specs.Prelude.{ℕ, ◌≡◌, ◌*◌, pos, List, [], ◌∷◌, Some, None, Result, Ok, Err}
+use Rattle.std.specs.Prelude.{ℕ, ◌≡◌, ◌*◌, ◌==◌, pos, List, [], ◌∷◌, Some, None, Result, Ok, Err, if◌then◌else◌}
 use Rattle.dwarf_base.specs.declared.errors.Error.{Error}
 use Rattle.dwarf_base.specs.Faults.{Fault, fault_of}
 use Rattle.dwarf_base.specs.declared.common.Encoding.{Encoding}
@@ -11,8 +11,6 @@ use Rattle.dwarf_meaning.specs.Opcodes.{Row, Makes, Unsigned, Signed, Block, Inv
 use Rattle.dwarf_op.specs.declared.operands.Operand.{Operand}
 use Rattle.dwarf_op.specs.declared.operands.Shape.{Shape}
 use Rattle.dwarf_op.specs.declared.operands.Shape.TheVariants as shape
-use Rattle.dwarf_op.specs.declared.operands.WasmPlace.{WasmPlace}
-use Rattle.dwarf_op.specs.declared.operands.WasmPlace.TheVariants as place
 use Rattle.dwarf_op.specs.declared.decoding.Maker.{Maker}
 use Rattle.dwarf_op.specs.declared.decoding.Maker.TheVariants as maker
 use Rattle.dwarf_op.specs.declared.decoding.BlockMaker.{BlockMaker}
@@ -29,7 +27,6 @@ operand_of number operand = record {
   signed = operand.signed;
   register = operand.register;
   offset = number operand.offset;
-  place = operand.place;
   index = operand.index;
 }
 
@@ -42,47 +39,47 @@ no_operand = record {
   signed = pos 0;
   register = record { 0 = 0 };
   offset = 0;
-  place = place.Local;
   index = 0;
 }
 
--- the row of a WebAssembly index of this kind, and then of `next`
+-- the row of the index of a WebAssembly value of this kind, and then of `next`
 abbrev pub wasm_index_row : (kind : ℕ) → (Operand ℕ → Row) → Row
 wasm_index_row kind next =
     row_among (Invalid 0xed) kind
-    (one 0 (Unsigned (Leb128, U32) (λ n. next (record no_operand { place = place.Local; index = n })))
-    ∷ one 1 (Unsigned (Leb128, U32) (λ n. next (record no_operand { place = place.Global; index = n })))
-    ∷ one 2 (Unsigned (Leb128, U32) (λ n. next (record no_operand { place = place.Stack; index = n })))
-    ∷ one 3 (Unsigned (Bytes 4, Any) (λ n. next (record no_operand { place = place.Global; index = n }))) ∷ [])
+    (one 0 (Unsigned (Leb128, U32) (λ n. next (record no_operand { byte = 0; index = n })))
+    ∷ one 1 (Unsigned (Leb128, U32) (λ n. next (record no_operand { byte = 1; index = n })))
+    ∷ one 2 (Unsigned (Leb128, U32) (λ n. next (record no_operand { byte = 2; index = n })))
+    ∷ one 3 (Unsigned (Bytes 4, Any) (λ n. next (record no_operand { byte = 3; index = n }))) ∷ [])
 
--- the row of an operand in its shape, and then of `next`; `before` is the operand before it
-abbrev pub shape_row : Encoding → Shape → (before : Operand ℕ) → (Operand ℕ → Row) → Row
-shape_row encoding shape.Absent before next = next no_operand
-shape_row encoding shape.U8 before next =
+-- the row of an operand in its shape, and then of `next`
+abbrev pub shape_row : Encoding → Shape → (Operand ℕ → Row) → Row
+shape_row encoding shape.Absent next = next no_operand
+shape_row encoding shape.AddressSize next = next (record no_operand { byte = encoding.address_size })
+shape_row encoding shape.U8 next =
     Unsigned (Bytes 1, Any) (λ n. next (record no_operand { byte = n; unsigned = n; offset = n }))
-shape_row encoding shape.U16 before next =
+shape_row encoding shape.U16 next =
     Unsigned (Bytes 2, Any) (λ n. next (record no_operand { unsigned = n; offset = n }))
-shape_row encoding shape.U32 before next =
+shape_row encoding shape.U32 next =
     Unsigned (Bytes 4, Any) (λ n. next (record no_operand { unsigned = n; offset = n }))
-shape_row encoding shape.U64 before next = Unsigned (Bytes 8, Any) (λ n. next (record no_operand { unsigned = n }))
-shape_row encoding shape.I8 before next = Signed (Bytes 1) (λ n. next (record no_operand { signed = n }))
-shape_row encoding shape.I16 before next = Signed (Bytes 2) (λ n. next (record no_operand { short = n; signed = n }))
-shape_row encoding shape.I32 before next = Signed (Bytes 4) (λ n. next (record no_operand { signed = n }))
-shape_row encoding shape.I64 before next = Signed (Bytes 8) (λ n. next (record no_operand { signed = n }))
-shape_row encoding shape.Uleb128 before next = Unsigned (Leb128, Any) (λ n. next (record no_operand { unsigned = n }))
-shape_row encoding shape.Sleb128 before next = Signed Leb128 (λ n. next (record no_operand { signed = n }))
-shape_row encoding shape.Offset before next = Unsigned (Leb128, Offset) (λ n. next (record no_operand { offset = n }))
-shape_row encoding shape.RegisterNumber before next =
+shape_row encoding shape.U64 next = Unsigned (Bytes 8, Any) (λ n. next (record no_operand { unsigned = n }))
+shape_row encoding shape.I8 next = Signed (Bytes 1) (λ n. next (record no_operand { signed = n }))
+shape_row encoding shape.I16 next = Signed (Bytes 2) (λ n. next (record no_operand { short = n; signed = n }))
+shape_row encoding shape.I32 next = Signed (Bytes 4) (λ n. next (record no_operand { signed = n }))
+shape_row encoding shape.I64 next = Signed (Bytes 8) (λ n. next (record no_operand { signed = n }))
+shape_row encoding shape.Uleb128 next = Unsigned (Leb128, Any) (λ n. next (record no_operand { unsigned = n }))
+shape_row encoding shape.Sleb128 next = Signed Leb128 (λ n. next (record no_operand { signed = n }))
+shape_row encoding shape.Offset next = Unsigned (Leb128, Offset) (λ n. next (record no_operand { offset = n }))
+shape_row encoding shape.RegisterNumber next =
     Unsigned (Leb128, Register) (λ n. next (record no_operand { register = record { 0 = n } }))
-shape_row encoding shape.PieceSize before next =
+shape_row encoding shape.PieceSize next =
     Unsigned (Leb128, PieceSize) (λ n. next (record no_operand { unsigned = 8 * n }))
-shape_row encoding shape.SectionOffset before next =
+shape_row encoding shape.SectionOffset next =
     Unsigned (Bytes (offset_size encoding.format), Offset) (λ n. next (record no_operand { offset = n }))
-shape_row encoding shape.Reference before next =
+shape_row encoding shape.Reference next =
     Unsigned (Bytes (ref_size encoding), Offset) (λ n. next (record no_operand { offset = n }))
-shape_row encoding shape.Address before next =
+shape_row encoding shape.Address next =
     Unsigned (Bytes encoding.address_size, Any) (λ n. next (record no_operand { unsigned = n }))
-shape_row encoding shape.WasmIndex before next = wasm_index_row before.byte next
+shape_row encoding shape.WasmPlace next = Unsigned (Bytes 1, Any) (λ kind. wasm_index_row kind next)
 
 -- After one operand is read, reading its row and any row `next` comes to reading `next` from there on; or to the same
 -- fault.
@@ -103,10 +100,11 @@ pub record GoesOn {X Y : Type 0} (offset_bits : ℕ) (view : X → Y) (old new :
 
 -- ---- operations
 
-abbrev pub wasm_operation : WasmPlace → (index : ℕ) → meaning.Operation
-wasm_operation place.Local index = meaning.WasmLocal index
-wasm_operation place.Global index = meaning.WasmGlobal index
-wasm_operation place.Stack index = meaning.WasmStack index
+abbrev pub wasm_operation : (kind index : ℕ) → meaning.Operation
+wasm_operation kind index =
+    if kind == 0 then meaning.WasmLocal index
+    else if kind == 2 then meaning.WasmStack index
+    else meaning.WasmGlobal index
 
 -- the operation that one operand or two make
 abbrev pub operation_by : Maker → (first second : Operand ℕ) → meaning.Operation
@@ -118,9 +116,8 @@ operation_by maker.Skip first second = meaning.Skip first.short
 operation_by maker.UnsignedConstant first second = meaning.UnsignedConstant first.unsigned
 operation_by maker.SignedConstant first second = meaning.SignedConstant first.signed
 operation_by maker.Register first second = meaning.Register first.register.0
-operation_by maker.RegisterOffset first second = meaning.RegisterOffset first.register.0 second.signed 0
-operation_by (maker.BaseRegister register) first second = meaning.RegisterOffset register first.signed 0
-operation_by maker.TypedRegister first second = meaning.RegisterOffset first.register.0 (pos 0) second.offset
+operation_by maker.RegisterOffset first second = meaning.RegisterOffset first.register.0 second.signed second.offset
+operation_by (maker.BaseRegister register) first second = meaning.RegisterOffset register first.signed second.offset
 operation_by maker.FrameOffset first second = meaning.FrameOffset first.signed
 operation_by maker.UnitCall first second = meaning.Call (meaning.UnitRef first.offset)
 operation_by maker.InfoCall first second = meaning.Call (meaning.DebugInfoRef first.offset)
@@ -133,7 +130,7 @@ operation_by maker.AddressIndex first second = meaning.AddressIndex first.offset
 operation_by maker.ConstantIndex first second = meaning.ConstantIndex first.offset
 operation_by maker.Convert first second = meaning.Convert first.offset
 operation_by maker.Reinterpret first second = meaning.Reinterpret first.offset
-operation_by maker.Wasm first second = wasm_operation second.place second.index
+operation_by maker.Wasm first second = wasm_operation first.byte first.index
 operation_by maker.VariableValue first second = meaning.VariableValue first.offset
 
 -- the operation that a block makes, with the operand before its size
@@ -147,17 +144,17 @@ block_operation block_maker.TypedLiteral first block = meaning.TypedLiteral firs
 -- one operand
 abbrev pub row_of_one : Encoding → Shape → Maker → Row
 row_of_one encoding shape make =
-    shape_row encoding shape no_operand (λ a. Makes (operation_by make a no_operand))
+    shape_row encoding shape (λ a. Makes (operation_by make a no_operand))
 
 -- the row after a first operand: the second operand
 abbrev pub row_of_second : Encoding → Shape → Maker → (first : Operand ℕ) → Row
 row_of_second encoding shape make first =
-    shape_row encoding shape first (λ b. Makes (operation_by make first b))
+    shape_row encoding shape (λ b. Makes (operation_by make first b))
 
 -- the row after an operand, or after none: the size of a block, and the block
 abbrev pub row_of_block : Encoding → (size : Shape) → BlockMaker → (before : Operand ℕ) → Row
 row_of_block encoding size make before =
-    shape_row encoding size before
+    shape_row encoding size
     (λ b. Block b.offset (λ block. Makes (block_operation make before block)))
 
 -- reads the operands of a row at the front of a text

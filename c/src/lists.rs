@@ -25,11 +25,6 @@ impl<T: Copy, const CAP: usize> ArrayVec<T, CAP> {
     }
 
     #[inline(always)]
-    pub fn len(&self) -> usize {
-        self.len
-    }
-
-    #[inline(always)]
     pub fn as_slice(&self) -> &[T] {
         let set = &self.slots[..self.len];
         // SAFETY: the first `len` items are set.

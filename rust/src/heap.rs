@@ -127,11 +127,6 @@ impl<L: List> List for Box<L> {
     type Item = L::Item;
 
     #[inline]
-    fn len(&self) -> usize {
-        L::len(self)
-    }
-
-    #[inline]
     fn as_slice(&self) -> &[L::Item] {
         L::as_slice(self)
     }

@@ -7,11 +7,6 @@ impl<T: Clone> List for Vec<T> {
     type Item = T;
 
     #[inline(always)]
-    fn len(&self) -> usize {
-        Vec::len(self)
-    }
-
-    #[inline(always)]
     fn as_slice(&self) -> &[T] {
         Vec::as_slice(self)
     }

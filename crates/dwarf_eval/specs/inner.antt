@@ -1,3 +1,4 @@
 pub mod Answers
 pub mod Machine
+pub mod Operators
 pub mod StateChanges

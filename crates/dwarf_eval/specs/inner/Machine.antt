@@ -4,7 +4,6 @@ use Rattle.std.specs.List.{AllByRecursion}
 use Rattle.dwarf_base.specs.declared.common.Encoding.{Encoding}
 use Rattle.dwarf_base.specs.Reads.{IsRestOf, Text}
 use Rattle.dwarf_value.specs.declared.types.Value.{Value}
-use Rattle.dwarf_value.specs.Values as meant_value
 use Rattle.dwarf_value.specs.Values.{IsAddressMask, width_of}
 use Rattle.dwarf_meaning.specs.Locations as meant
 use Rattle.dwarf_meaning.specs.Requests as requests
@@ -16,10 +15,6 @@ use Rattle.dwarf_op.specs.Views.{location_of, piece_of}
 use Rattle.dwarf_eval.specs.Evaluation.{request_in}
 use Rattle.dwarf_op.specs.declared.locations.Location.{Location}
 use Rattle.dwarf_op.specs.declared.locations.Piece.{Piece}
-use Rattle.dwarf_eval.specs.declared.run.operators.UnaryOperator.{UnaryOperator}
-use Rattle.dwarf_eval.specs.declared.run.operators.UnaryOperator.TheVariants as one
-use Rattle.dwarf_eval.specs.declared.run.operators.BinaryOperator.{BinaryOperator}
-use Rattle.dwarf_eval.specs.declared.run.operators.BinaryOperator.TheVariants as two
 use Rattle.dwarf_eval.specs.declared.run.states.LastOperation.{LastOperation}
 use Rattle.dwarf_eval.specs.declared.run.states.LastOperation.TheVariants as last
 use Rattle.dwarf_eval.specs.declared.run.states.OnAnswer.{OnAnswer}
@@ -93,29 +88,3 @@ pub record IsSound {R : Type 0} (text : R → Text) (encoding : Encoding) (addr_
   pub width : width_of addr_mask ≡ 8 * encoding.address_size
   pub here : IsRestOf (text left) (text whole)
   pub callers : AllByRecursion (λ (f : R × R). IsRestOf (text f.0) (text f.1)) readers
-
--- maps an operator on one value in the code to the definitions
-abbrev pub operator_of : UnaryOperator → meant_value.UnaryOperator
-operator_of one.Abs = meant_value.Abs
-operator_of one.Neg = meant_value.Neg
-operator_of one.Not = meant_value.Not
-
--- maps an operator on two values in the code to the definitions
-abbrev pub binary_operator_of : BinaryOperator → meant_value.BinaryOperator
-binary_operator_of two.And = meant_value.And
-binary_operator_of two.Div = meant_value.Div
-binary_operator_of two.Minus = meant_value.Minus
-binary_operator_of two.Mod = meant_value.Mod
-binary_operator_of two.Mul = meant_value.Mul
-binary_operator_of two.Or = meant_value.Or
-binary_operator_of two.Plus = meant_value.Plus
-binary_operator_of two.Shl = meant_value.Shl
-binary_operator_of two.Shr = meant_value.Shr
-binary_operator_of two.Shra = meant_value.Shra
-binary_operator_of two.Xor = meant_value.Xor
-binary_operator_of two.Eq = meant_value.Eq
-binary_operator_of two.Ge = meant_value.Ge
-binary_operator_of two.Gt = meant_value.Gt
-binary_operator_of two.Le = meant_value.Le
-binary_operator_of two.Lt = meant_value.Lt
-binary_operator_of two.Ne = meant_value.Ne

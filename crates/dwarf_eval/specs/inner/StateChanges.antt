@@ -12,7 +12,7 @@ use Rattle.dwarf_meaning.specs.Locations.{Location, Piece, sized_piece}
 use Rattle.dwarf_meaning.specs.Requests.{Request, OnAnswer, Answer, Input}
 use Rattle.dwarf_meaning.specs.Acts.{Act, RequestAct, act, Use, use_of}
 use Rattle.dwarf_meaning.specs.RunLaws.{waits_of}
-use Rattle.dwarf_meaning.specs.Stores.{address_bits, Store, Last, Plain, Pieced, Pushed, Located, push_value, push_values, push_piece, push_caller, Next, Goes, RequestNext, FaultNext, do_act}
+use Rattle.dwarf_meaning.specs.Stores.{address_bits, Store, Last, Plain, Pieced, Pushed, Located, push_value, push_piece, push_caller, Next, Goes, RequestNext, FaultNext, do_act}
 use Rattle.dwarf_meaning.specs.Run.{Position, after_answer, can_count, count_one, read, most_operations, run}
 use Rattle.dwarf_meaning.specs.Meaning.{Outcome, FaultOutcome, CompleteOutcome, completion_of}
 use Rattle.dwarf_meaning.specs.Rest.{State, Status, Start, Running, RequestStatus, CompleteStatus, FaultStatus, total_of_course, with_refusal}
@@ -240,6 +240,12 @@ abbrev pub HasReply : Status → Type 0
 HasReply Running = ⊥
 HasReply (Start initial_value) = ⊥
 HasReply _ = Unit {0}
+
+-- what comes to the old state comes to the new one, which has a reply
+abbrev pub RunsOn : State → State → Type 0
+RunsOn old new =
+    (from : State) → (totals : Refusal → List Input → Total) → ComesToState from totals old
+    → ComesToState from totals new × HasReply new.status
 
 -- whether no location waits
 abbrev pub is_free : Last → Bool

@@ -183,9 +183,7 @@ impl<R: Reader + Copy, S: EvaluationStorage<R>> Evaluation<R, S> {
             return reply(&self.machine);
         };
         self.machine.begin(initial_value);
-        if self.machine.is_running() {
-            self.machine.run_on();
-        }
+        self.machine.run_on();
         reply(&self.machine)
     }
 
@@ -200,7 +198,8 @@ impl<R: Reader + Copy, S: EvaluationStorage<R>> Evaluation<R, S> {
         if let EvaluationState::Failed(error) = self.machine.state() {
             return Err(*error);
         }
-        self.machine.resume(given);
+        self.machine.take(given);
+        self.machine.run_on();
         reply(&self.machine)
     }
 

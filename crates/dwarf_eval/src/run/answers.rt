@@ -1,13 +1,10 @@
 ghost use Rattle.dwarf_meaning.specs.declared.kinds.WaitingKind.{WaitingKind};
-ghost use Rattle.dwarf_meaning.specs.Kinds.{kind_of_answer};
 ghost use Rattle.dwarf_meaning.specs.Requests as requests;
-ghost use Rattle.dwarf_eval.specs.Permits.{IsOpenFor};
 ghost use Rattle.dwarf_eval.specs.inner.Answers.{IsWaiting, answer_of};
-ghost use Rattle.dwarf_meaning.specs.Inputs.{input_of};
-ghost use Rattle.dwarf_eval.specs.inner.StateChanges.{ComesToState, HasReply, TakesAnswer, AnswersOpenRequest, PushesAsAnswer, total_after};
+ghost use Rattle.dwarf_eval.specs.inner.StateChanges.{TakesAnswer, AnswersOpenRequest, PushesAsAnswer};
 
 use crate::run::machine::Machine;
-use crate::run::states::{Given, OnAnswer};
+use crate::run::states::{Given, LastOperation, OnAnswer};
 use crate::store::EvaluationStorage;
 use dwarf_base::{Reader, Result, copy_of};
 use dwarf_value::{Value, ValueType};
@@ -20,7 +17,7 @@ impl<R: Reader + Copy, S: EvaluationStorage<R>> Machine<R, S> {
     {
         match answer {
             Ok(value) => {
-                self.mark_pushed();
+                self.mark(LastOperation::Pushed);
                 self.set_running();
                 self.push(value);
             }
@@ -46,13 +43,11 @@ impl<R: Reader + Copy, S: EvaluationStorage<R>> Machine<R, S> {
         requires { IsWaiting self.old.status }
         ensures { (kind : WaitingKind) → AnswersOpenRequest (requests.NumberAnswer kind number) self.old self.new }
     {
-        match *self.on_answer() {
-            OnAnswer::Add(offset) => {
-                let sum = number.wrapping_add(offset.cast_unsigned());
-                self.push_answer(Ok(Value::Generic(sum)))
-            }
-            _ => self.push_answer(Ok(Value::Generic(number))),
-        }
+        let sum = match *self.on_answer() {
+            OnAnswer::Add(offset) => number.wrapping_add(offset.cast_unsigned()),
+            _ => number,
+        };
+        self.push_answer(Ok(Value::Generic(sum)))
     }
 
     /// Pushes a value of the type: the literal's, or the top converted or reinterpreted.
@@ -110,7 +105,7 @@ impl<R: Reader + Copy, S: EvaluationStorage<R>> Machine<R, S> {
     {
         self.set_running();
         if callee.is_empty() {
-            self.mark_called();
+            self.mark(LastOperation::Called);
             return;
         }
         self.push_caller(callee);
@@ -118,7 +113,7 @@ impl<R: Reader + Copy, S: EvaluationStorage<R>> Machine<R, S> {
 
     /// Uses an answer as the open request says.
     #[inline(always)]
-    fn take(&mut self, given: Given<R>)
+    pub(crate) fn take(&mut self, given: Given<R>)
         requires { IsWaiting self.old.status }
         ensures { (kind : WaitingKind) → AnswersOpenRequest (answer_of R.text kind given) self.old self.new }
     {
@@ -127,22 +122,6 @@ impl<R: Reader + Copy, S: EvaluationStorage<R>> Machine<R, S> {
             Given::Number(number) => self.take_number(number),
             Given::Location(callee) => self.take_location(callee),
             Given::BaseType(base_type) => self.take_base_type(base_type),
-        }
-    }
-
-    /// Uses an answer, and runs on to a request, to completion or to a fault.
-    #[inline(always)]
-    pub(crate) fn resume(&mut self, given: Given<R>)
-        requires { IsWaiting self.old.status }
-        ensures comes { (kind : WaitingKind)
-            → IsOpenFor (kind_of_answer (answer_of R.text kind given)) self.old.status
-            → ComesToState self.old
-            (total_after self.old (input_of self.old (answer_of R.text kind given))) self.new }
-        ensures replies { HasReply self.new.status }
-    {
-        self.take(given);
-        if self.is_running() {
-            self.run_on();
         }
     }
 }

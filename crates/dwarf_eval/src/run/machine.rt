@@ -4,13 +4,14 @@ ghost use Rattle.std.specs.Prelude.{◌≡◌, ◌<◌, ◌≤◌, ◌*◌, [], 
 ghost use Rattle.dwarf_base.specs.Reads.{IsRestOf};
 ghost use Rattle.dwarf_base.specs.Faults.{fault_of};
 ghost use Rattle.dwarf_value.specs.Values.{IsAddressMask, width_of};
+ghost use Rattle.dwarf_meaning.specs.Locations as meant;
 ghost use Rattle.dwarf_meaning.specs.Meaning.{has_pieces};
 ghost use Rattle.dwarf_meaning.specs.Requests as requests;
 ghost use Rattle.dwarf_meaning.specs.Rest.{Start, Running, RequestStatus, CompleteStatus, FaultStatus};
 ghost use Rattle.dwarf_meaning.specs.Run.{read};
-ghost use Rattle.dwarf_meaning.specs.Stores.{Called, Located, Pieced, Plain, Pushed, address_bits, push_value, push_piece, setup_of};
+ghost use Rattle.dwarf_meaning.specs.Stores.{Located, Pieced, address_bits, push_value, push_piece, setup_of};
 ghost use Rattle.dwarf_op.specs.Views.{operation_of, location_of, piece_of};
-ghost use Rattle.dwarf_meaning.specs.Inputs.{fresh_state, with_maximum, with_object, with_status};
+ghost use Rattle.dwarf_meaning.specs.Inputs.{fresh_state, with_status};
 ghost use Rattle.dwarf_eval.specs.Evaluation.{request_in};
 ghost use Rattle.dwarf_eval.specs.inner.Machine.{last_of, on_answer_of, replied_status, status_of};
 ghost use Rattle.dwarf_eval.specs.inner.StateChanges.{Asks, CountsOne, GoesBack, Jumps, Pops, ReadsOperation, TriesChange, TriesToEnter, TriesToPop, at_rest, is_free, is_running, read_to, with_last, with_place};
@@ -120,11 +121,8 @@ impl<R: Reader + Copy, S: EvaluationStorage<R>> Machine<R, S> {
     pub(crate) fn value_at(&self, index: u8) -> Option<Value>
         ensures { result ≡ slice_get self.now.store.values index }
     {
-        let len = self.stack.len();
-        if usize::from(index) >= len {
-            return None;
-        }
-        self.stack.get(len - 1 - usize::from(index))
+        let index = self.stack.len().checked_sub(usize::from(index) + 1)?;
+        self.stack.get(index)
     }
 
     /// Adds a piece. If the list refuses it, fails with `StackFull` and returns `false`.
@@ -153,36 +151,13 @@ impl<R: Reader + Copy, S: EvaluationStorage<R>> Machine<R, S> {
         true
     }
 
-    /// Sets the kind of the last operation: it asked nothing, gave no location and ended no piece.
+    /// Sets the kind of the last operation, which gave no location.
     #[inline(always)]
-    pub(crate) fn mark_plain(&mut self)
-        ensures { self.new ≡ with_last Plain self.old }
+    pub(crate) fn mark(&mut self, last: LastOperation)
+        requires { is_free (last_of last meant.Empty) ≡ true }
+        ensures { self.new ≡ with_last (last_of last meant.Empty) self.old }
     {
-        self.last = LastOperation::Plain;
-    }
-
-    /// Sets the kind of the last operation: it ended a piece.
-    #[inline(always)]
-    pub(crate) fn mark_pieced(&mut self)
-        ensures { self.new ≡ with_last Pieced self.old }
-    {
-        self.last = LastOperation::Pieced;
-    }
-
-    /// Sets the kind of the last operation: its answer was pushed.
-    #[inline(always)]
-    pub(crate) fn mark_pushed(&mut self)
-        ensures { self.new ≡ with_last Pushed self.old }
-    {
-        self.last = LastOperation::Pushed;
-    }
-
-    /// Sets the kind of the last operation: it was a call, and its answer was an empty text.
-    #[inline(always)]
-    pub(crate) fn mark_called(&mut self)
-        ensures { self.new ≡ with_last Called self.old }
-    {
-        self.last = LastOperation::Called;
+        self.last = last;
     }
 
     /// Keeps the location that the last operation gave; its piece comes next.
@@ -222,7 +197,7 @@ impl<R: Reader + Copy, S: EvaluationStorage<R>> Machine<R, S> {
         ensures pieced { self.new ≡ with_last Pieced self.old }
     {
         let location = mem::replace(&mut self.location, Location::Empty);
-        self.mark_pieced();
+        self.mark(LastOperation::Pieced);
         location
     }
 
@@ -327,14 +302,6 @@ impl<R: Reader + Copy, S: EvaluationStorage<R>> Machine<R, S> {
         ensures { result ≡ self.now.setup.encoding.address_size }
     {
         self.encoding.address_size
-    }
-
-    /// The address of the described object, if it is set.
-    #[inline(always)]
-    pub(crate) fn object_address(&self) -> Option<u64>
-        ensures { result ≡ self.now.store.settings.object_address }
-    {
-        self.object_address
     }
 
     /// The place in the text: how many of its bytes were read.
@@ -546,7 +513,5 @@ fn clear<L: ArrayLike>(list: &mut L)
     ensures items { L.items list.new ≡ [] }
     ensures limit { L.limit list.new ≡ L.limit list.old }
 {
-    while list.len() != 0 {
-        list.pop();
-    }
+    while list.pop().is_some() {}
 }

@@ -1,20 +1,21 @@
 ghost use Rattle.std.specs.Prelude.{◌≡◌};
 ghost use Rattle.dwarf_base.specs.Reads.{IsRestOf};
-ghost use Rattle.dwarf_meaning.specs.Acts.{Branches, binary, unary};
+ghost use Rattle.dwarf_meaning.specs.Acts.{Branches};
 ghost use Rattle.dwarf_meaning.specs.Operations as meaning;
 ghost use Rattle.dwarf_meaning.specs.Rest.{Running};
 ghost use Rattle.dwarf_meaning.specs.Stores.{address_bits};
-ghost use Rattle.dwarf_value.specs.Values.{from_u64_of, to_u64_of, type_of, unary_of, binary_of, Plus};
-ghost use Rattle.dwarf_eval.specs.inner.Machine.{binary_operator_of, operator_of};
+ghost use Rattle.dwarf_op.specs.Views.{operation_of};
+ghost use Rattle.dwarf_value.specs.Values.{from_u64_of, to_u64_of, type_of, binary_of, Plus};
+ghost use Rattle.dwarf_eval.specs.inner.Operators.{IsBinary, IsUnary};
 ghost use Rattle.dwarf_eval.specs.inner.StateChanges.{Performs, PushesComputed, PushesPlain, TriesToPopNumber, act_of, at_rest};
 
 use crate::op::EvaluationResult;
 use crate::run::machine::Machine;
-use crate::run::operators::{BinaryOperator, UnaryOperator};
-use crate::run::states::OnAnswer;
+use crate::run::operators::{binary, unary};
+use crate::run::states::{LastOperation, OnAnswer};
 use crate::store::EvaluationStorage;
 use dwarf_base::{Error, Reader, ReaderOffset, Result, UnitOffset};
-use dwarf_op::{Location, Piece};
+use dwarf_op::{Location, Operation, Piece};
 use dwarf_value::Value;
 
 impl<R: Reader + Copy, S: EvaluationStorage<R>> Machine<R, S> {
@@ -23,7 +24,7 @@ impl<R: Reader + Copy, S: EvaluationStorage<R>> Machine<R, S> {
     pub(crate) fn push_plain(&mut self, value: Value)
         ensures { PushesPlain value self.old self.new }
     {
-        self.mark_plain();
+        self.mark(LastOperation::Plain);
         self.push(value);
     }
 
@@ -40,29 +41,25 @@ impl<R: Reader + Copy, S: EvaluationStorage<R>> Machine<R, S> {
 
     /// Replaces the top by what the operator gives.
     #[inline(never)]
-    pub(crate) fn compute_unary(&mut self, operator: UnaryOperator)
-        requires { self.old.status ≡ Running }
-        ensures { Performs
-            (unary (unary_of (operator_of operator) (address_bits self.old.setup))
-            self.old.store.values)
-            self.old self.new }
+    pub(crate) fn compute_unary(&mut self, operator: Operation<R>)
+        requires runs { self.old.status ≡ Running }
+        requires unary { IsUnary (operation_of R.text R.Offset.number operator) }
+        ensures { Performs (act_of self.old (operation_of R.text R.Offset.number operator)) self.old self.new }
     {
         let Some(value) = self.pop() else { return };
-        self.push_computed(operator.apply(value, self.addr_mask()))
+        self.push_computed(unary(operator, value, self.addr_mask()))
     }
 
     /// Replaces the two values on top by what the operator gives.
     #[inline(never)]
-    pub(crate) fn compute_binary(&mut self, operator: BinaryOperator)
-        requires { self.old.status ≡ Running }
-        ensures { Performs
-            (binary (binary_of (binary_operator_of operator) (address_bits self.old.setup))
-            self.old.store.values)
-            self.old self.new }
+    pub(crate) fn compute_binary(&mut self, operator: Operation<R>)
+        requires runs { self.old.status ≡ Running }
+        requires binary { IsBinary (operation_of R.text R.Offset.number operator) }
+        ensures { Performs (act_of self.old (operation_of R.text R.Offset.number operator)) self.old self.new }
     {
         let Some(right) = self.pop() else { return };
         let Some(left) = self.pop() else { return };
-        self.push_computed(operator.apply(left, right, self.addr_mask()))
+        self.push_computed(binary(operator, left, right, self.addr_mask()))
     }
 
     /// A value plus a constant, which is wrapped to the value's type.
@@ -101,7 +98,7 @@ impl<R: Reader + Copy, S: EvaluationStorage<R>> Machine<R, S> {
         ensures { Performs (act_of self.old meaning.Drop) self.old self.new }
     {
         let Some(_) = self.pop() else { return };
-        self.mark_plain();
+        self.mark(LastOperation::Plain);
     }
 
     /// Pushes a copy of the value at this distance from the top; 0 is the top.
@@ -125,7 +122,7 @@ impl<R: Reader + Copy, S: EvaluationStorage<R>> Machine<R, S> {
     {
         let Some(top) = self.pop() else { return };
         let Some(next) = self.pop() else { return };
-        self.mark_plain();
+        self.mark(LastOperation::Plain);
         if self.push(top) {
             self.push(next);
         }
@@ -140,7 +137,7 @@ impl<R: Reader + Copy, S: EvaluationStorage<R>> Machine<R, S> {
         let Some(top) = self.pop() else { return };
         let Some(second) = self.pop() else { return };
         let Some(third) = self.pop() else { return };
-        self.mark_plain();
+        self.mark(LastOperation::Plain);
         if self.push(top) && self.push(third) {
             self.push(second);
         }
@@ -162,7 +159,7 @@ impl<R: Reader + Copy, S: EvaluationStorage<R>> Machine<R, S> {
         requires { self.old.status ≡ Running }
         ensures { Performs (act_of self.old meaning.PushObjectAddress) self.old self.new }
     {
-        let Some(address) = self.object_address() else {
+        let Some(address) = self.object_address else {
             self.fail(Error::InvalidPushObjectAddress);
             return;
         };
@@ -178,7 +175,7 @@ impl<R: Reader + Copy, S: EvaluationStorage<R>> Machine<R, S> {
             (at_rest (R.text rest.old).bytes self.old) (at_rest (R.text rest.new).bytes self.new) }
         ensures rest { IsRestOf (R.text rest.new) self.new.text }
     {
-        self.mark_plain();
+        self.mark(LastOperation::Plain);
         let place = self.place_of(rest);
         self.jump(place.wrapping_add(R::Offset::from_i16(target)), rest);
     }
@@ -196,7 +193,7 @@ impl<R: Reader + Copy, S: EvaluationStorage<R>> Machine<R, S> {
             return;
         };
         if number == 0 {
-            self.mark_plain();
+            self.mark(LastOperation::Plain);
             return;
         }
         self.take_branch(target, rest)
@@ -219,7 +216,7 @@ impl<R: Reader + Copy, S: EvaluationStorage<R>> Machine<R, S> {
         ensures { Performs (act_of self.old (meaning.Piece size_in_bits bit_offset))
             self.old self.new }
     {
-        self.mark_pieced();
+        self.mark(LastOperation::Pieced);
         let location = match self.pop_if_any() {
             Some(value) => Location::Address {
                 address: self.number_of(value),

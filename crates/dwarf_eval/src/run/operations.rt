@@ -13,8 +13,7 @@ use crate::op::EvaluationResult::{
 };
 use crate::op::Expression;
 use crate::run::machine::Machine;
-use crate::run::operators::{BinaryOperator, UnaryOperator};
-use crate::run::states::OnAnswer;
+use crate::run::states::{LastOperation, OnAnswer};
 use crate::store::EvaluationStorage;
 use dwarf_base::{Error, Reader};
 use dwarf_op::{Location, Operation};
@@ -58,28 +57,9 @@ impl<R: Reader + Copy, S: EvaluationStorage<R>> Machine<R, S> {
             Operation::Pick { index } => self.pick(index),
             Operation::Swap => self.swap(),
             Operation::Rot => self.rotate(),
-            Operation::Abs => self.compute_unary(UnaryOperator::Abs),
-            Operation::And => self.compute_binary(BinaryOperator::And),
-            Operation::Div => self.compute_binary(BinaryOperator::Div),
-            Operation::Minus => self.compute_binary(BinaryOperator::Minus),
-            Operation::Mod => self.compute_binary(BinaryOperator::Mod),
-            Operation::Mul => self.compute_binary(BinaryOperator::Mul),
-            Operation::Neg => self.compute_unary(UnaryOperator::Neg),
-            Operation::Not => self.compute_unary(UnaryOperator::Not),
-            Operation::Or => self.compute_binary(BinaryOperator::Or),
-            Operation::Plus => self.compute_binary(BinaryOperator::Plus),
+            Operation::Abs | Operation::Neg | Operation::Not => self.compute_unary(operation),
             Operation::PlusConstant { value } => self.add_constant(value),
-            Operation::Shl => self.compute_binary(BinaryOperator::Shl),
-            Operation::Shr => self.compute_binary(BinaryOperator::Shr),
-            Operation::Shra => self.compute_binary(BinaryOperator::Shra),
-            Operation::Xor => self.compute_binary(BinaryOperator::Xor),
             Operation::Bra { .. } | Operation::Skip { .. } => unreachable!(),
-            Operation::Eq => self.compute_binary(BinaryOperator::Eq),
-            Operation::Ge => self.compute_binary(BinaryOperator::Ge),
-            Operation::Gt => self.compute_binary(BinaryOperator::Gt),
-            Operation::Le => self.compute_binary(BinaryOperator::Le),
-            Operation::Lt => self.compute_binary(BinaryOperator::Lt),
-            Operation::Ne => self.compute_binary(BinaryOperator::Ne),
             Operation::UnsignedConstant { value } => self.push_plain(Value::Generic(value)),
             Operation::SignedConstant { value } => {
                 self.push_plain(Value::Generic(value.cast_unsigned()))
@@ -99,7 +79,7 @@ impl<R: Reader + Copy, S: EvaluationStorage<R>> Machine<R, S> {
             Operation::FrameOffset { offset } => {
                 self.ask(RequiresFrameBase, OnAnswer::Add(offset))
             }
-            Operation::Nop => self.mark_plain(),
+            Operation::Nop => self.mark(LastOperation::Plain),
             Operation::PushObjectAddress => self.push_object_address(),
             Operation::Call { offset } => self.ask(RequiresAtLocation(offset), OnAnswer::Push),
             Operation::TLS => self.ask_tls(),
@@ -152,6 +132,8 @@ impl<R: Reader + Copy, S: EvaluationStorage<R>> Machine<R, S> {
             }
             Operation::WasmStack { index } => self.ask(RequiresWasmStack { index }, OnAnswer::Push),
             Operation::VariableValue { offset: _ } => { self.fail(Error::UnsupportedEvaluation) }
+            // An operator on two values.
+            _ => self.compute_binary(operation),
         }
     }
 }

@@ -2,13 +2,13 @@
 
 ghost use Rattle.std.specs.Prelude.{◌≡◌, ◌<◌, length, false};
 ghost use Rattle.dwarf_base.specs.Reads.{IsRestOf};
-ghost use Rattle.dwarf_meaning.specs.Meaning.{whole_piece as meant_whole, finish};
+ghost use Rattle.dwarf_meaning.specs.Meaning.{finish, whole_piece};
 ghost use Rattle.dwarf_eval.specs.inner.Answers.{IsAtRestBy};
 ghost use Rattle.dwarf_meaning.specs.Rest.{Running, Start};
 ghost use Rattle.dwarf_meaning.specs.RunLaws.{waits_of};
 ghost use Rattle.dwarf_meaning.specs.Stores.{Located};
-ghost use Rattle.dwarf_op.specs.Views.{operation_of, location_of, piece_of};
-ghost use Rattle.dwarf_eval.specs.inner.StateChanges.{Closes, ComesToState, CompletesWith, EndsLocated, HasReply, IsReady, Turns, at_rest, goes_on, is_free, total};
+ghost use Rattle.dwarf_op.specs.Views.{operation_of, location_of};
+ghost use Rattle.dwarf_eval.specs.inner.StateChanges.{Closes, ComesToState, CompletesWith, EndsLocated, IsReady, RunsOn, Turns, at_rest, goes_on, is_free, total};
 
 use crate::run::machine::Machine;
 use crate::run::states::LastOperation;
@@ -16,19 +16,6 @@ use crate::store::EvaluationStorage;
 use dwarf_base::{Error, Reader, ReaderOffset, copy_of};
 use dwarf_op::{Location, Operation, Piece};
 use dwarf_value::Value;
-
-/// A piece that is the whole variable.
-#[inline(always)]
-fn whole<R: Reader + Copy>(location: Location<R>) -> Piece<R>
-    ensures { piece_of R.text R.Offset.number result
-        ≡ meant_whole (location_of R.text R.Offset.number location) }
-{
-    Piece {
-        size_in_bits: None,
-        bit_offset: None,
-        location,
-    }
-}
 
 impl<R: Reader + Copy, S: EvaluationStorage<R>> Machine<R, S> {
     /// Whether the operation at the start of `rest` is to be performed next.
@@ -104,11 +91,17 @@ impl<R: Reader + Copy, S: EvaluationStorage<R>> Machine<R, S> {
         }
     }
 
-    /// Adds a last piece, and completes the evaluation.
-    fn complete_with_piece(&mut self, piece: Piece<R>, value: Option<Value>)
+    /// Adds a piece that is the whole variable, and completes the evaluation.
+    fn complete_with(&mut self, location: Location<R>, value: Option<Value>)
         requires { self.old.status ≡ Running }
-        ensures { CompletesWith (piece_of R.text R.Offset.number piece) value self.old self.new }
+        ensures { CompletesWith (whole_piece (location_of R.text R.Offset.number location)) value
+            self.old self.new }
     {
+        let piece = Piece {
+            size_in_bits: None,
+            bit_offset: None,
+            location,
+        };
         if self.push_piece(piece) {
             self.complete(value);
         }
@@ -131,35 +124,25 @@ impl<R: Reader + Copy, S: EvaluationStorage<R>> Machine<R, S> {
             return;
         }
         if !self.is_free() {
-            self.complete_with_piece(whole(copy_of(self.location())), None);
+            self.complete_with(copy_of(self.location()), None);
             return;
         }
         let Some(value) = self.pop() else { return };
         let address = self.number_of(value);
-        self.complete_with_piece(whole(Location::Address { address }), Some(value));
+        self.complete_with(Location::Address { address }, Some(value));
     }
 
-    /// At the end of a text, returns to its caller; if there is none, finishes the evaluation.
-    fn return_to_caller(&mut self)
-        requires runs { self.old.status ≡ Running }
-        requires ends { self.old.place ≡ length self.old.text.bytes }
-        ensures { Turns self.old self.new }
-    {
-        if !self.pop_caller() {
-            self.finish();
-        }
-    }
-
-    /// Runs on to a request, to completion or to a fault.
+    /// Runs on to a request, to completion or to a fault. At the end of a text it goes back to the caller. After a
+    /// fault it does nothing.
     #[inline(never)]
     pub(crate) fn run_on(&mut self)
-        requires { self.old.status ≡ Running }
-        ensures comes { ComesToState self.old (total self.old) self.new }
-        ensures replies { HasReply self.new.status }
+        ensures { RunsOn self.old self.new }
     {
         while self.is_running() {
             if self.is_at_end() {
-                self.return_to_caller();
+                if !self.pop_caller() {
+                    self.finish();
+                }
             } else if self.is_free() {
                 self.run_operations();
             } else {

@@ -13,11 +13,6 @@ impl<T: Copy + Default, const CAP: usize> ArrayLike for ArrayVec<T, CAP> {
     ghost limit = { λ _. Some CAP };
 
     #[inline(always)]
-    fn len(&self) -> usize {
-        ArrayVec::len(self)
-    }
-
-    #[inline(always)]
     fn as_slice(&self) -> &[T] {
         ArrayVec::as_slice(self)
     }

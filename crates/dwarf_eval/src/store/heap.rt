@@ -18,11 +18,6 @@ impl<T: Copy, A: Allocator> ArrayLike for Vec<T, A> {
     ghost limit = { λ _. None };
 
     #[inline(always)]
-    fn len(&self) -> usize {
-        Vec::len(self)
-    }
-
-    #[inline(always)]
     fn as_slice(&self) -> &[T] {
         Vec::as_slice(self)
     }

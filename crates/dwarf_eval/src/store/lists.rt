@@ -16,24 +16,26 @@ pub trait ArrayLike: Drop {
     ghost limit: { Self → Option ℕ };
 
     /// How many items there are, never more than the limit.
+    #[inline(always)]
     fn len(&self) -> usize
         ensures value { result ≡ length (items self.now) }
-        ensures within { IsWithin (limit self.now) (length (items self.now)) };
+        ensures within { IsWithin (limit self.now) (length (items self.now)) }
+    {
+        self.as_slice().len()
+    }
 
     /// The item at an index, or `None` after the last one.
     #[inline(always)]
     fn get(&self, index: usize) -> Option<Self::Item>
         ensures { result ≡ slice_get (items self.now) index }
     {
-        match self.as_slice().get(index) {
-            Some(item) => Some(copy_of(item)),
-            None => None,
-        }
+        Some(copy_of(self.as_slice().get(index)?))
     }
 
     /// The items.
     fn as_slice(&self) -> &[Self::Item]
-        ensures { result.now ≡ items self.now };
+        ensures items { result.now ≡ items self.now }
+        ensures within { IsWithin (limit self.now) (length (items self.now)) };
 
     /// Takes the last item, or gives `None` if there is none.
     fn pop(&mut self) -> Option<Self::Item>

@@ -45,12 +45,8 @@ impl<T: Copy, L: ArrayLike<Item = T>> OneInLine<T, L> {
         ensures limit { IfOk result (λ list. at_least_one (L.limit list) ≡ self.limit) }
         ensures err { IfErr result (λ back. back ≡ self) }
     {
-        if let Some(one) = self.one.take() {
-            let [item] = one;
-            if let Err(item) = self.more.push(item) {
-                self.one = Some([item]);
-                return Err(self);
-            }
+        if !spill(&mut self.one, &mut self.more) {
+            return Err(self);
         }
         Ok(self.more)
     }
@@ -62,14 +58,6 @@ impl<T: Copy, L: ArrayLike<Item = T>> ArrayLike for OneInLine<T, L> {
     ghost items = { λ v. v.items };
 
     ghost limit = { λ v. v.limit };
-
-    #[inline(always)]
-    fn len(&self) -> usize {
-        match &self.one {
-            Some(_) => 1,
-            None => self.more.len(),
-        }
-    }
 
     #[inline(always)]
     fn as_slice(&self) -> &[T] {

@@ -46,11 +46,6 @@ impl<'a, T: Copy> ArrayLike for SliceVec<'a, T> {
     ghost limit = { λ v. Some v.capacity };
 
     #[inline(always)]
-    fn len(&self) -> usize {
-        self.len
-    }
-
-    #[inline(always)]
     fn as_slice(&self) -> &[T] {
         &self.slots[..self.len]
     }

@@ -8,6 +8,7 @@ use Rattle.dwarf_eval.specs.inner.Answers.{IsWaiting, answer_of}
 use Rattle.dwarf_eval.proofs.AnswerUses.{open_in}
 use Rattle.dwarf_eval.proofs.Following.{comes_follow}
 use Rattle.dwarf_eval.proofs.Replying.{waits_unless}
+use Rattle.dwarf_eval.proofs.Resuming.{answer_open}
 use Rattle.dwarf_eval.proofs.Spending.{comes_fewer, if_ok}
 use Rattle.dwarf_eval.proofs.eval.evaluation.Evaluation.resume.Goals as goal
 
@@ -16,16 +17,28 @@ returns g c =
     let text = g.R.Reader.text in
     let number = g.R.Offset.ReaderOffset.number in
     let x : State = c.self.inside.machine in
-    let new : State = c.resume.new.self in
+    let new : State = c.run_on.new.self in
     let reply = c.reply.result in
     let answer = answer_of text g.kind c.args.given in
     let is_open = subst (λ (z : State). IsOpenFor (kind_of_answer answer) z.status) (sym c.self.view_is) c.requires.1.1.1.1.1.1 in
     let waits = subst IsWaiting c.state.ensures.1 (waits_unless text number c.state.ensures.0 (kind_of_answer answer) c.state.result.now
     (subst (IsOpenFor (kind_of_answer answer)) (sym c.state.ensures.1) is_open) c.in_default.not-Failed) in
     let now = open_in x.status waits in
-    let comes = c.resume.ensures.comes g.kind is_open in
+    let totals = total_after x (input_of x answer) in
+    let came = c.run_on.ensures x totals (answer_open x waits answer c.take.new.self is_open (c.take.ensures g.kind)) in
     subst (λ (z : State). AnswersWith text number answer z new reply) c.self.view_is (record {
-      follows = subst (Resumes text number (input_of x answer) x new reply) (sym now.is) (comes_follow x (total_after x (input_of x answer)) new (reply_of text number reply) comes c.reply.ensures.reply);
+      follows = subst (Resumes text number (input_of x answer) x new reply) (sym now.is) (comes_follow x totals new (reply_of text number reply) came.0 c.reply.ensures.reply);
       admits = c.reply.ensures.admits;
-      fewer = if_ok (calls_left new < calls_left x) reply (comes_fewer x (total_after x (input_of x answer)) new now.request now.on_answer now.is c.resume.ensures.replies comes);
+      fewer = if_ok (calls_left new < calls_left x) reply (comes_fewer x totals new now.request now.on_answer now.is came.1 came.0);
     })
+
+pub reply-requires : goal.reply-requires
+reply-requires g c =
+    let text = g.R.Reader.text in
+    let number = g.R.Offset.ReaderOffset.number in
+    let x : State = c.self.inside.machine in
+    let answer = answer_of text g.kind c.args.given in
+    let is_open = subst (λ (z : State). IsOpenFor (kind_of_answer answer) z.status) (sym c.self.view_is) c.requires.1.1.1.1.1.1 in
+    let waits = subst IsWaiting c.state.ensures.1 (waits_unless text number c.state.ensures.0 (kind_of_answer answer) c.state.result.now
+    (subst (IsOpenFor (kind_of_answer answer)) (sym c.state.ensures.1) is_open) c.in_default.not-Failed) in
+    (c.run_on.ensures x (total_after x (input_of x answer)) (answer_open x waits answer c.take.new.self is_open (c.take.ensures g.kind))).1

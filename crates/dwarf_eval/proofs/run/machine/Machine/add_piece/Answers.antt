@@ -44,8 +44,8 @@ returns g c =
     let location = location_of g.R.Reader.text g.R.Offset.ReaderOffset.number in
     let mid = c.pop_if_any.new.self in
     elim c.match-pop_if_any.branch [
-      | in-Some w ↦ ends_at size offset w.in-Some.value w.number_of.result c.args.self.now c.mark_pieced.new.self mid c.push_piece.new.self c.push_piece.result c.requires c.mark_pieced.ensures w.in-Some.ensures w.number_of.ensures
+      | in-Some w ↦ ends_at size offset w.in-Some.value w.number_of.result c.args.self.now c.mark.new.self mid c.push_piece.new.self c.push_piece.result c.requires c.mark.ensures w.in-Some.ensures w.number_of.ensures
           (located size offset _ _ mid c.push_piece.new.self c.push_piece.result (ap location w.location-is) c.push_piece.ensures)
-      | in-None w ↦ ends_nowhere size offset c.args.self.now c.mark_pieced.new.self mid c.push_piece.new.self c.push_piece.result c.requires c.mark_pieced.ensures w.in-None.ensures
+      | in-None w ↦ ends_nowhere size offset c.args.self.now c.mark.new.self mid c.push_piece.new.self c.push_piece.result c.requires c.mark.ensures w.in-None.ensures
           (located size offset _ _ mid c.push_piece.new.self c.push_piece.result (ap location w.location-is) c.push_piece.ensures)
     ]

@@ -1,4 +1,4 @@
-use Rattle.std.proofs.Common.{ℕ, ℤ, ◌≡◌, ◌==◌, List, [], None, ap, true, false, arith, cond, w16, refl, subst, ◌∙◌}
+use Rattle.std.proofs.Common.{ℕ, ℤ, ◌≡◌, ◌==◌, List, [], ap, true, false, arith, cond, w16, refl, subst, ◌∙◌}
 use Rattle.std.proofs.lemmas.Bool.{cond-true, cond-false}
 use Rattle.std.proofs.lemmas.Bool.Decides.{nat_tests}
 use Rattle.std.proofs.lemmas.Int.{to_z-of_z}
@@ -29,12 +29,12 @@ unfolding act
 returns-then-number-eq0-clause-performs g c =
     let left = (g.R.Reader.text c.args.rest.now).bytes in
     let low : State = c.pop_number.new.self in
-    let new : State = at_rest left c.mark_plain.new.self in
+    let new : State = at_rest left c.mark.new.self in
     let zero : (c.in-Some.number == 0) ≡ true = grind (arith, nat_tests, c.if-number-eq0.true) in
     performs_number _ (branch_by c.args.target) c.in-Some.number (at_rest left c.args.self.now) (at_rest left low) new refl (popped_there left c.in-Some.number c.args.self.now low c.in-Some.ensures)
     (performs_as _ (Pushes low.store.values []) (at_rest left low) new (cond-true (c.in-Some.number == 0) (Pushes low.store.values []) (Branches low.store.values c.args.target) zero)
-    (performs_at (Pushes low.store.values []) left low c.mark_plain.new.self tt
-    (performs_none low.store.values low c.mark_plain.new.self (ap (λ (z : State). z.status) c.in-Some.ensures.alone ∙ c.requires.runs) c.mark_plain.ensures)))
+    (performs_at (Pushes low.store.values []) left low c.mark.new.self tt
+    (performs_none low.store.values low c.mark.new.self (ap (λ (z : State). z.status) c.in-Some.ensures.alone ∙ c.requires.runs) c.mark.ensures)))
 
 pub returns-clause-performs : goal.returns-clause-performs
 unfolding act

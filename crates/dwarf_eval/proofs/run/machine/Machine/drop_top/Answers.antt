@@ -11,5 +11,5 @@ returns-in_default g c = underflows _ c.args.self.now c.pop.new.self c.in_defaul
 pub returns : goal.returns
 unfolding act
 returns g c =
-    performs_popped _ c.in-Some.field-0 c.args.self.now c.pop.new.self c.mark_plain.new.self c.in-Some.ensures
-    (performs_none c.pop.new.self.store.values c.pop.new.self c.mark_plain.new.self (ap (λ (z : State). z.status) c.in-Some.ensures.2 ∙ c.requires) c.mark_plain.ensures)
+    performs_popped _ c.in-Some.field-0 c.args.self.now c.pop.new.self c.mark.new.self c.in-Some.ensures
+    (performs_none c.pop.new.self.store.values c.pop.new.self c.mark.new.self (ap (λ (z : State). z.status) c.in-Some.ensures.2 ∙ c.requires) c.mark.ensures)

@@ -17,8 +17,8 @@ pub returns-in-Nop : goal.returns-in-Nop
 unfolding act
 returns-in-Nop g c =
     let x = c.args.self.now in
-    subst (λ (op : Operation _ _ _). Performs (act_of x (operation_of g.R.Reader.text g.R.Offset.ReaderOffset.number op)) x c.mark_plain.new.self) (sym c.in-Nop.is)
-    (performs_none x.store.values x c.mark_plain.new.self c.requires.runs c.mark_plain.ensures)
+    subst (λ (op : Operation _ _ _). Performs (act_of x (operation_of g.R.Reader.text g.R.Offset.ReaderOffset.number op)) x c.mark.new.self) (sym c.in-Nop.is)
+    (performs_none x.store.values x c.mark.new.self c.requires.runs c.mark.ensures)
 
 pub returns-in-UnsignedConstant : goal.returns-in-UnsignedConstant
 unfolding act

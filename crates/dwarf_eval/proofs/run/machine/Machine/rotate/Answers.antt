@@ -51,20 +51,20 @@ module _ (z y x : Value) (old mid low least marked new : State) (done : Bool) (r
 pub returns-then-push-2 : goal.returns-then-push-2
 returns-then-push-2 g c =
     let old = c.args.self.now in
-    let marked = c.mark_plain.new.self in
+    let marked = c.mark.new.self in
     let others = c.in-Some-pop-2.third ∷ c.in-Some-pop.second ∷ [] in
     rotates c.in-Some.top c.in-Some-pop.second c.in-Some-pop-2.third old c.pop.new.self c.pop-2.new.self c.pop-3.new.self marked c.push-then-push-2.new.self c.push-then-push-2.result c.requires
-    c.in-Some.ensures c.in-Some-pop.ensures c.in-Some-pop-2.ensures c.mark_plain.ensures
+    c.in-Some.ensures c.in-Some-pop.ensures c.in-Some-pop-2.ensures c.mark.ensures
     (values_then 1 c.in-Some.top others marked c.push.new.self c.push-then-push-2.new.self c.push-then-push-2.result (rw c.if-push.true at c.push.ensures)
     (value_then c.in-Some-pop-2.third c.in-Some-pop.second c.push.new.self c.push-then-push.new.self c.push-then-push-2.new.self c.push-then-push-2.result (rw c.if-push-2.true at c.push-then-push.ensures) c.push-then-push-2.ensures))
 
 pub returns-else-push : goal.returns-else-push
 returns-else-push g c =
     let old = c.args.self.now in
-    let marked = c.mark_plain.new.self in
+    let marked = c.mark.new.self in
     let others = c.in-Some-pop-2.third ∷ c.in-Some-pop.second ∷ [] in
     rotates c.in-Some.top c.in-Some-pop.second c.in-Some-pop-2.third old c.pop.new.self c.pop-2.new.self c.pop-3.new.self marked c.else-push.self false c.requires
-    c.in-Some.ensures c.in-Some-pop.ensures c.in-Some-pop-2.ensures c.mark_plain.ensures
+    c.in-Some.ensures c.in-Some-pop.ensures c.in-Some-pop-2.ensures c.mark.ensures
     (elim c.else-push.branch [
       | else-push-via-else-push w ↦ rw (w.self-is) (refused_first 2 c.in-Some.top others marked c.push.new.self (rw w.if-push.false at c.push.ensures))
       | else-push-via-then-push+else-push-2 w ↦

@@ -39,10 +39,10 @@ module _ (top next : Value) (old mid low marked : State) (new : State) (done : B
 
 pub returns-then-push : goal.returns-then-push
 returns-then-push g c =
-    swaps c.in-Some.top c.in-Some-pop.next c.args.self.now c.pop.new.self c.pop-2.new.self c.mark_plain.new.self c.push-then-push.new.self c.push-then-push.result c.requires c.in-Some.ensures c.in-Some-pop.ensures c.mark_plain.ensures
-    (value_then c.in-Some.top c.in-Some-pop.next c.mark_plain.new.self c.push.new.self c.push-then-push.new.self c.push-then-push.result (rw c.if-push.true at c.push.ensures) c.push-then-push.ensures)
+    swaps c.in-Some.top c.in-Some-pop.next c.args.self.now c.pop.new.self c.pop-2.new.self c.mark.new.self c.push-then-push.new.self c.push-then-push.result c.requires c.in-Some.ensures c.in-Some-pop.ensures c.mark.ensures
+    (value_then c.in-Some.top c.in-Some-pop.next c.mark.new.self c.push.new.self c.push-then-push.new.self c.push-then-push.result (rw c.if-push.true at c.push.ensures) c.push-then-push.ensures)
 
 pub returns-else-push : goal.returns-else-push
 returns-else-push g c =
-    swaps c.in-Some.top c.in-Some-pop.next c.args.self.now c.pop.new.self c.pop-2.new.self c.mark_plain.new.self c.push.new.self false c.requires c.in-Some.ensures c.in-Some-pop.ensures c.mark_plain.ensures
-    (refused_first 1 c.in-Some.top (c.in-Some-pop.next ∷ []) c.mark_plain.new.self c.push.new.self (rw c.if-push.false at c.push.ensures))
+    swaps c.in-Some.top c.in-Some-pop.next c.args.self.now c.pop.new.self c.pop-2.new.self c.mark.new.self c.push.new.self false c.requires c.in-Some.ensures c.in-Some-pop.ensures c.mark.ensures
+    (refused_first 1 c.in-Some.top (c.in-Some-pop.next ∷ []) c.mark.new.self c.push.new.self (rw c.if-push.false at c.push.ensures))

@@ -20,8 +20,8 @@ unfolding use_of
 returns-then-is_empty g c = λ on_answer.
     let x = c.args.self.now in
     let text = g.R.Reader.text c.args.callee in
-    empty_takes x c.requires on_answer (LocationAnswer text) text c.mark_called.new.self refl
-    (no_bytes text.bytes (sym c.is_empty.ensures ∙ c.if-is_empty.true)) (c.mark_called.ensures ∙ ap (with_last Called) c.set_running.ensures)
+    empty_takes x c.requires on_answer (LocationAnswer text) text c.mark.new.self refl
+    (no_bytes text.bytes (sym c.is_empty.ensures ∙ c.if-is_empty.true)) (c.mark.ensures ∙ ap (with_last Called) c.set_running.ensures)
 
 pub returns : goal.returns
 unfolding use_of

@@ -13,6 +13,7 @@ use Rattle.dwarf_eval.proofs.AnswerUses.{plain}
 use Rattle.dwarf_eval.proofs.MachineNumbers.{passed-residue, residue-add}
 use Rattle.dwarf_eval.proofs.Resuming.{value_takes}
 use Rattle.dwarf_eval.proofs.run.machine.Machine.take_number.Goals as goal
+use Rattle.dwarf_eval.proofs.run.machine.Machine.take_number.Goals.{in-Add, in_default}
 
 summed : (x new : State) → IsWaiting x.status → (kind : WaitingKind) (number n : ℕ) (offset : ℤ) → n ≡ residue 64 offset → PushesAsAnswer (Ok (Generic ((number + n) % 2 ^ 64))) x new → TakesAnswer (Add offset) (NumberAnswer kind number) x new
 unfolding use_of
@@ -20,19 +21,21 @@ summed x new waits kind number n offset same h =
     value_takes x waits (Add offset) (NumberAnswer kind number) x.store.values (Generic ((number + n) % 2 ^ 64))
     (ap (λ (m : ℕ). PushesAnswer x.store.values (Generic m)) (sym (ap (λ (m : ℕ). (number + m) % 2 ^ 64) same ∙ residue-add 64 number offset))) x new refl h
 
-pub returns-in-Add : goal.returns-in-Add
-returns-in-Add g c = λ kind request on_answer open_now.
-    let x : State = c.args.self.now in
-    let fits : SFits w64 c.in-Add.offset = search rules in
-    subst (λ (o : OnAnswer). TakesAnswer o (NumberAnswer kind c.args.number) x c.push_answer.new.self)
-    (sym (ap (on_answer_of g.R.Reader.text) c.in-Add.is) ∙ sym (c.on_answer.ensures request on_answer open_now))
-    (summed x c.push_answer.new.self c.requires kind c.args.number c.cast_unsigned.result _
-    (passed-residue _ c.cast_unsigned.result fits c.cast_unsigned.ensures) c.push_answer.ensures)
-
-pub returns-in_default : goal.returns-in_default
-returns-in_default g c = λ kind request on_answer open_now.
+pub returns : goal.returns
+returns g c = λ kind request on_answer open_now.
     let text = g.R.Reader.text in
-    let x = c.args.self.now in
-    subst (λ (o : OnAnswer). TakesAnswer o (NumberAnswer kind c.args.number) x c.push_answer-in_default.new.self) (sym (c.on_answer.ensures request on_answer open_now))
-    (value_takes x c.requires (on_answer_of text c.on_answer.result.now) (NumberAnswer kind c.args.number) x.store.values (Generic c.args.number)
-    (plain _ x.store.values text kind (Generic 0) c.args.number c.on_answer.result.now c.in_default.not-Add).1 x c.push_answer-in_default.new.self refl c.push_answer-in_default.ensures)
+    let x : State = c.args.self.now in
+    let new : State = c.push_answer.new.self in
+    let open_is = sym (c.on_answer.ensures request on_answer open_now) in
+    elim c.match-on_answer.branch [
+      | in-Add w ↦
+          let fits : SFits w64 w.in-Add.offset = search rules in
+          subst (λ (o : OnAnswer). TakesAnswer o (NumberAnswer kind c.args.number) x new) (sym (ap (on_answer_of text) w.in-Add.is) ∙ open_is)
+          (summed x new c.requires kind c.args.number w.cast_unsigned.result _ (passed-residue _ w.cast_unsigned.result fits w.cast_unsigned.ensures)
+          (subst (λ (n : ℕ). PushesAsAnswer (Ok (Generic n)) x new) w.sum-is c.push_answer.ensures))
+      | in_default w ↦
+          subst (λ (o : OnAnswer). TakesAnswer o (NumberAnswer kind c.args.number) x new) open_is
+          (value_takes x c.requires (on_answer_of text c.on_answer.result.now) (NumberAnswer kind c.args.number) x.store.values (Generic c.args.number)
+          (plain _ x.store.values text kind (Generic 0) c.args.number c.on_answer.result.now w.in_default.not-Add).1 x new refl
+          (subst (λ (n : ℕ). PushesAsAnswer (Ok (Generic n)) x new) w.sum-is c.push_answer.ensures))
+    ]

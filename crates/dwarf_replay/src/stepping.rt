@@ -1,42 +1,11 @@
 //! One step of an evaluation.
 
-ghost use Rattle.dwarf_meaning.specs.Steps as meaning;
 ghost use Rattle.dwarf_replay.specs.Stepping.{IsStepped, step_of};
 
 use crate::steps::{Answer, Step, Stepped};
 use dwarf_base::Reader;
 use dwarf_eval::eval::{Evaluation, Status, WaitingKind};
 use dwarf_eval::store::EvaluationStorage;
-
-/// Sets the initial value, if that is allowed.
-fn try_initial_value<R: Reader + Copy, S: EvaluationStorage<R>>(
-    eval: &mut Evaluation<R, S>,
-    value: u64,
-) -> Stepped<R>
-    ensures { IsStepped R.text R.Offset.number
-        (meaning.InitialValue value) eval.old eval.new result }
-{
-    match eval.status() {
-        Status::Start { initial: false } => {
-            eval.set_initial_value(value);
-            Stepped::Set
-        }
-        _ => Stepped::Misplaced,
-    }
-}
-
-/// Evaluates, if that is allowed.
-fn try_evaluate<R: Reader + Copy, S: EvaluationStorage<R>>(
-    eval: &mut Evaluation<R, S>,
-) -> Stepped<R>
-    ensures { IsStepped R.text R.Offset.number meaning.Evaluate eval.old
-        eval.new result }
-{
-    match eval.status() {
-        Status::Waiting(_) => Stepped::Misplaced,
-        _ => Stepped::Answered(Answer(eval.evaluate())),
-    }
-}
 
 /// Takes one step of an evaluation, if it is allowed (DWARF 5, section 2.5).
 ///
@@ -50,7 +19,10 @@ pub fn take_step<R: Reader + Copy, S: EvaluationStorage<R>>(
         (step_of R.text step) eval.old eval.new result }
 {
     match step {
-        Step::InitialValue(value) => try_initial_value(eval, value),
+        Step::InitialValue(value) if matches!(eval.status(), Status::Start { initial: false }) => {
+            eval.set_initial_value(value);
+            Stepped::Set
+        }
         Step::ObjectAddress(address) => {
             eval.set_object_address(address);
             Stepped::Set
@@ -59,7 +31,9 @@ pub fn take_step<R: Reader + Copy, S: EvaluationStorage<R>>(
             eval.set_max_iterations(maximum);
             Stepped::Set
         }
-        Step::Evaluate => try_evaluate(eval),
+        Step::Evaluate if !matches!(eval.status(), Status::Waiting(_)) => {
+            Stepped::Answered(Answer(eval.evaluate()))
+        }
         Step::Memory(value) if eval.is_open_for(WaitingKind::Memory) => {
             Stepped::Answered(Answer(eval.resume_with_memory(value)))
         }

@@ -6,8 +6,6 @@ ghost use Rattle.dwarf_expr.specs.Evaluation.{IsClosed};
 mod registers;
 mod replays;
 mod requests;
-#[cfg(test)]
-mod tests;
 
 use crate::registers::complete_with_registers;
 use crate::replays::replay_bounded;

@@ -3,15 +3,15 @@
 ghost use Rattle.std.specs.Prelude.{◌≡◌, ◌<◌, ◌≤◌, [], None};
 ghost use Rattle.dwarf_expr.specs.Rest.{Start};
 
+use crate::base::{Encoding, Reader};
+use crate::eval::{Evaluation, Status};
+use crate::op::{Expression, Piece};
+use crate::replay::{Answer, Replayed, Step, Stepped, take_step};
+use crate::store::{ArrayLike, EvaluationStorage, OneInLine, SliceVec, StoreInSlices};
 use crate::tests::evaluation::{Bytes, FULL, little, replayed};
+use crate::value::Value::{self, Generic};
+use crate::value::ValueType;
 use arrayvec::ArrayVec;
-use dwarf_expr::base::{Encoding, Reader};
-use dwarf_expr::eval::{Evaluation, Status};
-use dwarf_expr::op::{Expression, Piece};
-use dwarf_expr::replay::{Answer, Replayed, Step, Stepped, take_step};
-use dwarf_expr::store::{ArrayLike, EvaluationStorage, OneInLine, SliceVec, StoreInSlices};
-use dwarf_expr::value::Value::{self, Generic};
-use dwarf_expr::value::ValueType;
 use std::alloc::{AllocError, Global};
 use std::process::Abort;
 

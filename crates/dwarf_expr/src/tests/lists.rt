@@ -2,11 +2,11 @@
 
 ghost use Rattle.std.specs.Prelude.{◌≡◌, [], None};
 
+use crate::base::Reader;
+use crate::op::Piece;
+use crate::store::{ArrayLike, EvaluationStorage, OneInLine};
 use crate::tests::allocators::{NEVER, RefusesGrowth};
-use dwarf_expr::base::Reader;
-use dwarf_expr::op::Piece;
-use dwarf_expr::store::{ArrayLike, EvaluationStorage, OneInLine};
-use dwarf_expr::value::Value;
+use crate::value::Value;
 use std::alloc::{Allocator, Global};
 use std::process::Abort;
 
@@ -36,10 +36,6 @@ impl<T: Copy> ArrayLike for RefusesOne<T> {
     ghost items = { λ list. list.items.items };
 
     ghost limit = { λ _. None };
-
-    fn len(&self) -> usize {
-        self.items.len()
-    }
 
     fn as_slice(&self) -> &[T] {
         self.items.as_slice()

@@ -3,11 +3,11 @@
 ghost use Rattle.std.specs.Prelude.{◌≡◌, [], None};
 ghost use Rattle.dwarf_expr.specs.Rest.{Start};
 
-use dwarf_expr::base::{Encoding, EndianSlice, Error, Format, Reader, RunTimeEndian};
-use dwarf_expr::eval::Evaluation;
-use dwarf_expr::op::EvaluationResult;
-use dwarf_expr::replay::{Answer, Replayed, Step, replay};
-use dwarf_expr::store::{ArrayLike, EvaluationStorage};
+use crate::base::{Encoding, EndianSlice, Error, Format, Reader, RunTimeEndian};
+use crate::eval::Evaluation;
+use crate::op::EvaluationResult;
+use crate::replay::{Answer, Replayed, Step, replay};
+use crate::store::{ArrayLike, EvaluationStorage};
 use std::alloc::Allocator;
 
 pub(crate) type Bytes<'a> = EndianSlice<'a, RunTimeEndian>;

@@ -3,13 +3,13 @@
 ghost use Rattle.std.specs.Prelude.{◌≡◌, None};
 ghost use Rattle.dwarf_expr.specs.Rest.{Start};
 
+use crate::base::Reader;
+use crate::eval::{Evaluation, Status, WaitingKind};
+use crate::op::{EvaluationResult, Location, Piece};
+use crate::replay::{Replayed, Step};
+use crate::store::{EvaluationStorage, StoreOnHeap};
 use crate::tests::evaluation::{SMALL, little, replayed};
-use dwarf_expr::base::Reader;
-use dwarf_expr::eval::{Evaluation, Status, WaitingKind};
-use dwarf_expr::op::{EvaluationResult, Location, Piece};
-use dwarf_expr::replay::{Replayed, Step};
-use dwarf_expr::store::{EvaluationStorage, StoreOnHeap};
-use dwarf_expr::value::Value::Generic;
+use crate::value::Value::Generic;
 use std::alloc::Global;
 use std::process::Abort;
 

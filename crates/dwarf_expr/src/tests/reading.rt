@@ -1,8 +1,6 @@
 //! Tests of reads and of offsets.
 
-use dwarf_expr::base::{
-    BigEndian, EndianSlice, Error, LittleEndian, Reader, ReaderOffset, reader_laws,
-};
+use crate::base::{BigEndian, EndianSlice, Error, LittleEndian, Reader, ReaderOffset, reader_laws};
 use std::process::Abort;
 
 #[test]

@@ -3,16 +3,16 @@
 ghost use Rattle.std.specs.Prelude.{◌≡◌, ◌<◌, ◌≤◌, [], None};
 ghost use Rattle.dwarf_expr.specs.Rest.{Start};
 
+use crate::base::{Encoding, Error, Format, Reader, UnitOffset};
+use crate::eval::{Evaluation, Status};
+use crate::op::{DieReference, EvaluationResult, Expression};
+use crate::replay::{Answer, Replayed, Step};
+use crate::store::{ArrayLike, EvaluationStorage};
 use crate::tests::allocators::{NEVER, RefusesGrowth};
 use crate::tests::cases::{LATER, read};
 use crate::tests::evaluation::{Bytes, COMPLETE, FULL, SMALL, little, replayed, replayed_on_heap};
 use crate::tests::lists::{ListsOfTests, RefusesOne};
-use dwarf_expr::base::{Encoding, Error, Format, Reader, UnitOffset};
-use dwarf_expr::eval::{Evaluation, Status};
-use dwarf_expr::op::{DieReference, EvaluationResult, Expression};
-use dwarf_expr::replay::{Answer, Replayed, Step};
-use dwarf_expr::store::{ArrayLike, EvaluationStorage};
-use dwarf_expr::value::Value::{self, Generic};
+use crate::value::Value::{self, Generic};
 use std::alloc::{AllocError, Allocator, Global};
 use std::process::Abort;
 

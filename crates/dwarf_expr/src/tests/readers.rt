@@ -3,7 +3,7 @@
 ghost use Rattle.std.specs.Prelude.{false};
 ghost use Rattle.dwarf_expr.specs.EndianSlice.{text_of};
 
-use dwarf_expr::base::{EndianSlice, LittleEndian, Reader, Result};
+use crate::base::{EndianSlice, LittleEndian, Reader, Result};
 use std::cell::Cell;
 
 /// A reader that counts how many bytes are read, and that drops all of them when a read fails.

@@ -21,7 +21,6 @@ ghost use Rattle.dwexpr.specs.inner.Outputs.{
   Prints,
   WritesEnding,
 };
-ghost use Rattle.dwexpr.specs.Endings as runs;
 ghost use Rattle.dwexpr.specs.Endings.{Ending, complete_ending};
 
 use crate::endings::{DONE, FAILED, bad_step, bad_words, misplaced_step, no_memory};

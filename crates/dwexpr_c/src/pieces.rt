@@ -4,7 +4,6 @@ ghost use Rattle.std.specs.Prelude.{◌≡◌, ◌<◌, is_some, true, false, ma
 ghost use Rattle.dwarf_meaning.specs.Locations.{HoldsBytes};
 ghost use Rattle.dwarf_op.specs.Views.{piece_of};
 ghost use Rattle.dwexpr_c.specs.Outcomes.{AreWritten, ShowsLocation, ShowsPiece, piece_of_kind};
-ghost use Rattle.dwexpr_c.specs.declared.piece_kinds.TheConstants as piece_kinds;
 ghost use Rattle.dwexpr_c.specs.CallerTexts.{text_of_placed, HoldsNowhere, IsNowhere, SomeNowhere};
 
 use crate::places::Placed;

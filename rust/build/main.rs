@@ -19,7 +19,7 @@ const BY_HAND: &[&str] =
 // Why lints are allowed: the functions that state laws aren't called, only a list on the heap hands out its pieces, and
 // opcodes have the standard's names.
 const ALLOWED: &str = "#![allow(dead_code, unused_imports, non_upper_case_globals)]
-#![allow(clippy::derivable_impls, clippy::module_inception, clippy::redundant_pattern_matching)]
+#![allow(clippy::manual_range_patterns, clippy::module_inception, clippy::redundant_pattern_matching)]
 #![allow(clippy::should_implement_trait, clippy::upper_case_acronyms)]";
 
 /// Adds `_unchecked` to the names of the public methods with this precondition, and to all calls of them. The code that

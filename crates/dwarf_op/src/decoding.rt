@@ -8,14 +8,15 @@ ghost use Rattle.dwarf_op.specs.inner.Entries.{FollowsOn, operand_of, operands_i
 ghost use Rattle.dwarf_op.specs.Views.{operation_of};
 
 use crate::operands::Shape::{
-    self, Absent, Address, AddressSize, I8, I16, I32, I64, Offset, PieceSize, Reference,
-    RegisterNumber, SectionOffset, Sleb128, U8, U16, U32, U64, Uleb128, WasmPlace,
+    self, Absent, Address, I8, I16, I32, I64, Offset, PieceSize, Reference, RegisterNumber,
+    SectionOffset, Sleb128, U8, U16, U32, U64, Uleb128, WasmIndex,
 };
 use crate::operands::{Operand, read_operand};
 use crate::operations::{DieReference, Operation};
 use dwarf_base::constants::*;
 use dwarf_base::{
-    DebugAddrIndex, DebugInfoOffset, DwOp, Encoding, Error, Reader, Register, Result, UnitOffset,
+    DebugAddrIndex, DebugInfoOffset, DwOp, Encoding, Error, Reader, ReaderOffset, Register, Result,
+    UnitOffset,
 };
 
 // The first and last opcode of each range.
@@ -66,7 +67,11 @@ fn read_row<R: Reader + Copy>(opcode: u8, bytes: &mut R, encoding: Encoding) -> 
 {
     match DwOp(opcode) {
         DW_OP_addr => one(Address, Maker::Address, bytes, encoding),
-        DW_OP_deref => one(AddressSize, Maker::Deref { space: false }, bytes, encoding),
+        DW_OP_deref => Ok(Operation::Deref {
+            size: encoding.address_size,
+            base_type: generic_type(),
+            space: false,
+        }),
         DW_OP_const1u => one(U8, Maker::UnsignedConstant, bytes, encoding),
         DW_OP_const1s => one(I8, Maker::SignedConstant, bytes, encoding),
         DW_OP_const2u => one(U16, Maker::UnsignedConstant, bytes, encoding),
@@ -83,7 +88,11 @@ fn read_row<R: Reader + Copy>(opcode: u8, bytes: &mut R, encoding: Encoding) -> 
         DW_OP_pick => one(U8, Maker::Pick, bytes, encoding),
         DW_OP_swap => Ok(Operation::Swap),
         DW_OP_rot => Ok(Operation::Rot),
-        DW_OP_xderef => one(AddressSize, Maker::Deref { space: true }, bytes, encoding),
+        DW_OP_xderef => Ok(Operation::Deref {
+            size: encoding.address_size,
+            base_type: generic_type(),
+            space: true,
+        }),
         DW_OP_abs => Ok(Operation::Abs),
         DW_OP_and => Ok(Operation::And),
         DW_OP_div => Ok(Operation::Div),
@@ -122,7 +131,7 @@ fn read_row<R: Reader + Copy>(opcode: u8, bytes: &mut R, encoding: Encoding) -> 
         DW_OP_regx => one(RegisterNumber, Maker::Register, bytes, encoding),
         DW_OP_fbreg => one(Sleb128, Maker::FrameOffset, bytes, encoding),
         DW_OP_bregx => second(
-            read_operand(RegisterNumber, bytes, encoding),
+            read_operand(RegisterNumber, Operand::none(), bytes, encoding),
             Sleb128,
             Maker::RegisterOffset,
             bytes,
@@ -139,14 +148,14 @@ fn read_row<R: Reader + Copy>(opcode: u8, bytes: &mut R, encoding: Encoding) -> 
         DW_OP_form_tls_address | DW_OP_GNU_push_tls_address => Ok(Operation::TLS),
         DW_OP_call_frame_cfa => Ok(Operation::CallFrameCFA),
         DW_OP_bit_piece => second(
-            read_operand(Uleb128, bytes, encoding),
+            read_operand(Uleb128, Operand::none(), bytes, encoding),
             Uleb128,
             Maker::BitPiece,
             bytes,
             encoding,
         ),
         DW_OP_implicit_value => block(
-            read_operand(Absent, bytes, encoding),
+            read_operand(Absent, Operand::none(), bytes, encoding),
             Offset,
             BlockMaker::ImplicitValue,
             bytes,
@@ -154,7 +163,7 @@ fn read_row<R: Reader + Copy>(opcode: u8, bytes: &mut R, encoding: Encoding) -> 
         ),
         DW_OP_stack_value => Ok(Operation::StackValue),
         DW_OP_implicit_pointer | DW_OP_GNU_implicit_pointer => second(
-            read_operand(Reference, bytes, encoding),
+            read_operand(Reference, Operand::none(), bytes, encoding),
             Sleb128,
             Maker::ImplicitPointer,
             bytes,
@@ -163,35 +172,35 @@ fn read_row<R: Reader + Copy>(opcode: u8, bytes: &mut R, encoding: Encoding) -> 
         DW_OP_addrx | DW_OP_GNU_addr_index => one(Offset, Maker::AddressIndex, bytes, encoding),
         DW_OP_constx | DW_OP_GNU_const_index => one(Offset, Maker::ConstantIndex, bytes, encoding),
         DW_OP_entry_value | DW_OP_GNU_entry_value => block(
-            read_operand(Absent, bytes, encoding),
+            read_operand(Absent, Operand::none(), bytes, encoding),
             Offset,
             BlockMaker::EntryValue,
             bytes,
             encoding,
         ),
         DW_OP_const_type | DW_OP_GNU_const_type => block(
-            read_operand(Offset, bytes, encoding),
+            read_operand(Offset, Operand::none(), bytes, encoding),
             U8,
             BlockMaker::TypedLiteral,
             bytes,
             encoding,
         ),
         DW_OP_regval_type | DW_OP_GNU_regval_type => second(
-            read_operand(RegisterNumber, bytes, encoding),
+            read_operand(RegisterNumber, Operand::none(), bytes, encoding),
             Offset,
             Maker::RegisterOffset,
             bytes,
             encoding,
         ),
         DW_OP_deref_type | DW_OP_GNU_deref_type => second(
-            read_operand(U8, bytes, encoding),
+            read_operand(U8, Operand::none(), bytes, encoding),
             Offset,
             Maker::Deref { space: false },
             bytes,
             encoding,
         ),
         DW_OP_xderef_type => second(
-            read_operand(U8, bytes, encoding),
+            read_operand(U8, Operand::none(), bytes, encoding),
             Offset,
             Maker::Deref { space: true },
             bytes,
@@ -204,7 +213,13 @@ fn read_row<R: Reader + Copy>(opcode: u8, bytes: &mut R, encoding: Encoding) -> 
             bytes,
             encoding,
         ),
-        DW_OP_WASM_location => one(WasmPlace, Maker::Wasm, bytes, encoding),
+        DW_OP_WASM_location => second(
+            read_operand(U8, Operand::none(), bytes, encoding),
+            WasmIndex,
+            Maker::Wasm,
+            bytes,
+            encoding,
+        ),
         DW_OP_GNU_uninit => Ok(Operation::Uninitialized),
         DW_OP_GNU_parameter_ref => one(U32, Maker::ParameterRef, bytes, encoding),
         DW_OP_GNU_variable_value => one(SectionOffset, Maker::VariableValue, bytes, encoding),
@@ -225,7 +240,7 @@ fn one<R: Reader + Copy>(
         (R.text bytes.old) (R.text bytes.new) result
         (operands_in R.Offset.BITS (R.text bytes.old) (row_of_one encoding shape maker)) }
 {
-    let operand = read_operand(shape, bytes, encoding)?;
+    let operand = read_operand(shape, Operand::none(), bytes, encoding)?;
     Ok(make(maker, operand, Operand::none()))
 }
 
@@ -243,7 +258,7 @@ fn second<R: Reader + Copy>(
         (R.text bytes.old) (R.text bytes.new) first result (row_of_second encoding shape maker) }
 {
     let first = first?;
-    let second = read_operand(shape, bytes, encoding)?;
+    let second = read_operand(shape, first, bytes, encoding)?;
     Ok(make(maker, first, second))
 }
 
@@ -262,7 +277,7 @@ fn block<R: Reader + Copy>(
         (R.text bytes.old) (R.text bytes.new) before result (row_of_block encoding size maker) }
 {
     let before = before?;
-    let size = read_operand(size, bytes, encoding)?;
+    let size = read_operand(size, before, bytes, encoding)?;
     let block = bytes.split(size.offset)?;
     Ok(match maker {
         BlockMaker::ImplicitValue => Operation::ImplicitValue { bytes: block },
@@ -313,6 +328,14 @@ enum BlockMaker {
     ImplicitValue,
     EntryValue,
     TypedLiteral,
+}
+
+/// The generic type: the base type at offset 0.
+#[inline(always)]
+fn generic_type<O: ReaderOffset>() -> UnitOffset<O>
+    ensures { O.number result.0 ≡ 0 }
+{
+    UnitOffset(O::from_u8(0))
 }
 
 /// Makes the operation from one or two operands. The base type 0 is the generic type.
@@ -400,8 +423,8 @@ fn make<R: Reader>(
             base_type: UnitOffset(first.offset),
         },
         Maker::Wasm => {
-            let index = first.index;
-            match first.byte {
+            let index = second.index;
+            match second.byte {
                 0 => Operation::WasmLocal { index },
                 2 => Operation::WasmStack { index },
                 _ => Operation::WasmGlobal { index },

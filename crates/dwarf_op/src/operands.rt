@@ -10,8 +10,6 @@ use dwarf_base::{Encoding, Error, Reader, ReaderOffset, Register, Result, consta
 pub(crate) enum Shape {
     /// There is no operand.
     Absent,
-    /// There is no operand; the size of an address stands for it.
-    AddressSize,
     U8,
     U16,
     U32,
@@ -33,8 +31,9 @@ pub(crate) enum Shape {
     /// An offset into `.debug_info`: like `SectionOffset`, but in version 2 as wide as an address.
     Reference,
     Address,
-    /// The place of a WebAssembly value: a byte that says which kind it is and how its index is encoded, and the index.
-    WasmPlace,
+    /// The index of a WebAssembly value. The byte before it says which kind of value it is, and how the index is
+    /// encoded.
+    WasmIndex,
 }
 
 /// An operand, in every type that a field of an operation may have. A field that its shape doesn't set is zero.
@@ -67,21 +66,22 @@ impl<O: ReaderOffset> Operand<O> {
     }
 }
 
-/// Reads an operand of this shape.
+/// Reads an operand of this shape. `before` is the operand before it, if there is one.
 #[tactic(auto, using(dwarf_base::proofs::FixedNumbers::fixed_one, dwarf_base::proofs::Suffixes::suffix_trans))]
 #[inline(always)]
 pub(crate) fn read_operand<R: Reader + Copy>(
     shape: Shape,
+    before: Operand<R::Offset>,
     bytes: &mut R,
     encoding: Encoding,
 ) -> Result<Operand<R::Offset>>
     ensures { GoesOn R.Offset.BITS (operand_of R.Offset.number)
-        (R.text bytes.old) (R.text bytes.new) result (shape_row encoding shape) }
+        (R.text bytes.old) (R.text bytes.new) result
+        (shape_row encoding shape (operand_of R.Offset.number before)) }
 {
     let mut operand = Operand::none();
     match shape {
         Shape::Absent => {}
-        Shape::AddressSize => operand.byte = encoding.address_size,
         Shape::U8 => {
             operand.byte = bytes.read_u8()?;
             operand.unsigned = u64::from(operand.byte);
@@ -120,9 +120,9 @@ pub(crate) fn read_operand<R: Reader + Copy>(
         }
         Shape::Reference => operand.offset = bytes.read_offset(encoding.format)?,
         Shape::Address => operand.unsigned = bytes.read_address(encoding.address_size)?,
-        Shape::WasmPlace => {
-            operand.byte = bytes.read_u8()?;
-            operand.index = match operand.byte {
+        Shape::WasmIndex => {
+            operand.byte = before.byte;
+            operand.index = match before.byte {
                 0 | 1 | 2 => bytes.read_uleb128_u32()?,
                 3 => bytes.read_u32()?,
                 _ => return Err(Error::InvalidExpression(constants::DW_OP_WASM_location)),

@@ -51,35 +51,34 @@ wasm_index_row kind next =
     ∷ one 2 (Unsigned (Leb128, U32) (λ n. next (record no_operand { byte = 2; index = n })))
     ∷ one 3 (Unsigned (Bytes 4, Any) (λ n. next (record no_operand { byte = 3; index = n }))) ∷ [])
 
--- the row of an operand in its shape, and then of `next`
-abbrev pub shape_row : Encoding → Shape → (Operand ℕ → Row) → Row
-shape_row encoding shape.Absent next = next no_operand
-shape_row encoding shape.AddressSize next = next (record no_operand { byte = encoding.address_size })
-shape_row encoding shape.U8 next =
+-- the row of an operand in its shape, and then of `next`; `before` is the operand before it
+abbrev pub shape_row : Encoding → Shape → (before : Operand ℕ) → (Operand ℕ → Row) → Row
+shape_row encoding shape.Absent before next = next no_operand
+shape_row encoding shape.U8 before next =
     Unsigned (Bytes 1, Any) (λ n. next (record no_operand { byte = n; unsigned = n; offset = n }))
-shape_row encoding shape.U16 next =
+shape_row encoding shape.U16 before next =
     Unsigned (Bytes 2, Any) (λ n. next (record no_operand { unsigned = n; offset = n }))
-shape_row encoding shape.U32 next =
+shape_row encoding shape.U32 before next =
     Unsigned (Bytes 4, Any) (λ n. next (record no_operand { unsigned = n; offset = n }))
-shape_row encoding shape.U64 next = Unsigned (Bytes 8, Any) (λ n. next (record no_operand { unsigned = n }))
-shape_row encoding shape.I8 next = Signed (Bytes 1) (λ n. next (record no_operand { signed = n }))
-shape_row encoding shape.I16 next = Signed (Bytes 2) (λ n. next (record no_operand { short = n; signed = n }))
-shape_row encoding shape.I32 next = Signed (Bytes 4) (λ n. next (record no_operand { signed = n }))
-shape_row encoding shape.I64 next = Signed (Bytes 8) (λ n. next (record no_operand { signed = n }))
-shape_row encoding shape.Uleb128 next = Unsigned (Leb128, Any) (λ n. next (record no_operand { unsigned = n }))
-shape_row encoding shape.Sleb128 next = Signed Leb128 (λ n. next (record no_operand { signed = n }))
-shape_row encoding shape.Offset next = Unsigned (Leb128, Offset) (λ n. next (record no_operand { offset = n }))
-shape_row encoding shape.RegisterNumber next =
+shape_row encoding shape.U64 before next = Unsigned (Bytes 8, Any) (λ n. next (record no_operand { unsigned = n }))
+shape_row encoding shape.I8 before next = Signed (Bytes 1) (λ n. next (record no_operand { signed = n }))
+shape_row encoding shape.I16 before next = Signed (Bytes 2) (λ n. next (record no_operand { short = n; signed = n }))
+shape_row encoding shape.I32 before next = Signed (Bytes 4) (λ n. next (record no_operand { signed = n }))
+shape_row encoding shape.I64 before next = Signed (Bytes 8) (λ n. next (record no_operand { signed = n }))
+shape_row encoding shape.Uleb128 before next = Unsigned (Leb128, Any) (λ n. next (record no_operand { unsigned = n }))
+shape_row encoding shape.Sleb128 before next = Signed Leb128 (λ n. next (record no_operand { signed = n }))
+shape_row encoding shape.Offset before next = Unsigned (Leb128, Offset) (λ n. next (record no_operand { offset = n }))
+shape_row encoding shape.RegisterNumber before next =
     Unsigned (Leb128, Register) (λ n. next (record no_operand { register = record { 0 = n } }))
-shape_row encoding shape.PieceSize next =
+shape_row encoding shape.PieceSize before next =
     Unsigned (Leb128, PieceSize) (λ n. next (record no_operand { unsigned = 8 * n }))
-shape_row encoding shape.SectionOffset next =
+shape_row encoding shape.SectionOffset before next =
     Unsigned (Bytes (offset_size encoding.format), Offset) (λ n. next (record no_operand { offset = n }))
-shape_row encoding shape.Reference next =
+shape_row encoding shape.Reference before next =
     Unsigned (Bytes (ref_size encoding), Offset) (λ n. next (record no_operand { offset = n }))
-shape_row encoding shape.Address next =
+shape_row encoding shape.Address before next =
     Unsigned (Bytes encoding.address_size, Any) (λ n. next (record no_operand { unsigned = n }))
-shape_row encoding shape.WasmPlace next = Unsigned (Bytes 1, Any) (λ kind. wasm_index_row kind next)
+shape_row encoding shape.WasmIndex before next = wasm_index_row before.byte next
 
 -- After one operand is read, reading its row and any row `next` comes to reading `next` from there on; or to the same
 -- fault.
@@ -130,7 +129,7 @@ operation_by maker.AddressIndex first second = meaning.AddressIndex first.offset
 operation_by maker.ConstantIndex first second = meaning.ConstantIndex first.offset
 operation_by maker.Convert first second = meaning.Convert first.offset
 operation_by maker.Reinterpret first second = meaning.Reinterpret first.offset
-operation_by maker.Wasm first second = wasm_operation first.byte first.index
+operation_by maker.Wasm first second = wasm_operation second.byte second.index
 operation_by maker.VariableValue first second = meaning.VariableValue first.offset
 
 -- the operation that a block makes, with the operand before its size
@@ -144,17 +143,17 @@ block_operation block_maker.TypedLiteral first block = meaning.TypedLiteral firs
 -- one operand
 abbrev pub row_of_one : Encoding → Shape → Maker → Row
 row_of_one encoding shape make =
-    shape_row encoding shape (λ a. Makes (operation_by make a no_operand))
+    shape_row encoding shape no_operand (λ a. Makes (operation_by make a no_operand))
 
 -- the row after a first operand: the second operand
 abbrev pub row_of_second : Encoding → Shape → Maker → (first : Operand ℕ) → Row
 row_of_second encoding shape make first =
-    shape_row encoding shape (λ b. Makes (operation_by make first b))
+    shape_row encoding shape first (λ b. Makes (operation_by make first b))
 
 -- the row after an operand, or after none: the size of a block, and the block
 abbrev pub row_of_block : Encoding → (size : Shape) → BlockMaker → (before : Operand ℕ) → Row
 row_of_block encoding size make before =
-    shape_row encoding size
+    shape_row encoding size before
     (λ b. Block b.offset (λ block. Makes (block_operation make before block)))
 
 -- reads the operands of a row at the front of a text

@@ -7,7 +7,6 @@ pub returns : goal.returns
 returns g c =
     elim c.match-shape.branch [
       | goal.in-Absent w ↦ search rules
-      | goal.in-AddressSize w ↦ search rules
       | goal.in-U8+in_ok-operand-in-U8 w ↦ search (rules, fixed_one)
       | goal.in-U16+in_ok-number-in-U16 w ↦ search rules
       | goal.in-U32+in_ok-number-in-U32 w ↦ search rules
@@ -25,8 +24,8 @@ returns g c =
       | goal.in-Reference+in_ok-address-in-Reference+in_ok-operand-in-Reference w ↦ search rules
       | goal.in-Reference-2+in_ok-operand-in-Reference-2 w ↦ search rules
       | goal.in-Address+in_ok-operand-in-Address w ↦ search rules
-      | goal.in-WasmPlace+in_ok-operand-in-WasmPlace+in-3+in_ok-read_u32-in-3 w ↦
+      | goal.in-WasmIndex+in-3+in_ok-read_u32-in-3 w ↦
           search (rules, fixed_one, suffix_trans)
-      | goal.in-WasmPlace+in_ok-operand-in-WasmPlace+in-0+in_ok-operand-in-0 w ↦
+      | goal.in-WasmIndex+in-0+in_ok-operand-in-0 w ↦
           search (rules, fixed_one, suffix_trans)
     ]

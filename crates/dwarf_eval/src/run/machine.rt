@@ -513,5 +513,7 @@ fn clear<L: ArrayLike>(list: &mut L)
     ensures items { L.items list.new ≡ [] }
     ensures limit { L.limit list.new ≡ L.limit list.old }
 {
-    while list.pop().is_some() {}
+    while list.len() != 0 {
+        list.pop();
+    }
 }

@@ -5,6 +5,7 @@ use crate::sources::eval::store::List as _;
 use crate::storage::{ArrayLike, EvaluationStorage};
 use crate::{Encoding, Error, EvaluationResult, Format, Piece, Reader, Result, Value, ValueType};
 use core::fmt;
+use core::mem::needs_drop;
 
 /// Whether the sources' calls accept an encoding. If not, they get `PLACEHOLDER` instead.
 #[inline]
@@ -80,6 +81,10 @@ impl<R: Reader, S: EvaluationStorage<R>> Evaluation<R, S> {
     /// Makes this a fresh evaluation of another `bytecode`, over the same lists, which keep their memory. It may be
     /// called at any time, also after a fault. Every setting is unset. gimli has no such call.
     ///
+    /// It drops all readers that the evaluation had. A lent list ([`SliceVec`](crate::SliceVec)) keeps popped readers in
+    /// its slots. So if readers need to be dropped, each slot is overwritten: a caller's with clones of `bytecode`, and
+    /// a piece's with an empty piece.
+    ///
     /// ```
     /// # #[cfg(feature = "alloc")] {
     /// use dwexpr::{EndianSlice, Encoding, Error, Evaluation, Format, LittleEndian, Value};
@@ -99,11 +104,27 @@ impl<R: Reader, S: EvaluationStorage<R>> Evaluation<R, S> {
     /// ```
     #[inline]
     pub fn restart(&mut self, bytecode: R, encoding: Encoding) {
+        if const { needs_drop::<R>() && (S::ExpressionStack::KEEPS_POPPED || S::Result::KEEPS_POPPED) } {
+            self.overwrite_slots(&bytecode);
+        }
         if is_taken(encoding) {
             return self.restart_unchecked(bytecode, encoding);
         }
         self.restart_unchecked(bytecode, PLACEHOLDER);
         self.refuse(encoding);
+    }
+
+    /// Overwrites each slot of the lists that keep popped readers: fills them with callers that are clones of `bytecode`,
+    /// and with empty pieces. A restart has to follow, which empties the lists again.
+    #[inline(never)]
+    fn overwrite_slots(&mut self, bytecode: &R) {
+        self.restart_unchecked(bytecode.clone(), PLACEHOLDER);
+        if S::ExpressionStack::KEEPS_POPPED {
+            while self.machine.push_caller(bytecode.clone()) {}
+        }
+        if S::Result::KEEPS_POPPED {
+            while self.machine.push_piece(Piece::default()) {}
+        }
     }
 
     /// Sets the value with which the stack starts: the object's address, for `DW_AT_data_member_location` and

@@ -44,6 +44,10 @@ pub trait ArrayLike: sealed::Sealed {
     #[doc(hidden)]
     type Pieces: List<Item = Self::Item> + From<Self::List>;
 
+    // Whether an item that is popped stays in its slot.
+    #[doc(hidden)]
+    const KEEPS_POPPED: bool = false;
+
     #[doc(hidden)]
     fn new_list() -> Self::List;
 }
@@ -127,6 +131,8 @@ impl<'a, T: Clone> ArrayLike for SliceVec<'a, T> {
     type Item = T;
     type List = SliceVec<'a, T>;
     type Pieces = SliceVec<'a, T>;
+
+    const KEEPS_POPPED: bool = true;
 
     #[inline]
     fn new_list() -> SliceVec<'a, T> {

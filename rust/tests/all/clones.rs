@@ -1,9 +1,15 @@
 //! How often each crate clones a reader. With an `Arc`, each clone and each drop changes its count.
 
 use super::interop::ENCODING;
-use dwexpr::{Evaluation, GimliReader};
+use dwexpr::EvaluationResult::*;
+use dwexpr::{
+    Encoding, Error, Evaluation, EvaluationStorage, GimliReader, Location, Piece, Reader, SliceVec, Status,
+    StoreInSlices, Value, ValueType,
+};
 use gimli::{EndianArcSlice, LittleEndian};
+use std::array;
 use std::cell::Cell;
+use std::marker::PhantomData;
 use std::sync::Arc;
 
 thread_local! {
@@ -172,37 +178,184 @@ fn no_operation_is_read_with_a_clone() {
     }
 }
 
-/// Wherever an evaluation is restarted, it drops every reader except the new one.
-#[test]
-fn a_restart_lets_go_of_each_reader() {
-    let reader = |bytes: &Arc<[u8]>| GimliReader(EndianArcSlice::new(bytes.clone(), LittleEndian));
+type OverArc = GimliReader<EndianArcSlice<LittleEndian>>;
+
+fn over(bytes: &Arc<[u8]>) -> OverArc {
+    GimliReader(EndianArcSlice::new(bytes.clone(), LittleEndian))
+}
+
+/// Evaluates, and answers the first requests, a call by `called`. The last reply is dropped.
+fn answer<S: EvaluationStorage<OverArc>>(it: &mut Evaluation<OverArc, S>, answers: usize, called: &Arc<[u8]>) {
+    let mut reply = it.evaluate();
+    for _ in 0..answers {
+        reply = match reply {
+            Ok(RequiresBaseType(_)) => it.resume_with_base_type(ValueType::U64),
+            Ok(RequiresEntryValue(_)) => it.resume_with_entry_value(Value::Generic(1)),
+            Ok(RequiresAtLocation(_)) => it.resume_with_at_location(over(called)),
+            other => other,
+        };
+    }
+}
+
+/// Wherever an evaluation is restarted, it drops every reader except the new one. Of that each of the `slots` for a
+/// caller has two clones.
+fn lets_go_of_each_reader<S: EvaluationStorage<OverArc>>(mut it: Evaluation<OverArc, S>, slots: usize) {
     for text in [
-        // Bytes, also in two pieces, and in a location that no piece follows.
+        // Bytes, also in two pieces or three, and in a location that no piece follows.
         &[0x9e, 2, 1, 2][..],
         &[0x9e, 1, 1, 0x93, 1, 0x9e, 1, 2, 0x93, 1],
+        &[0x9e, 1, 1, 0x93, 1, 0x9e, 1, 2, 0x93, 1, 0x9e, 1, 3, 0x93, 1],
         &[0x9e, 1, 1, 0x96],
-        // A literal of a type, cut off; an entry value, before and after its answer; and calls.
+        // A literal of a type, cut off; an entry value, before and after its answer; and calls, also of pieces.
         &[0xa4, 3, 1, 2],
         &[0xa3, 1, 0x50, 0x9f],
         &[0x98, 5, 0, 0x31],
         &[0x98, 5, 0, 0x98, 5, 0, 0x31],
+        &[0x9e, 1, 1, 0x93, 1, 0x98, 5, 0, 0x93, 1],
+        // A fault after a piece of bytes, also in a called expression.
+        &[0x9e, 1, 1, 0x93, 1, 0x22],
+        &[0x9e, 1, 1, 0x93, 1, 0x98, 5, 0, 0x22],
     ] {
-        for answers in 0..4 {
+        for (answers, address_size) in (0..5).flat_map(|answers| [(answers, 8), (answers, 0)]) {
             let [first, called, second]: [Arc<[u8]>; 3] = [text, text, &[0x31]].map(Arc::from);
-            let mut evaluation = Evaluation::new(reader(&first), ENCODING.into());
-            let mut reply = evaluation.evaluate();
-            for _ in 0..answers {
-                use dwexpr::EvaluationResult::*;
-                reply = match reply {
-                    Ok(RequiresBaseType(_)) => evaluation.resume_with_base_type(dwexpr::ValueType::U64),
-                    Ok(RequiresEntryValue(_)) => evaluation.resume_with_entry_value(dwexpr::Value::Generic(1)),
-                    Ok(RequiresAtLocation(_)) => evaluation.resume_with_at_location(reader(&called)),
-                    other => other,
-                };
-            }
-            drop(reply);
-            evaluation.restart(reader(&second), ENCODING.into());
-            assert_eq!([first, called].map(|it| Arc::strong_count(&it)), [1, 1], "{text:x?} after {answers} answers");
+            it.restart(over(&first), ENCODING.into());
+            answer(&mut it, answers, &called);
+            // Also with an encoding that is refused.
+            it.restart(over(&second), Encoding { address_size, ..ENCODING.into() });
+            let counts = [first, called, second].map(|it| Arc::strong_count(&it));
+            assert_eq!(counts, [1, 1, 1 + 2 + 2 * slots], "{text:x?} after {answers} answers");
         }
     }
+}
+
+#[test]
+fn a_restart_lets_go_of_each_reader() {
+    let text = Arc::from([0x31]);
+    lets_go_of_each_reader(Evaluation::new(over(&text), ENCODING.into()), 0);
+    assert_eq!(Arc::strong_count(&text), 1);
+}
+
+#[cfg(feature = "arrayvec")]
+#[test]
+fn a_restart_over_arrays_lets_go_of_each_reader() {
+    struct InArrays;
+
+    impl<R: Reader> EvaluationStorage<R> for InArrays {
+        type Stack = [Value; 4];
+        type ExpressionStack = [(R, R); 2];
+        type Result = [Piece<R>; 2];
+    }
+
+    let text = Arc::from([0x31]);
+    lets_go_of_each_reader(Evaluation::<_, InArrays>::new_in(over(&text), ENCODING.into()), 0);
+    assert_eq!(Arc::strong_count(&text), 1);
+}
+
+/// Slots for callers and pieces, all with readers of these bytes.
+fn slots<const C: usize, const P: usize>(bytes: &Arc<[u8]>) -> ([(OverArc, OverArc); C], [Piece<OverArc>; P]) {
+    let piece = |_| Piece { location: Location::Bytes { value: over(bytes) }, ..Piece::default() };
+    (array::from_fn(|_| (over(bytes), over(bytes))), array::from_fn(piece))
+}
+
+#[test]
+fn a_restart_over_lent_lists_lets_go_of_each_reader() {
+    fn lets_go<const C: usize, const P: usize>() {
+        let text = Arc::from([0x31]);
+        let (mut values, (mut callers, mut pieces)) = ([Value::default(); 4], slots::<C, P>(&text));
+        let it = Evaluation::<_, StoreInSlices>::with_lists(
+            over(&text),
+            ENCODING.into(),
+            SliceVec::new(&mut values),
+            SliceVec::new(&mut callers),
+            SliceVec::new(&mut pieces),
+        );
+        lets_go_of_each_reader(it, C);
+        // What the slots had before is dropped too.
+        assert_eq!(Arc::strong_count(&text), 1);
+    }
+    lets_go::<0, 0>();
+    lets_go::<1, 0>();
+    lets_go::<0, 1>();
+    lets_go::<2, 2>();
+    lets_go::<5, 5>();
+}
+
+/// One list is lent, and the others are on the heap.
+#[test]
+fn a_restart_lets_go_of_each_reader_if_one_list_is_lent() {
+    struct LentCallers<'a>(PhantomData<&'a ()>);
+
+    impl<'a, R: Reader + 'a> EvaluationStorage<R> for LentCallers<'a> {
+        type Stack = Vec<Value>;
+        type ExpressionStack = SliceVec<'a, (R, R)>;
+        type Result = Vec<Piece<R>>;
+    }
+
+    struct LentPieces<'a>(PhantomData<&'a ()>);
+
+    impl<'a, R: Reader + 'a> EvaluationStorage<R> for LentPieces<'a> {
+        type Stack = Vec<Value>;
+        type ExpressionStack = Vec<(R, R)>;
+        type Result = SliceVec<'a, Piece<R>>;
+    }
+
+    let text = Arc::from([0x31]);
+    let (mut callers, mut pieces) = slots::<2, 2>(&text);
+    let (callers, pieces) = (SliceVec::new(&mut callers), SliceVec::new(&mut pieces));
+    let encoding = ENCODING.into();
+    let it = Evaluation::<_, LentCallers>::with_lists(over(&text), encoding, Vec::new(), callers, Vec::new());
+    lets_go_of_each_reader(it, 2);
+    let it = Evaluation::<_, LentPieces>::with_lists(over(&text), encoding, Vec::new(), Vec::new(), pieces);
+    lets_go_of_each_reader(it, 0);
+    assert_eq!(Arc::strong_count(&text), 1);
+}
+
+/// After a restart, lists that are lent take as many callers and pieces as before, and no more.
+#[test]
+fn a_restart_keeps_the_capacity_of_lent_lists() {
+    // DW_OP_call2, and DW_OP_nop after it.
+    let [caller, called]: [Arc<[u8]>; 2] = [&[0x98, 1, 0, 0x96][..], &[0x31]].map(Arc::from);
+    let (mut values, (mut callers, mut pieces)) = ([Value::default(); 1], slots::<2, 2>(&called));
+    let mut it = Evaluation::<_, StoreInSlices>::with_lists(
+        over(&caller),
+        ENCODING.into(),
+        SliceVec::new(&mut values),
+        SliceVec::new(&mut callers),
+        SliceVec::new(&mut pieces),
+    );
+    for (count, result) in [(2, Ok(Complete)), (3, Err(Error::StackFull)), (2, Ok(Complete))] {
+        it.restart(over(&caller), ENCODING.into());
+        assert_eq!(it.status(), Status::Start { initial: false });
+        answer(&mut it, count - 1, &caller);
+        assert_eq!(it.resume_with_at_location(over(&called)), result);
+        assert_eq!(it.status() == Status::Complete && it.value_result() == Some(Value::Generic(1)), result.is_ok());
+        // DW_OP_implicit_value of one byte, and DW_OP_piece 1.
+        it.restart(over(&[0x9e, 1, 7, 0x93, 1].repeat(count).into()), ENCODING.into());
+        assert_eq!(it.evaluate(), result);
+        if result.is_ok() {
+            let is_byte =
+                |it: &Piece<OverArc>| matches!(&it.location, Location::Bytes { value } if value.bytes() == [7]);
+            assert!(it.as_result().len() == count && it.as_result().iter().all(is_byte));
+        }
+    }
+    // The slices are the caller's: when the evaluation ends, they keep what is in them.
+    it.restart(over(&called), ENCODING.into());
+    drop(it);
+    assert_eq!(Arc::strong_count(&called), 1 + 2 * callers.len());
+    assert!(pieces.iter().all(|it| *it == Piece::default()));
+}
+
+/// A reader that needs no drop is cloned once for a restart, whichever lists there are.
+#[test]
+fn a_restart_overwrites_no_slots_without_need() {
+    let text = GimliReader(counting(&[0x31]));
+    let mut callers = array::from_fn::<_, 8, _>(|_| (text.clone(), text.clone()));
+    let mut it = Evaluation::<_, StoreInSlices>::with_lists(
+        text.clone(),
+        ENCODING.into(),
+        SliceVec::new(&mut []),
+        SliceVec::new(&mut callers),
+        SliceVec::new(&mut []),
+    );
+    assert_eq!(clones_of(|| it.restart(text, ENCODING.into())), 1);
 }

@@ -10,7 +10,8 @@ use std::marker::Model;
 /// Nothing is allocated or set to zero.
 ///
 /// A popped item stays in its slot until another item overwrites it. So in Rust a popped reader isn't dropped: one that
-/// has an `Arc` still counts as its owner. To drop such readers, the owner of the slice overwrites the slots.
+/// has an `Arc` still counts as its owner. There, `Evaluation::restart` overwrites all slots if readers need to be
+/// dropped. When an evaluation ends, the slots keep their items until the owner of the slice drops or overwrites them.
 #[derive(Drop)]
 pub struct SliceVec<'a, T> {
     slots: &'a mut [T],

@@ -1,9 +1,8 @@
 -- Suffixes of bytes, and the prefixes that are taken before them.
-use Rattle.std.proofs.Common.{ℕ, ◌≡◌, ◌+◌, ◌-◌, List, [], length, drop, arith, ap, ◌∙◌, sym, ◌≤◌, ◌<◌, take, Result, Ok, Err, inl, inr}
-use Rattle.std.proofs.lemmas.List.{drop_all, length-take-le}
+use Rattle.std.proofs.Common.{ℕ, ◌≡◌, ◌+◌, ◌-◌, List, [], length, drop, arith, ap, ◌∙◌, sym, ◌≤◌, ◌<◌, take, Result, Ok, Err}
+use Rattle.std.proofs.lemmas.List.{drop_all}
 use Rattle.std.proofs.Math.Seq.{drop-drop}
 use Rattle.dwarf_base.specs.Reads.{IsSuffix, split_at}
-use Rattle.std.proofs.lemmas.Bool.{cases_lt}
 use Rattle.std.proofs.lemmas.Bool.Decides.{nat_tests}
 use Rattle.dwarf_base.specs.Faults.{Fault, past_the_end}
 
@@ -37,12 +36,3 @@ split_short n bytes h = grind (arith, nat_tests)
 
 pub split_long : (n : ℕ) (bytes : List ℕ) → n ≤ length bytes → split_at n bytes ≡ Ok (take n bytes, drop n bytes)
 split_long n bytes h = grind (arith, nat_tests)
-
-pub length_taken : (n : ℕ) (bytes front rest : List ℕ) → split_at n bytes ≡ Ok (front, rest) → length front ≡ n
-length_taken n bytes front rest h =
-    elim (cases_lt (length bytes) n) [
-      | inl short ↦ absurd (cc (split_short n bytes short))
-      | inr long ↦
-          let pair = ok_pair _ _ _ _ (sym (split_long n bytes long) ∙ h) in
-          ap length (sym pair.0) ∙ length-take-le n bytes long
-    ]

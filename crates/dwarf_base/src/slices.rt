@@ -123,6 +123,7 @@ impl<'input, E: Endianity> Reader for EndianSlice<'input, E> {
     }
 
     #[inline]
+    #[tactic(auto, using(crate::proofs::FixedNumbers::fixed_numbers), unfolding(crate::specs::Reads::fixed_at))]
     fn read_fixed(&mut self, n: u8) -> Result<u64>
         requires { IsTrue (is_fixed_size n) }
         ensures reads { Reads (λ x. x) (text_of E.is_big self.old) (text_of E.is_big self.new) result

@@ -15,8 +15,8 @@ const CRATES: &[(&str, &str)] = &[
     ("dwarf_replay", "replay"),
     ("dwexpr_c", "c"),
 ];
-// Their lists take an allocator, and C has none.
-const LEFT_OUT: &[&str] = &["dwarf_eval/src/store/heap.rt", "dwarf_eval/src/eval/heap.rt"];
+// Lists that take an allocator, which C hasn't, and tests.
+const LEFT_OUT: &[&str] = &["dwarf_eval/src/store/heap.rt", "dwarf_eval/src/eval/heap.rt", "dwarf_replay/src/tests"];
 // Much in these crates is only for Rust.
 const ALLOWED: &str = "#![allow(dead_code, unused_imports, unused_variables, non_upper_case_globals, clippy::all)]";
 

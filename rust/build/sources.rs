@@ -84,18 +84,20 @@ pub struct Sources {
 }
 
 impl Sources {
-    /// Reads the sources, except those that are written by hand, whose paths end in `by_hand`.
-    pub fn read(top: &str, crates: &'static [(&str, &str)], by_hand: &[&str]) -> Self {
+    /// Reads the sources in the folder `crates`, except those whose paths there begin with one of `left_out`: tests, and
+    /// what is written by hand.
+    pub fn read(top: &str, crates: &'static [(&str, &str)], left_out: &[&str]) -> Self {
         let top = Path::new(&env::var_os("CARGO_MANIFEST_DIR").expect("Cargo sets it")).join(top);
         let mut sources = Vec::new();
         for (name, module) in crates {
             let folder = top.join("crates").join(name).join("src");
             for file in files_in(&folder, "rt") {
                 let place = file.strip_prefix(&folder).expect("it is in the folder");
-                if by_hand.iter().any(|it| file.ends_with(it)) {
+                let path = format!("{name}/src/{}", place.display()).replace('\\', "/");
+                if left_out.iter().any(|it| path.starts_with(it)) {
                     continue;
                 }
-                let path = format!("crates/{name}/src/{}", place.display()).replace('\\', "/");
+                let path = format!("crates/{path}");
                 let place = if place.ends_with("lib.rt") { Path::new("mod.rs") } else { &place.with_extension("rs") };
                 let (text, preconditions) = commented(&read(&file));
                 sources.push(Source { path, module, place: place.to_owned(), text, preconditions });

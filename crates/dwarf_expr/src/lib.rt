@@ -3,8 +3,6 @@
 
 pub mod laws;
 pub mod store;
-#[cfg(test)]
-mod tests;
 
 pub use dwarf_base as base;
 pub use dwarf_eval::{eval, op};

@@ -38,11 +38,11 @@ use denote.RawPtr.{Ptr, block_ptr, null_ptr, ptr_val, rawptr_vals, rawptr_Tells}
 use denote.Builtin.{usize, RawPtr, RefOf}
 use denote.Triple.Call.{calls_at}
 use Rattle.std.proofs.alloc.Calls.{Al, α, seen, token, gives_key, Gives, at_gives, Gives-goes, Gives-Gives}
-use Rattle.dwarf_expr.specs.contracts.tests.allocators.RefusesGrowth as wrapper
-use Rattle.dwarf_expr.specs.contracts.tests.allocators.RefusesGrowthAllocator.deallocate as F
-use Rattle.dwarf_expr.specs.contracts.tests.allocators.RefusesGrowthAllocator.deallocate.Key as key
-use Rattle.dwarf_expr.proofs.tests.allocators.RefusesGrowthAllocator.deallocate.Statement as stated
-use Rattle.dwarf_expr.proofs.tests.allocators.RefusesGrowthAllocator.deallocate.Code as code
+use Rattle.dwarf_replay.specs.contracts.tests.allocators.RefusesGrowth as wrapper
+use Rattle.dwarf_replay.specs.contracts.tests.allocators.RefusesGrowthAllocator.deallocate as F
+use Rattle.dwarf_replay.specs.contracts.tests.allocators.RefusesGrowthAllocator.deallocate.Key as key
+use Rattle.dwarf_replay.proofs.tests.allocators.RefusesGrowthAllocator.deallocate.Statement as stated
+use Rattle.dwarf_replay.proofs.tests.allocators.RefusesGrowthAllocator.deallocate.Code as code
 
 module _ (Z : Al) where
   abbrev args : Args

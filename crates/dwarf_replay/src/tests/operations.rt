@@ -1,11 +1,11 @@
 //! Tests of decoding.
 
 ghost use Rattle.std.specs.Prelude.{length, ◌<◌, ◌^◌, false};
-ghost use Rattle.dwarf_expr.specs.EndianSlice.{slice_bytes};
+ghost use Rattle.dwarf_base.specs.EndianSlice.{slice_bytes};
 
-use crate::base::{Encoding, EndianSlice, Error, Format, LittleEndian, Reader, Result, UnitOffset};
-use crate::op::{Expression, Operation};
 use crate::tests::evaluation::{SMALL, little};
+use dwarf_base::{Encoding, EndianSlice, Error, Format, LittleEndian, Reader, Result, UnitOffset};
+use dwarf_eval::op::{Expression, Operation};
 use std::process::Abort;
 
 // A literal of two bytes, and a third byte that must not be read.

@@ -1,9 +1,9 @@
 //! A reader of the tests.
 
 ghost use Rattle.std.specs.Prelude.{false};
-ghost use Rattle.dwarf_expr.specs.EndianSlice.{text_of};
+ghost use Rattle.dwarf_base.specs.EndianSlice.{text_of};
 
-use crate::base::{EndianSlice, LittleEndian, Reader, Result};
+use dwarf_base::{EndianSlice, LittleEndian, Reader, Result};
 use std::cell::Cell;
 
 /// A reader that counts how many bytes are read, and that drops all of them when a read fails.

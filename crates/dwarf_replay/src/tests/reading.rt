@@ -1,6 +1,6 @@
 //! Tests of reads and of offsets.
 
-use crate::base::{BigEndian, EndianSlice, Error, LittleEndian, Reader, ReaderOffset, reader_laws};
+use dwarf_base::{BigEndian, EndianSlice, Error, LittleEndian, Reader, ReaderOffset, reader_laws};
 use std::process::Abort;
 
 #[test]

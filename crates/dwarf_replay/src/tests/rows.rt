@@ -1,13 +1,13 @@
 //! Evaluations over lists with a limit, and replays.
 
-use crate::base::{DebugAddrIndex, DebugInfoOffset, Error, Register, UnitOffset};
-use crate::eval::{Status, WaitingKind};
-use crate::op::{DieReference, EvaluationResult, Location, Piece};
-use crate::replay::{Answer, Replayed, Step};
 use crate::tests::cases::{Case, LATER, expect_case};
 use crate::tests::evaluation::{Bytes, COMPLETE, FULL, SMALL, little};
-use crate::value::Value::{Generic, U16};
-use crate::value::ValueType;
+use crate::{Answer, Replayed, Step};
+use dwarf_base::{DebugAddrIndex, DebugInfoOffset, Error, Register, UnitOffset};
+use dwarf_eval::eval::{Status, WaitingKind};
+use dwarf_eval::op::{DieReference, EvaluationResult, Location, Piece};
+use dwarf_value::Value::{Generic, U16};
+use dwarf_value::ValueType;
 use std::alloc::AllocError;
 
 // A case with no steps, over lists without a limit.

@@ -1,6 +1,6 @@
 //! Tests of equality and of hashes.
 
-use crate::base::{
+use dwarf_base::{
     EndianSlice, Endianity, LittleEndian, RunTimeEndian, UnitOffset, constant_laws, equality_laws,
     offset_equality_laws, slice_equality_laws,
 };

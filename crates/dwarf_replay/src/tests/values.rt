@@ -1,10 +1,10 @@
 //! Tests of the calls on values that the library for C doesn't export; c/tests/values.c has the others.
 
-use crate::base::constants::{DW_ATE_float, DW_ATE_signed, DW_ATE_unsigned};
-use crate::base::{DwAte, Error};
 use crate::tests::evaluation::little;
-use crate::value::Value::{Generic, I8, I16};
-use crate::value::{Value, ValueType, equality_laws, is_addr_mask, value_laws};
+use dwarf_base::constants::{DW_ATE_float, DW_ATE_signed, DW_ATE_unsigned};
+use dwarf_base::{DwAte, Error};
+use dwarf_value::Value::{Generic, I8, I16};
+use dwarf_value::{Value, ValueType, equality_laws, is_addr_mask, value_laws};
 
 // The mask of an address of 4 bytes.
 const MASK: u64 = 0xffff_ffff;

@@ -1,13 +1,13 @@
 //! What the tests of evaluations share.
 
 ghost use Rattle.std.specs.Prelude.{◌≡◌, [], None};
-ghost use Rattle.dwarf_expr.specs.Rest.{Start};
+ghost use Rattle.dwarf_meaning.specs.Rest.{Start};
 
-use crate::base::{Encoding, EndianSlice, Error, Format, Reader, RunTimeEndian};
-use crate::eval::Evaluation;
-use crate::op::EvaluationResult;
-use crate::replay::{Answer, Replayed, Step, replay};
-use crate::store::{ArrayLike, EvaluationStorage};
+use crate::{Answer, Replayed, Step, replay};
+use dwarf_base::{Encoding, EndianSlice, Error, Format, Reader, RunTimeEndian};
+use dwarf_eval::eval::Evaluation;
+use dwarf_eval::op::EvaluationResult;
+use dwarf_eval::store::{ArrayLike, EvaluationStorage};
 use std::alloc::Allocator;
 
 pub(crate) type Bytes<'a> = EndianSlice<'a, RunTimeEndian>;

@@ -1,10 +1,10 @@
 //! Tests that each byte of a decoded operation is read once, and that no other byte is read.
 
-use crate::base::Reader;
-use crate::op::{Expression, Operation};
-use crate::replay::Step;
+use crate::Step;
 use crate::tests::evaluation::{SMALL, little, replayed_on_heap};
 use crate::tests::readers::Watched;
+use dwarf_base::Reader;
+use dwarf_eval::op::{Expression, Operation};
 use std::alloc::{AllocError, Global};
 use std::cell::Cell;
 use std::process::Abort;

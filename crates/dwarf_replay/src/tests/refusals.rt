@@ -1,18 +1,18 @@
 //! Tests that refuse each push of an evaluation in turn, and each growth of its lists and of the list of answers.
 
 ghost use Rattle.std.specs.Prelude.{◌≡◌, ◌<◌, ◌≤◌, [], None};
-ghost use Rattle.dwarf_expr.specs.Rest.{Start};
+ghost use Rattle.dwarf_meaning.specs.Rest.{Start};
 
-use crate::base::{Encoding, Error, Format, Reader, UnitOffset};
-use crate::eval::{Evaluation, Status};
-use crate::op::{DieReference, EvaluationResult, Expression};
-use crate::replay::{Answer, Replayed, Step};
-use crate::store::{ArrayLike, EvaluationStorage};
 use crate::tests::allocators::{NEVER, RefusesGrowth};
 use crate::tests::cases::{LATER, read};
 use crate::tests::evaluation::{Bytes, COMPLETE, FULL, SMALL, little, replayed, replayed_on_heap};
 use crate::tests::lists::{ListsOfTests, RefusesOne};
-use crate::value::Value::{self, Generic};
+use crate::{Answer, Replayed, Step};
+use dwarf_base::{Encoding, Error, Format, Reader, UnitOffset};
+use dwarf_eval::eval::{Evaluation, Status};
+use dwarf_eval::op::{DieReference, EvaluationResult, Expression};
+use dwarf_eval::store::{ArrayLike, EvaluationStorage};
+use dwarf_value::Value::{self, Generic};
 use std::alloc::{AllocError, Allocator, Global};
 use std::process::Abort;
 

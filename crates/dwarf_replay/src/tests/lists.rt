@@ -2,11 +2,11 @@
 
 ghost use Rattle.std.specs.Prelude.{◌≡◌, [], None};
 
-use crate::base::Reader;
-use crate::op::Piece;
-use crate::store::{ArrayLike, EvaluationStorage, OneInLine};
 use crate::tests::allocators::{NEVER, RefusesGrowth};
-use crate::value::Value;
+use dwarf_base::Reader;
+use dwarf_eval::op::Piece;
+use dwarf_eval::store::{ArrayLike, EvaluationStorage, OneInLine};
+use dwarf_value::Value;
 use std::alloc::{Allocator, Global};
 use std::process::Abort;
 

@@ -1,17 +1,17 @@
 //! Evaluations as data, and functions that run them over lists of each kind.
 
 ghost use Rattle.std.specs.Prelude.{◌≡◌, ◌<◌, ◌≤◌, [], None};
-ghost use Rattle.dwarf_expr.specs.Rest.{Start};
+ghost use Rattle.dwarf_meaning.specs.Rest.{Start};
 
-use crate::base::{Encoding, Reader};
-use crate::eval::{Evaluation, Status};
-use crate::op::{Expression, Piece};
-use crate::replay::{Answer, Replayed, Step, Stepped, take_step};
-use crate::store::{ArrayLike, EvaluationStorage, OneInLine, SliceVec, StoreInSlices};
 use crate::tests::evaluation::{Bytes, FULL, little, replayed};
-use crate::value::Value::{self, Generic};
-use crate::value::ValueType;
+use crate::{Answer, Replayed, Step, Stepped, take_step};
 use arrayvec::ArrayVec;
+use dwarf_base::{Encoding, Reader};
+use dwarf_eval::eval::{Evaluation, Status};
+use dwarf_eval::op::{Expression, Piece};
+use dwarf_eval::store::{ArrayLike, EvaluationStorage, OneInLine, SliceVec, StoreInSlices};
+use dwarf_value::Value::{self, Generic};
+use dwarf_value::ValueType;
 use std::alloc::{AllocError, Global};
 use std::process::Abort;
 

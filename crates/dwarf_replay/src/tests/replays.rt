@@ -1,15 +1,15 @@
 //! A test of calls after a replay.
 
 ghost use Rattle.std.specs.Prelude.{◌≡◌, None};
-ghost use Rattle.dwarf_expr.specs.Rest.{Start};
+ghost use Rattle.dwarf_meaning.specs.Rest.{Start};
 
-use crate::base::Reader;
-use crate::eval::{Evaluation, Status, WaitingKind};
-use crate::op::{EvaluationResult, Location, Piece};
-use crate::replay::{Replayed, Step};
-use crate::store::{EvaluationStorage, StoreOnHeap};
 use crate::tests::evaluation::{SMALL, little, replayed};
-use crate::value::Value::Generic;
+use crate::{Replayed, Step};
+use dwarf_base::Reader;
+use dwarf_eval::eval::{Evaluation, Status, WaitingKind};
+use dwarf_eval::op::{EvaluationResult, Location, Piece};
+use dwarf_eval::store::{EvaluationStorage, StoreOnHeap};
+use dwarf_value::Value::Generic;
 use std::alloc::Global;
 use std::process::Abort;
 

@@ -6,27 +6,11 @@ mod packages;
 mod said;
 
 use cases::Case;
-#[cfg(archive)]
-use dwexpr::{Encoding, Format};
 use dwexpr::{Reader, RunTimeEndian};
 use std::fmt::Debug;
-#[cfg(archive)]
-use std::fs;
-use std::path::{Path, PathBuf};
+use std::path::Path;
 
 impl Case {
-    /// The case as a line for the program of tests/beside_archive.
-    #[cfg(archive)]
-    fn line(&self) -> String {
-        let Encoding { address_size, format, version } = self.encoding;
-        let offset_size = if format == Format::Dwarf64 { 8 } else { 4 };
-        let order = if self.order == RunTimeEndian::Big { "be" } else { "le" };
-        let steps = self.steps.as_deref().unwrap_or("evaluate");
-        let steps: String = steps.lines().map(|it| format!("\t{it}")).collect();
-        let digits = said::digits_of(&self.bytes);
-        format!("{address_size}\t{offset_size}\t{version}\t{order}\t{digits}{steps}\n")
-    }
-
     /// The lines that the case gives over a reader.
     fn said<R: Reader + Debug>(&self, read: impl Fn(&[u8]) -> R) -> String {
         match &self.steps {
@@ -36,13 +20,10 @@ impl Case {
     }
 }
 
-fn tests() -> PathBuf {
-    Path::new(env!("CARGO_MANIFEST_DIR")).join("tests")
-}
-
 /// Expects each case over a reader to give its lines. A step out of turn panics.
 fn assert_all<R: Reader + Debug>(read: impl Fn(&[u8], RunTimeEndian) -> R) {
-    let cases = cases::cases(&tests());
+    let tests = Path::new(env!("CARGO_MANIFEST_DIR")).join("tests");
+    let cases = cases::cases(&tests);
     let said: Vec<String> = cases.iter().map(|it| it.1.said(|bytes| read(bytes, it.1.order))).collect();
     assert!(cases.len() > 3000, "there are {} cases", cases.len());
     for ((name, case), said) in cases.iter().zip(said) {
@@ -71,14 +52,9 @@ fn rows_and_vectors_are_as_they_say() {
 
 /// Compares the rows and vectors, a million made-up cases of each kind, and as many values.
 #[test]
-#[cfg_attr(not(archive), ignore = "the variable DWEXPR_ARCHIVE has to name the archive for C, libdwexpr_c.a")]
+#[cfg_attr(not(archive), ignore = "the variable DWEXPR_ARCHIVE has to name the archive for C")]
 fn the_archive_gives_the_same() {
-    #[cfg(archive)]
-    {
-        let file = Path::new(env!("CARGO_TARGET_TMPDIR")).join("cases");
-        fs::write(&file, cases::cases(&tests()).iter().map(|it| it.1.line()).collect::<String>()).unwrap();
-        packages::run("beside_archive", &["run", "--release", "--quiet", "--", "1000000", file.to_str().unwrap()]);
-    }
+    packages::run("beside_archive", &["run", "--release", "--quiet", "--", "1000000"]);
 }
 
 #[test]

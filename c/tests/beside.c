@@ -1,5 +1,7 @@
 /* Compares two libraries in one process: the proved archive, whose calls are named `proved_dwexpr_*` here, and the one
  * that rustc builds from the same sources. For made-up decodings, evaluations and values they have to write the same.
+ * Only here two libraries take texts that are lost, arguments that aren't allowed, and too little room for pieces: the
+ * Rust crate, which tests/beside_archive compares with the archive, has none of these.
  *
  *     beside COUNT [SEED]
  *

@@ -1,4 +1,4 @@
-//! Macros that pass all operations, replies, resumes and errors to another macro. Tests use them too.
+//! Macros that pass all operations, replies, resumes and errors to another macro.
 
 /// Passes all operations with their fields to a macro, in gimli's order. A name in brackets is a reader.
 macro_rules! operations {

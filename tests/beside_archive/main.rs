@@ -1,161 +1,115 @@
-//! Compares the Rust crate with the archive for C in one process, on made-up cases of each kind and on those of a file.
+//! Compares the Rust crate with the archive for C in one process, on the rows and vectors and on made-up cases:
 //!
-//!     beside_archive COUNT FILE
+//!     beside_archive COUNT
 //!
-//! COUNT is how many cases of each kind are made up. The lines of FILE say the others, as `Case::of_line` reads them.
-//! It prints a line for each kind, and each difference in a small case. The last line is `N passed, M failed`: kinds
-//! and lines.
-
-#[macro_use]
-#[path = "../../rust/src/lists.rs"]
-mod lists;
+//! COUNT is how many cases of each kind are made up. It prints the first difference of each kind. The last line is
+//! `N passed, M failed`: rows and vectors, kinds, and one check that everything came up that can.
 
 mod archive;
-mod cases;
+mod case;
 mod compare;
 mod made_up;
 mod met;
 mod numbers;
 mod shown;
-mod smaller;
-mod threads;
 mod values;
 
-use cases::Case;
-use compare::{Compared, Difference, Sides, Slots, caught};
+// Parts of these are only for the tests of the crate.
+#[allow(dead_code)]
+#[path = "../../rust/tests/rows/json.rs"]
+mod json;
+#[allow(dead_code)]
+#[path = "../../rust/tests/rows/cases.rs"]
+mod rows;
+#[allow(dead_code)]
+#[path = "../../rust/tests/rows/said.rs"]
+mod said;
+
+use archive::{Held, MAX_CALLERS, MAX_PIECES, MAX_VALUES};
+use case::Case;
+use compare::compare;
+use dwexpr::{Evaluation, Piece, SliceVec, Value};
 use made_up::KINDS;
 use met::Met;
-use std::fmt::Display;
+use std::ops::Range;
+use std::panic::{AssertUnwindSafe, catch_unwind};
+use std::path::Path;
 use std::process::ExitCode;
-use std::sync::Mutex;
-use std::time::Instant;
+use std::thread;
 
-/// How many differing lines of the file are shown.
-const SHOWN: u64 = 4;
+/// What came up, or a message about a difference.
+type Found = Result<Met, String>;
 
 /// Compares cases, one after another, up to the first that differs.
-fn compare_all(cases: &[Case], met: &mut Met) -> Result<(), (usize, Difference)> {
-    let mut slots = Slots::new();
-    let mut sides = Sides::new(&mut slots, &cases[0]);
-    for (index, case) in cases.iter().enumerate() {
-        caught(&case.steps, || sides.compare(case, met)).map_err(|difference| (index, difference))?;
+fn compare_all(cases: &[Case]) -> Found {
+    let nothing = cases[0].text(0);
+    let mut values = [Value::Generic(0); MAX_VALUES];
+    let mut callers = [(nothing, nothing); MAX_CALLERS];
+    let mut pieces = [Piece::default(); MAX_PIECES];
+    let lists = (SliceVec::new(&mut values), SliceVec::new(&mut callers), SliceVec::new(&mut pieces));
+    let mut in_slices = Evaluation::with_lists(nothing, cases[0].unit(), lists.0, lists.1, lists.2);
+    let (mut held, mut met) = (Held::new(), Met::default());
+    for case in cases {
+        let mut given = Vec::new();
+        catch_unwind(AssertUnwindSafe(|| compare(case, &mut held, &mut in_slices, &mut given, &mut met)))
+            .unwrap_or_else(|panic| {
+                let text = panic.downcast_ref::<&str>().copied().or(panic.downcast_ref::<String>().map(String::as_str));
+                Err(format!("a panic: {text:?}"))
+            })
+            .map_err(|difference| format!("{case:x?}\nwith {given:x?}\n{difference}"))?;
     }
-    Ok(())
+    Ok(met)
 }
 
-/// Compares a case.
-fn compare_one(case: &Case, met: &mut Met) -> Compared {
-    compare_all(std::slice::from_ref(case), met).map_err(|(_, difference)| difference)
-}
-
-/// Counts of all comparisons.
-#[derive(Default)]
-struct Report {
-    passed: u64,
-    failed: u64,
-    met: Met,
-}
-
-impl Report {
-    fn differs(&mut self, name: &str, said: impl Display, difference: Difference) {
-        let Difference { of, in_archive, in_crate, .. } = difference;
-        println!("DIFFERS {name}: {said}\n    {of}: the archive has {in_archive}\n    the crate has {in_crate}");
-        self.failed += 1;
-    }
-
-    fn differs_in(&mut self, name: &str, case: &Case, difference: Difference) {
-        let (smallest, difference) = smaller::of(case, difference);
-        self.differs(name, smallest, difference);
-    }
-
-    fn compare_kind(&mut self, index: usize, count: u64) {
-        let began = Instant::now();
-        let kind = &KINDS[index];
-        let met_by_all = Mutex::new(Met::default());
-        let found = threads::first_failure(count, |numbers| {
-            let seeds = numbers.clone().map(|number| number * KINDS.len() as u64 + index as u64);
-            let cases: Vec<Case> = seeds.map(|seed| made_up::case(kind, seed)).collect();
-            let mut met = Met::default();
-            let compared = compare_all(&cases, &mut met);
-            met_by_all.lock().expect("no thread panics with it").add(met);
-            compared.map_err(|(at, difference)| (numbers.start + at as u64, (cases[at].clone(), difference)))
-        });
-        let met = met_by_all.into_inner().expect("no thread panics with it");
-        match found {
-            Some((case, difference)) => self.differs_in(kind.name, &case, difference),
-            None => {
-                let seconds = began.elapsed().as_secs_f64();
-                println!("{}: {count} alike with {met}, {seconds:.1} s", kind.name);
-                self.passed += 1;
-            }
+/// Compares all numbers below `count` in parts, on all processors.
+fn in_parts(count: u64, compare: impl Fn(Range<u64>) -> Found + Sync) -> Found {
+    const PART: u64 = 5_000;
+    let threads = thread::available_parallelism().map_or(1, |it| it.get());
+    let run = &|first: u64| -> Found {
+        let mut met = Met::default();
+        for start in (first * PART..count).step_by(threads * PART as usize) {
+            met.add(compare(start..count.min(start + PART))?);
         }
-        self.met.add(met);
-    }
-
-    fn compare_values(&mut self, count: u64) {
-        let began = Instant::now();
-        let found = threads::first_failure(count, |mut numbers| {
-            numbers.try_for_each(|number| values::compare(number).map_err(|failure| (number, failure)))
-        });
-        match found {
-            Some((said, difference)) => self.differs("values alone", said, difference),
-            None => {
-                println!("values alone: {count} alike, {:.1} s", began.elapsed().as_secs_f64());
-                self.passed += 1;
-            }
+        Ok(met)
+    };
+    thread::scope(|scope| {
+        let running: Vec<_> = (0..threads as u64).map(|first| scope.spawn(move || run(first))).collect();
+        let mut met = Met::default();
+        for found in running.into_iter().map(|it| it.join().expect("panics are caught")) {
+            met.add(found?);
         }
-    }
-
-    fn compare_lines(&mut self, text: &str) {
-        let began = Instant::now();
-        let mut left_out = 0;
-        for line in text.lines() {
-            let case = Case::of_line(line).unwrap_or_else(|| panic!("not a case: {line}"));
-            let Some(case) = case.bounded().in_c() else {
-                left_out += 1;
-                continue;
-            };
-            match compare_one(&case, &mut self.met) {
-                Ok(()) => self.passed += 1,
-                Err(_) if self.failed >= SHOWN => self.failed += 1,
-                Err(difference) => self.differs_in("a row", &case, difference),
-            }
-        }
-        let (passed, failed, seconds) = (self.passed, self.failed, began.elapsed().as_secs_f64());
-        println!("rows: {passed} alike, {failed} differ, {left_out} that C can't start, {seconds:.1} s");
-    }
-
-    /// Fails if something that can come up never did.
-    fn require_all(&mut self) {
-        let missing = self.met.missing();
-        if missing.is_empty() {
-            self.passed += 1;
-        } else {
-            println!("never met: {}", missing.join(", "));
-            self.failed += 1;
-        }
-    }
+        Ok(met)
+    })
 }
 
 fn main() -> ExitCode {
-    let arguments: Vec<String> = std::env::args().skip(1).collect();
-    let [count, file] = &arguments[..] else {
-        eprintln!("beside_archive COUNT FILE");
-        return ExitCode::from(2);
-    };
-    let count = count.parse().expect("the first argument is a number");
-    let lines = std::fs::read_to_string(file).expect("the second argument is a file");
-    let mut report = Report::default();
+    let count = std::env::args().nth(1).and_then(|it| it.parse().ok()).expect("the argument is a number");
+    let rows = rows::cases(&Path::new(env!("CARGO_MANIFEST_DIR")).join(".."));
     // A call out of turn panics, as it has to, and there are many.
-    let shows_panics = std::panic::take_hook();
     std::panic::set_hook(Box::new(|_| {}));
-    report.compare_lines(&lines);
-    for index in 0..KINDS.len() {
-        report.compare_kind(index, count);
+    let mut found: Vec<(&str, Found)> = Vec::new();
+    for (name, row) in &rows {
+        found.extend(Case::of_row(row).map(|case| (name.as_str(), compare_all(&[case]))));
     }
-    report.compare_values(count);
-    std::panic::set_hook(shows_panics);
-    report.require_all();
-    println!("{} passed, {} failed", report.passed, report.failed);
-    ExitCode::from(u8::from(report.failed > 0))
+    assert!(found.len() > 3000, "C can start {} rows and vectors", found.len());
+    for kind in &KINDS {
+        let compare = |numbers: Range<u64>| {
+            let cases: Vec<Case> = numbers.map(|number| made_up::case(kind, number)).collect();
+            compare_all(&cases)
+        };
+        found.push((kind.0, in_parts(count, compare)));
+    }
+    let compare = |mut numbers: Range<u64>| numbers.try_for_each(values::compare).map(|()| Met::default());
+    found.push(("values alone", in_parts(count, compare)));
+    let mut met = Met::default();
+    found.iter().filter_map(|(_, found)| found.as_ref().ok()).for_each(|it| met.add(*it));
+    found.push(("what came up", met.with_all()));
+
+    let mut failed = 0;
+    for (name, difference) in found.iter().filter_map(|(name, found)| Some((name, found.as_ref().err()?))) {
+        println!("DIFFERS {name}: {difference}");
+        failed += 1;
+    }
+    println!("{} passed, {failed} failed", found.len() - failed);
+    ExitCode::from(u8::from(failed > 0))
 }

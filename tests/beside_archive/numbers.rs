@@ -1,16 +1,14 @@
 //! Made-up numbers.
 
 /// A generator of numbers (xorshift, Marsaglia 2003). The same seed gives the same numbers in every run.
-#[derive(Clone)]
+#[derive(Clone, Debug)]
 pub struct Numbers(u64);
 
 impl Numbers {
     pub fn new(seed: u64) -> Self {
         // Seeds that are near one another would begin alike; a generator that is at 0 would stay there.
         let mut numbers = Numbers(seed.wrapping_mul(0x9e37_79b9_7f4a_7c15) | 1);
-        for _ in 0..8 {
-            numbers.any();
-        }
+        (0..8).for_each(|_| _ = numbers.any());
         numbers
     }
 
@@ -31,12 +29,12 @@ impl Numbers {
         self.below(count) == 0
     }
 
-    pub fn byte(&mut self) -> u8 {
-        (self.any() >> 24) as u8
-    }
-
     pub fn one_of<T: Copy>(&mut self, items: &[T]) -> T {
         items[self.below(items.len())]
+    }
+
+    pub fn bytes(&mut self, count: usize) -> Vec<u8> {
+        (0..count).map(|_| (self.any() >> 24) as u8).collect()
     }
 
     /// A number that is small, near a power of two, or any.

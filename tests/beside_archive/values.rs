@@ -1,16 +1,21 @@
 //! The calls on values and types alone.
 
-use crate::archive::{self, Value};
-use crate::compare::{Difference, caught, order_of, same};
+use crate::archive::*;
+use crate::case::order;
+use crate::compare::{Compared, same};
 use crate::numbers::Numbers;
-use crate::shown::{TYPES, Text, code_of, code_of_type, numbers_of, type_of, value_of};
+use crate::shown::{self, Text, number_of, type_of, value_of};
 use dwexpr::ValueType;
 use dwexpr::constants::DwAte;
 
+/// The number of the last type.
+const U64: u32 = 9;
+
 type Unary = fn(dwexpr::Value, u64) -> dwexpr::Result<dwexpr::Value>;
 type Binary = fn(dwexpr::Value, dwexpr::Value, u64) -> dwexpr::Result<dwexpr::Value>;
+type Convert = fn(dwexpr::Value, ValueType, u64) -> dwexpr::Result<dwexpr::Value>;
 
-/// The operations on one value, and on two, each after the archive's code of its kind.
+/// The operations on one value, on two, and to another type, each after the archive's number of its kind.
 const UNARY: [(u32, Unary); 3] = [(6, dwexpr::Value::abs), (12, dwexpr::Value::neg), (13, dwexpr::Value::not)];
 const BINARY: [(u32, Binary); 17] = [
     (7, dwexpr::Value::and),
@@ -31,51 +36,47 @@ const BINARY: [(u32, Binary); 17] = [
     (26, dwexpr::Value::lt),
     (27, dwexpr::Value::ne),
 ];
-const CONVERT: u32 = 49;
-const REINTERPRET: u32 = 50;
+const CONVERT: [(u32, Convert); 2] = [(49, dwexpr::Value::convert), (50, dwexpr::Value::reinterpret)];
 
-fn computed(result: dwexpr::Result<dwexpr::Value>) -> (u32, Value) {
-    match result {
-        Ok(value) => (0, numbers_of(value)),
-        Err(error) => (code_of(error).0, Value::default()),
-    }
+/// Compares the code and the value that a call of the archive gives with those of the crate.
+fn same_value(of: &str, call: impl Fn(&mut Value) -> u32, made: dwexpr::Result<dwexpr::Value>) -> Compared {
+    let mut result = Value::default();
+    let code = call(&mut result);
+    let made = made.map_or_else(|error| (shown::error(error).0, Value::default()), |value| (0, shown::value(value)));
+    same(of, &(code, result), &made)
 }
 
-/// Compares a call of each sort, with numbers that the seed makes. The mask has from 1 to 64 bits. A difference comes
-/// with the numbers.
-pub fn compare(seed: u64) -> Result<(), (String, Difference)> {
-    let mut numbers = Numbers::new(seed);
+/// Compares a call of each sort. The mask has from 1 to 64 bits.
+pub fn compare(number: u64) -> Compared {
+    let numbers = &mut Numbers::new(number);
     let mask = u64::MAX >> numbers.below(64);
-    let value_type = numbers.below(TYPES.len()) as u32 + 1;
-    let left = Value { value_type, content: numbers.edge() };
-    let other = if numbers.one_in(4) { numbers.below(TYPES.len()) as u32 + 1 } else { value_type };
-    let right = Value { value_type: other, content: numbers.edge() };
-    let (unary, binary) = (numbers.one_of(&UNARY), numbers.one_of(&BINARY));
-    let conversion = numbers.one_of(&[CONVERT, REINTERPRET]);
-    let bytes: Vec<u8> = (0..numbers.below(10)).map(|_| numbers.byte()).collect();
-    let (encoding, byte_size) = (numbers.one_of(&[0, 5, 7, 8]), numbers.below(10) as u64);
-    let is_big_endian = numbers.one_in(2);
-    let [first, second] = [left, right].map(|value| value_of(value.value_type, value.content));
-    let (of, to) = (type_of(left.value_type), type_of(right.value_type));
+    let from = numbers.below(9) as u32 + 1;
+    let to = if numbers.one_in(4) { numbers.below(9) as u32 + 1 } else { from };
+    let [left, right] = [from, to].map(|value_type| Value { value_type, content: numbers.edge() });
+    let [first, second] = [left, right].map(value_of);
+    let ((one, unary), (two, binary)) = (numbers.one_of(&UNARY), numbers.one_of(&BINARY));
+    let (conversion, convert) = numbers.one_of(&CONVERT);
+    let as_number = Value { value_type: U64, content: first.to_u64(mask).expect("each value has a number") };
+    let count = numbers.below(10);
+    let (bytes, big_endian) = (numbers.bytes(count), numbers.below(2) as u8);
+    let read = dwexpr::Value::parse(type_of(from), Text::new(&bytes, order(big_endian)));
+    let (encoding, size) = (numbers.one_of(&[0, 5, 7, 8]), numbers.below(10) as u64);
+    let named = ValueType::from_encoding(DwAte(encoding), size).map_or(0, number_of);
     let compare_calls = || {
-        let archive = archive::unary(unary.0, left, mask);
-        same("an operation on one value", &archive, &computed(unary.1(first, mask)))?;
-        let archive = archive::binary(binary.0, left, right, mask);
-        same("an operation on two values", &archive, &computed(binary.1(first, second, mask)))?;
-        let converted = if conversion == CONVERT { first.convert(to, mask) } else { first.reinterpret(to, mask) };
-        let archive = archive::convert(conversion, left, right.value_type, mask);
-        same("a conversion", &archive, &computed(converted))?;
-        let read = dwexpr::Value::parse(of, Text::new(&bytes, order_of(is_big_endian)));
-        same("a value that is read", &archive::parse(left.value_type, &bytes, is_big_endian), &computed(read))?;
-        same("the size of a type", &archive::bit_size(left.value_type, mask), &of.bit_size(mask))?;
-        let code = ValueType::from_encoding(DwAte(encoding), byte_size).map_or(0, code_of_type);
-        same("the type of an encoding", &archive::type_from_encoding(encoding, byte_size), &code)?;
-        let as_number = archive::convert(CONVERT, left, 9, mask).1.content;
-        same("a value as a number", &as_number, &first.to_u64(mask).expect("each value has a number"))
+        same_value("on one value", |it| dwexpr_value_unary(one, left, mask, it), unary(first, mask))?;
+        let made = binary(first, second, mask);
+        same_value("on two values", |it| dwexpr_value_binary(two, left, right, mask, it), made)?;
+        let made = convert(first, type_of(to), mask);
+        same_value("a conversion", |it| dwexpr_value_convert(conversion, left, to, mask, it), made)?;
+        let made = Ok(value_of(as_number));
+        same_value("as a number", |it| dwexpr_value_convert(CONVERT[0].0, left, U64, mask, it), made)?;
+        same_value("a value that is read", |it| parse(from, &bytes, big_endian, it), read)?;
+        same("the size of a type", &dwexpr_type_bit_size(from, mask), &type_of(from).bit_size(mask))?;
+        same("the type of an encoding", &dwexpr_type_from_encoding(encoding, size), &named)
     };
-    caught(&[], compare_calls).map_err(|difference| {
-        let operations = (unary.0, binary.0, conversion);
-        let said = format!("{operations:?} of {left:x?} and {right:x?} with the mask {mask:#x}, {bytes:x?}");
-        (format!("{said}, {encoding}, {byte_size}"), difference)
+    compare_calls().map_err(|difference| {
+        let operations =
+            format!("operations {one}, {two} and {conversion} on {left:x?} and {right:x?}, mask {mask:#x}");
+        format!("{operations}; {bytes:x?}, {big_endian}; {encoding}, {size}\n{difference}")
     })
 }

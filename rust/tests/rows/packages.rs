@@ -4,7 +4,6 @@ use std::path::Path;
 use std::process::Command;
 
 /// Runs Cargo on a package in the folder `tests`.
-#[cfg_attr(not(any(archive, gimli_tests)), allow(dead_code))]
 pub fn run(package: &str, words: &[&str]) {
     let folder = Path::new(env!("CARGO_MANIFEST_DIR")).join("tests").join(package);
     let target = Path::new(env!("CARGO_TARGET_TMPDIR")).join(package);

@@ -9,7 +9,7 @@ use std::panic::{AssertUnwindSafe, catch_unwind};
 
 type Reply<R> = dwexpr::Result<EvaluationResult<R>>;
 
-const TYPES: [(&str, ValueType); 9] = [
+pub const TYPES: [(&str, ValueType); 9] = [
     ("generic", ValueType::Generic),
     ("i8", ValueType::I8),
     ("u8", ValueType::U8),
@@ -32,7 +32,7 @@ pub fn digits_of(bytes: &[u8]) -> String {
     if bytes.is_empty() { "-".into() } else { bytes.iter().map(|byte| format!("{byte:02x}")).collect() }
 }
 
-fn number_in(word: &str) -> u64 {
+pub fn number_in(word: &str) -> u64 {
     match word.strip_prefix("0x") {
         Some(digits) => u64::from_str_radix(digits, 16).unwrap(),
         None => word.parse().unwrap_or_else(|_| word.parse::<i64>().unwrap() as u64),

@@ -1,0 +1,117 @@
+//! The rows and vectors of the program `dwexpr`, as cases.
+
+use crate::json::Json;
+use crate::said::bytes_in;
+use dwexpr::{Encoding, Format, RunTimeEndian};
+use std::fs;
+use std::path::Path;
+
+/// An expression to decode, or to evaluate by some steps.
+pub struct Case {
+    pub encoding: Encoding,
+    pub order: RunTimeEndian,
+    pub bytes: Vec<u8>,
+    pub steps: Option<String>,
+    pub wanted: String,
+}
+
+impl Case {
+    /// A case, by the words of an encoding and the digits of the bytes. `None` if the program refuses them.
+    fn of(words: &[&str], steps: Option<String>, wanted: String) -> Option<Case> {
+        let [address_size, offset_size, version, order, digits] = *words else { return None };
+        let in_range = |word: &str, range: std::ops::RangeInclusive<u16>| {
+            let number = word.parse().ok().filter(|it| range.contains(it))?;
+            (word.len() == 1).then_some(number)
+        };
+        let format = match offset_size {
+            "4" => Format::Dwarf32,
+            "8" => Format::Dwarf64,
+            _ => return None,
+        };
+        let order = match order {
+            "le" => RunTimeEndian::Little,
+            "be" => RunTimeEndian::Big,
+            _ => return None,
+        };
+        let is_even = digits.len() % 2 == 0 && !digits.is_empty() && digits.bytes().all(|it| it.is_ascii_hexdigit());
+        let bytes = (digits == "-" || is_even).then(|| bytes_in(digits))?;
+        let (address_size, version) = (in_range(address_size, 1..=8)? as u8, in_range(version, 2..=5)?);
+        Some(Case { encoding: Encoding { address_size, format, version }, order, bytes, steps, wanted })
+    }
+}
+
+/// The text of a row: a string, or parts that may repeat. `None` if it is bytes.
+fn text_of(json: &Json) -> Option<String> {
+    match json {
+        Json::Text(text) => Some(text.clone()),
+        Json::List(parts) => Some(parts.iter().map(part).collect()),
+        _ => None,
+    }
+}
+
+fn part(json: &Json) -> String {
+    match json {
+        Json::List(pair) => pair[0].text().repeat(pair[1].text().parse().unwrap()),
+        _ => json.text().into(),
+    }
+}
+
+/// The case of a row. `None` if the row is about something else, such as words that the program refuses.
+fn case_of(row: &Json) -> Option<Case> {
+    if ["by", "program", "input_from", "output_to", "megabytes"].iter().any(|it| row.get(it).is_some()) {
+        return None;
+    }
+    let words: Vec<String> = row.get("words")?.items().iter().map(text_of).collect::<Option<_>>()?;
+    let words: Vec<&str> = words.iter().map(String::as_str).collect();
+    let (input, wanted) = (text_of(row.get("input")?)?, text_of(row.get("output")?)?);
+    let steps = match *words.first()? {
+        "eval" => Some(input.replace("\r\n", "\n")),
+        "ops" => None,
+        _ => return None,
+    };
+    if wanted.starts_with("bad ") { None } else { Case::of(&words[1..], steps, wanted) }
+}
+
+/// The variant or fault in a vector's name: `PlusConstant` for `PLUS_CONSTANT`.
+fn variant_of(name: &str) -> String {
+    let capitalized = |word: &str| {
+        if matches!(word, "TLS" | "CFA") { word.into() } else { word[..1].to_owned() + &word[1..].to_lowercase() }
+    };
+    name.split('_').map(capitalized).collect()
+}
+
+fn case_of_vector(vector: &Json) -> Case {
+    let digits = vector.get("bytes").unwrap().text().replace(' ', "");
+    let words: Vec<&str> = vector.get("in").unwrap().text().split(' ').chain([digits.as_str()]).collect();
+    let wanted = match vector.get("code") {
+        Some(code) => {
+            let detail = vector.get("detail").map_or(String::new(), |it| format!(" {}", it.text()));
+            format!("0 fault {}{detail}\n", variant_of(code.text()))
+        }
+        None => format!("0 {digits} {}\n", variant_of(vector.get("kind").unwrap().text())),
+    };
+    Case::of(&words, None, wanted).expect("a vector is read")
+}
+
+fn json_in(path: &Path) -> Json {
+    Json::of(&fs::read_to_string(path).unwrap())
+}
+
+/// All cases, with their names. The folder is `tests`.
+pub fn cases(tests: &Path) -> Vec<(String, Case)> {
+    let vectors = json_in(&tests.join("vectors/decode.json"));
+    let mut cases: Vec<_> =
+        (0..).zip(vectors.items()).map(|(at, it)| (format!("vector {at}"), case_of_vector(it))).collect();
+    for file in fs::read_dir(tests.join("rows")).unwrap() {
+        let path = file.unwrap().path();
+        // An editor's file is none.
+        let name = path.file_name().unwrap().to_str().unwrap();
+        if name.starts_with('.') || !name.ends_with(".json") {
+            continue;
+        }
+        let rows = json_in(&path);
+        let named = |row: &Json| Some((format!("{}: {}", path.display(), row.get("name")?.text()), case_of(row)?));
+        cases.extend(rows.items().iter().filter_map(named));
+    }
+    cases
+}

@@ -51,13 +51,15 @@ static int stops(pid_t process)
 static int dump(pid_t process, const char *path)
 {
     glob_t found;
+    int fails;
     kill(process, SIGSYS);
     kill(process, SIGCONT);
     waitpid(process, NULL, 0);
-    if (!glob("core*", 0, NULL, &found) && !rename(found.gl_pathv[0], path))
-        return 0;
-    fprintf(stderr, "the kernel writes no core dump here\n");
-    return 1;
+    fails = glob("core*", 0, NULL, &found) || rename(found.gl_pathv[0], path);
+    globfree(&found);
+    if (fails)
+        fprintf(stderr, "the kernel writes no core dump here\n");
+    return fails;
 }
 
 static int run(char **words, pid_t process)

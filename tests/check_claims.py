@@ -14,7 +14,7 @@ import textwrap
 
 import checks
 from checks import commands, expect, lacks, prints, run
-from commands import ARCHIVE, TOP
+from commands import TOP
 
 PAGES = {name: (TOP / name).read_text(encoding="utf-8") for name in ("README.md", "docs/GUIDE.md")}
 # A command and what it prints, up to an empty line or the next command.
@@ -24,6 +24,8 @@ FENCE = re.compile(r"^```(\w+)\n(.*?)^```$", re.MULTILINE | re.DOTALL)
 PRINTED = re.compile(r"print(?:f|ln!)\(.*;.*?(?:/\*|//) (.*?)(?: \*/)?$", re.MULTILINE)
 # The command that builds a program in C, by its last line.
 BUILD = re.compile(r"((?:^    .+\n)*^    cc program\.c .+\n)", re.MULTILINE)
+# The archive for C, as bin/archive builds it.
+ARCHIVE = TOP / "crates/dwexpr_c/out/libdwexpr_c.a"
 MANIFEST = '[package]\nname = "app"\nedition = "2024"\n[dependencies]\ndwexpr.path = "{}"\n[workspace]\n'
 checks.SECONDS = 600
 
@@ -50,7 +52,10 @@ def in_c():
     if lacks("the programs in C", "cc", "cmake", "pkg-config"):
         return
     with commands.temporary() as folder:
-        checks.build_libraries(folder / "package", ARCHIVE if ARCHIVE.exists() else "rustc")
+        options = [f"-DDWEXPR_CORE={ARCHIVE if ARCHIVE.exists() else 'rustc'}", "-DBUILD_TESTING=OFF"]
+        commands.run("cmake", "-S", TOP / "c", "-B", folder / "build", *options)
+        commands.run("cmake", "--build", folder / "build", "--parallel", "4")
+        commands.run("cmake", "--install", folder / "build", "--prefix", folder / "package")
         for page, before, program, wanted in programs("c", "int main("):
             (folder / "program.c").write_text(program)
             command = BUILD.findall(before)[-1].replace("DIR", f"{folder}/package")

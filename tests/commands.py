@@ -8,8 +8,6 @@ import subprocess
 import tempfile
 
 TOP = pathlib.Path(__file__).resolve().parent.parent
-# The archive for C, as bin/archive builds it.
-ARCHIVE = TOP / "crates/dwexpr_c/out/libdwexpr_c.a"
 
 
 class Failure(Exception):

@@ -1,6 +1,6 @@
-# Runs a program, which has to print OUTPUT and nothing else, and to end with STATUS.
-list(REMOVE_ITEM COMMAND "")
+# Runs a program, which has to end with STATUS, and to print what the regular expression OUTPUT matches.
 execute_process(COMMAND ${COMMAND} OUTPUT_VARIABLE output ERROR_VARIABLE error RESULT_VARIABLE status)
-if(NOT output STREQUAL OUTPUT OR NOT status EQUAL STATUS)
-  message(FATAL_ERROR "status ${status}, and not ${STATUS}:\n${output}${error}")
+message("${output}${error}")
+if(NOT "${output}${error}" MATCHES "^${OUTPUT}$" OR NOT status STREQUAL STATUS)
+  message(FATAL_ERROR "status ${status}, and not ${STATUS}, or not the output:\n${OUTPUT}")
 endif()

@@ -193,16 +193,16 @@ static int compare_file(void)
 
 int main(int argc, char **argv)
 {
-    int i, failed = 0;
+    int i, unread = 0;
     prints = argc > 1 && !strcmp(argv[1], "--list");
     for (i = 1 + prints; i < argc; i++) {
         file = argv[i];
-        failed |= compare_file();
+        unread |= compare_file();
     }
     if (prints)
-        return failed;
+        return unread;
     printf("%zu expressions, %zu operations, %zu differing; refused by libdw alone %zu, here alone %zu, by both %zu; "
            "lists that libdw refuses %zu\n",
            expressions, operations, differing, refused_by_libdw, refused_here, refused_by_both, refused_lists);
-    return failed || differing;
+    return unread || differing;
 }

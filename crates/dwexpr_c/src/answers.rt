@@ -1,10 +1,9 @@
 //! Answers as numbers, and the resumes that take them.
 
-ghost use Rattle.std.specs.Prelude.{◌≡◌, IfErr, IfOk, IsOkAnd, ok_or};
+ghost use Rattle.std.specs.Prelude.{◌≡◌, Err, IfErr, IfOk, IsOkAnd, ok_or};
 ghost use Rattle.dwarf_base.specs.ByteOrder.{is_big_of};
-ghost use Rattle.dwarf_eval.specs.Permits.{IsOpenFor};
 ghost use Rattle.dwarf_meaning.specs.Steps.{Resume};
-ghost use Rattle.dwarf_replay.specs.Stepping.{HasReplied};
+ghost use Rattle.dwarf_replay.specs.Stepping.{HasReplied, step_of};
 ghost use Rattle.dwexpr_c.specs.Answered.{IsRefused};
 ghost use Rattle.dwexpr_c.specs.CallerTexts as caller;
 ghost use Rattle.dwexpr_c.specs.CallerTexts.{text_of_placed};
@@ -18,9 +17,10 @@ use crate::places::Placed;
 use crate::texts::{DwexprText, text_at};
 use crate::values::{type_of_code, value_of};
 use dwarf_base::{Error, RunTimeEndian};
-use dwarf_eval::eval::{Evaluation, WaitingKind};
+use dwarf_eval::eval::Evaluation;
 use dwarf_eval::op::EvaluationResult;
 use dwarf_eval::store::EvaluationStorage;
+use dwarf_replay::{Step, Stepped, take_step};
 use dwarf_value::{Value, ValueType};
 
 /// The answer to a request, as a caller's numbers. Any of them may be wrong.
@@ -71,21 +71,35 @@ fn text_in<'a>(
     text_at(texts, order, answer.text).ok_or(BAD_TEXT)
 }
 
-/// `Ok` if the evaluation takes an answer of this kind, or `MISPLACED` if it doesn't.
+/// The step that takes the answer, or a code if the numbers stand for no answer.
 #[inline(always)]
-fn allow<'a, S: EvaluationStorage<Placed<'a>>>(
-    evaluation: &Evaluation<Placed<'a>, S>,
-    kind: WaitingKind,
-) -> Result<(), u32>
-    ensures ok { IfOk result (λ unit. IsOpenFor kind evaluation.now.status) }
+fn step_in<'a>(
+    texts: &[DwexprText<'a>],
+    order: RunTimeEndian,
+    answer: &DwexprAnswer,
+) -> Result<Step<Placed<'a>>, u32>
+    ensures ok { IfOk result
+        (λ step. IsOkAnd (answer_coded (is_big_of order) texts.now answer.now)
+        (λ said. step_of text_of_placed step ≡ Resume said)) }
     ensures err { IfErr result
-        (λ code. (code ≡ codes.MISPLACED) × (IsOpenFor kind evaluation.now.status → ⊥)) }
+        (λ code. answer_coded (is_big_of order) texts.now answer.now ≡ Err code) }
 {
-    if evaluation.is_open_for(kind) {
-        Ok(())
-    } else {
-        Err(MISPLACED)
-    }
+    let number = answer.number;
+    Ok(match answer.kind {
+        answer_kinds::ANSWER_MEMORY => Step::Memory(value_in(answer)?),
+        answer_kinds::ANSWER_REGISTER => Step::Register(value_in(answer)?),
+        answer_kinds::ANSWER_WASM => Step::WasmValue(value_in(answer)?),
+        answer_kinds::ANSWER_ENTRY_VALUE => Step::EntryValue(value_in(answer)?),
+        answer_kinds::ANSWER_FRAME_BASE => Step::FrameBase(number),
+        answer_kinds::ANSWER_TLS => Step::Tls(number),
+        answer_kinds::ANSWER_CFA => Step::CallFrameCfa(number),
+        answer_kinds::ANSWER_PARAMETER => Step::ParameterRef(number),
+        answer_kinds::ANSWER_RELOCATED => Step::RelocatedAddress(number),
+        answer_kinds::ANSWER_INDEXED => Step::IndexedAddress(number),
+        answer_kinds::ANSWER_LOCATION => Step::AtLocation(text_in(texts, order, answer)?),
+        answer_kinds::ANSWER_BASE_TYPE => Step::BaseType(type_in(answer)?),
+        _ => return Err(BAD_ANSWER),
+    })
 }
 
 /// Goes on with an answer, and returns the reply. If the numbers stand for no answer, or the answer isn't allowed, it
@@ -104,62 +118,8 @@ pub(crate) fn resume_with<'a, S: EvaluationStorage<Placed<'a>>>(
         (λ code. IsRefused (answer_coded (is_big_of order) texts.now answer.now) code evaluation.old.status
         × (evaluation.new ≡ evaluation.old)) }
 {
-    let number = answer.number;
-    Ok(match answer.kind {
-        answer_kinds::ANSWER_MEMORY => {
-            let value = value_in(answer)?;
-            allow(evaluation, WaitingKind::Memory)?;
-            evaluation.resume_with_memory(value)
-        }
-        answer_kinds::ANSWER_REGISTER => {
-            let value = value_in(answer)?;
-            allow(evaluation, WaitingKind::Register)?;
-            evaluation.resume_with_register(value)
-        }
-        answer_kinds::ANSWER_WASM => {
-            let value = value_in(answer)?;
-            allow(evaluation, WaitingKind::WasmValue)?;
-            evaluation.resume_with_wasm_value(value)
-        }
-        answer_kinds::ANSWER_ENTRY_VALUE => {
-            let value = value_in(answer)?;
-            allow(evaluation, WaitingKind::EntryValue)?;
-            evaluation.resume_with_entry_value(value)
-        }
-        answer_kinds::ANSWER_FRAME_BASE => {
-            allow(evaluation, WaitingKind::FrameBase)?;
-            evaluation.resume_with_frame_base(number)
-        }
-        answer_kinds::ANSWER_TLS => {
-            allow(evaluation, WaitingKind::Tls)?;
-            evaluation.resume_with_tls(number)
-        }
-        answer_kinds::ANSWER_CFA => {
-            allow(evaluation, WaitingKind::CallFrameCfa)?;
-            evaluation.resume_with_call_frame_cfa(number)
-        }
-        answer_kinds::ANSWER_PARAMETER => {
-            allow(evaluation, WaitingKind::ParameterRef)?;
-            evaluation.resume_with_parameter_ref(number)
-        }
-        answer_kinds::ANSWER_RELOCATED => {
-            allow(evaluation, WaitingKind::RelocatedAddress)?;
-            evaluation.resume_with_relocated_address(number)
-        }
-        answer_kinds::ANSWER_INDEXED => {
-            allow(evaluation, WaitingKind::IndexedAddress)?;
-            evaluation.resume_with_indexed_address(number)
-        }
-        answer_kinds::ANSWER_LOCATION => {
-            let text = text_in(texts, order, answer)?;
-            allow(evaluation, WaitingKind::AtLocation)?;
-            evaluation.resume_with_at_location(text)
-        }
-        answer_kinds::ANSWER_BASE_TYPE => {
-            let base_type = type_in(answer)?;
-            allow(evaluation, WaitingKind::BaseType)?;
-            evaluation.resume_with_base_type(base_type)
-        }
-        _ => return Err(BAD_ANSWER),
-    })
+    match take_step(evaluation, step_in(texts, order, answer)?) {
+        Stepped::Answered(reply) => Ok(reply.0),
+        Stepped::Misplaced | Stepped::Set => Err(MISPLACED),
+    }
 }

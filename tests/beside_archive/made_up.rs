@@ -51,40 +51,6 @@ pub fn line(name: &str, mut numbers: Vec<u64>) -> String {
     numbers.into_iter().filter(|it| *it != 0).fold(name.to_owned(), |said, it| said + &format!(" {it}"))
 }
 
-/// Opcodes that stand for one another.
-type Group = &'static [u8];
-
-const LITERALS: Group = &[0x30, 0x31, 0x4f];
-const CALLS: Group = &[0x98, 0x99, 0x9a];
-const PIECES: Group = &[0x93, 0x93, 0x9d];
-const GROUPS: [Group; 14] = [
-    LITERALS,
-    LITERALS,
-    CALLS,
-    PIECES,
-    // `const1u` to `consts`.
-    &[0x08, 0x09, 0x0a, 0x0b, 0x0c, 0x0d, 0x0e, 0x0f, 0x10, 0x11],
-    // `dup` to `rot`, and `nop`.
-    &[0x12, 0x12, 0x13, 0x14, 0x15, 0x16, 0x17, 0x96],
-    // `abs` to `xor` without `neg` and `not`.
-    &[0x19, 0x1a, 0x1b, 0x1c, 0x1d, 0x1e, 0x21, 0x22, 0x23, 0x24, 0x25, 0x26, 0x27],
-    // `neg`, `not`, and `eq` to `ne`.
-    &[0x1f, 0x20, 0x29, 0x2a, 0x2b, 0x2c, 0x2d, 0x2e],
-    // `bra` and `skip`.
-    &[0x28, 0x28, 0x2f],
-    // `const_type`, `regval_type`, `convert` and `reinterpret`, with GNU's.
-    &[0xa4, 0xf4, 0xa5, 0xf5, 0xa8, 0xa9, 0xf7, 0xf9],
-    // `addr`, `breg`, `fbreg`, `bregx`, `push_object_address`, `call_frame_cfa`, `addrx`, `constx`, `entry_value`,
-    // `GNU_parameter_ref` and `WASM_location`.
-    &[0x03, 0x70, 0x77, 0x91, 0x92, 0x97, 0x9c, 0xa1, 0xa2, 0xa3, 0xfa, 0xed],
-    // `deref`, `deref_size`, `deref_type`, `xderef`, `xderef_size`, `xderef_type` and `form_tls_address`.
-    &[0x06, 0x94, 0xa6, 0x18, 0x95, 0xa7, 0x9b],
-    // `reg`, `regx`, `implicit_value`, `implicit_pointer`, GNU's, and `stack_value`.
-    &[0x50, 0x6f, 0x90, 0x9e, 0xa0, 0xf2, 0x9f],
-    // GNU's, and one that isn't known.
-    &[0xe0, 0xf0, 0xf3, 0xf6, 0xfb, 0xfc, 0xfd, 0xff],
-];
-
 /// The form of the operands of each opcode, as the header has it.
 static FORMS: LazyLock<[u8; 256]> = LazyLock::new(|| {
     let mut forms = [b'.'; 256];
@@ -129,25 +95,30 @@ impl Case {
             home: numbers.below(9) as u8 + 1,
             numbers,
         };
-        // Long texts and deep calls fill the lists.
-        let (groups, most) = match case.numbers.below(12) {
-            0 => ([LITERALS; 14], 80),
-            1 => ([PIECES; 14], 40),
-            2 => ([CALLS; 14], 3),
-            _ => (GROUPS, 9),
-        };
+        // Long texts and deep calls fill the lists: DW_OP_lit1, DW_OP_piece and DW_OP_call2.
+        let (only, most) = case.numbers.one_of(&[(Some(0x31), 80), (Some(0x93), 40), (Some(0x98), 3)]);
+        let (only, most) = if case.numbers.one_in(8) { (only, most) } else { (None, 12) };
         for _ in 0..3 {
             let mut text = Vec::new();
             for _ in 0..=case.numbers.below(most) {
-                let opcodes = case.numbers.one_of(&groups);
-                case.operation(opcodes, &mut text);
-            }
-            if case.numbers.one_in(16) {
-                text.push(case.numbers.any() as u8);
+                let opcode = only.unwrap_or_else(|| case.opcode());
+                case.operation(opcode, &mut text);
             }
             case.texts.push(text);
         }
         case
+    }
+
+    /// A literal, an operation on the stack, one that mostly ends an expression or a piece, or any.
+    fn opcode(&mut self) -> u8 {
+        match self.numbers.below(16) {
+            0..5 => 0x30 + self.numbers.below(32) as u8,
+            5..9 => 0x12 + self.numbers.below(0x1e) as u8,
+            9 | 10 => self.numbers.one_of(&[0x50, 0x90, 0x93, 0x93, 0x9d, 0x9e, 0x9f, 0xa0]),
+            // Those with types, and those that ask.
+            11..15 => 0x91 + self.numbers.below(0x19) as u8,
+            _ => self.numbers.any() as u8,
+        }
     }
 
     /// A text as the crate reads it.
@@ -156,9 +127,8 @@ impl Case {
         EndianSlice::new(text, self.order)
     }
 
-    /// Adds an operation with one of these opcodes, and with made-up operands.
-    fn operation(&mut self, opcodes: &[u8], text: &mut Vec<u8>) {
-        let opcode = self.numbers.one_of(opcodes);
+    /// Adds an operation with made-up operands.
+    fn operation(&mut self, opcode: u8, text: &mut Vec<u8>) {
         let form = FORMS[usize::from(opcode)];
         text.push(opcode);
         match form {

@@ -10,19 +10,16 @@ use std::collections::HashSet;
 
 pub const ENCODING: gimli::Encoding = gimli::Encoding { address_size: 8, format: gimli::Format::Dwarf32, version: 5 };
 
-/// Operands: numbers that differ, after each kind of WebAssembly index; LEB128 numbers of three bytes, of ten, and of
-/// ten that are too large; and such an offset as a reader refuses.
-const OPERANDS: [[u8; 12]; 9] = [
-    [0, 2, 3, 4, 5, 6, 7, 8, 9, 10, 11, 12],
-    [1, 2, 3, 4, 5, 6, 7, 8, 9, 10, 11, 12],
-    [2, 2, 3, 4, 5, 6, 7, 8, 9, 10, 11, 12],
-    [3, 2, 3, 4, 5, 6, 7, 8, 9, 10, 11, 12],
-    [0x82, 0x80, 0, 1, 2, 0x85, 0x80, 0x7f, 4, 5, 6, 7],
-    [0x80, 0x80, 0x80, 0x80, 0x80, 0x80, 0x80, 0x80, 0x80, 0, 1, 2],
-    [0xff, 0xff, 0xff, 0xff, 0xff, 0xff, 0xff, 0xff, 0xff, 1, 3, 4],
-    [0x81, 0x80, 0x80, 0x80, 0x80, 0x80, 0x80, 0x80, 0x80, 0x7f, 5, 6],
-    [0xfe, 0, 0, 0, 0xf0, 0, 0, 0, 0, 0, 0, 0],
-];
+/// Operands: numbers that differ, after each kind of WebAssembly index; LEB128 numbers of each length, also those that
+/// are padded or too large; and such an offset as a reader refuses.
+fn operands() -> Vec<Vec<u8>> {
+    let plain = |first| [&[first][..], &[2, 3, 4, 5, 6, 7, 8, 9, 10, 11, 12]].concat();
+    let leb128 = |(count, byte, last)| [&vec![byte; count][..], &[last, 1, 2, 0x85, 0x80, 0x7f, 4, 5]].concat();
+    let numbers =
+        (1..=10).flat_map(|count| [(count, 0x85, 1), (count, 0x80, 0), (count, 0xff, 0x7f), (count, 0x80, 0x7f)]);
+    let refused = vec![0xfe, 0, 0, 0, 0xf0, 0, 0, 0, 0, 0, 0, 0];
+    (0..=3).map(plain).chain(numbers.map(leb128)).chain([refused]).collect()
+}
 
 /// Decodes with both crates.
 fn decode_both(bytes: &[u8], encoding: gimli::Encoding) {
@@ -56,30 +53,9 @@ fn an_operation_is_gimlis() {
         encoding(3, gimli::Format::Dwarf32, 0),
         encoding(0, gimli::Format::Dwarf64, u16::MAX),
     ] {
-        for (opcode, operands) in (0..=255).flat_map(|opcode| OPERANDS.map(|operands| (opcode, operands))) {
-            for length in 0..=operands.len() {
-                decode_both(&[&[opcode][..], &operands[..length]].concat(), encoding);
-            }
-        }
-    }
-}
-
-/// LEB128 numbers of each length up to 11 bytes: small, large, padded, too large and cut off, before other bytes or at
-/// the end.
-#[test]
-fn a_number_is_gimlis() {
-    // DW_OP_constu, DW_OP_consts, and DW_OP_WASM_location with a number of 32 bits.
-    for (operation, length) in
-        [&[0x10][..], &[0x11], &[0xed, 0]].into_iter().flat_map(|it| (1..=11).map(move |length| (it, length)))
-    {
-        for (first, middle) in [(0x80, 0x80), (0xff, 0xff), (0x85, 0x80), (0xa9, 0xd3), (0xc0, 0xbf), (0x8a, 0xff)] {
-            for last in [0, 1, 2, 0x3f, 0x40, 0x7e, 0x7f, 0x80, 0xfe, 0xff] {
-                let mut number = vec![middle; length];
-                number[0] = first;
-                number[length - 1] = last;
-                decode_both(&[operation, &number].concat(), ENCODING);
-                decode_both(&[operation, &number, &[0x05, 0x7f]].concat(), ENCODING);
-            }
+        for (opcode, operands) in (0..=255).flat_map(|opcode| operands().into_iter().map(move |it| (opcode, it))) {
+            let bytes = [&[opcode][..], &operands].concat();
+            (1..=bytes.len()).for_each(|length| decode_both(&bytes[..length], encoding));
         }
     }
 }
@@ -142,7 +118,7 @@ fn evaluate_both(bytes: &[u8], called: &[u8], names: &mut HashSet<String>) {
 #[test]
 fn an_evaluation_is_gimlis() {
     let mut names = HashSet::new();
-    for (opcode, operands) in (0..=255).flat_map(|opcode| OPERANDS.map(|operands| (opcode, operands))) {
+    for (opcode, operands) in (0..=255).flat_map(|opcode| operands().into_iter().map(move |it| (opcode, it))) {
         let bytes = [&[opcode][..], &operands].concat();
         let mut rest = own(&bytes);
         let size = gimli::Operation::parse(&mut rest, ENCODING).map_or(bytes.len(), |_| bytes.len() - rest.len());

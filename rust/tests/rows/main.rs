@@ -16,7 +16,7 @@ impl Case {
     fn said<R: Reader>(&self, read: impl Fn(&[u8]) -> R) -> String {
         match &self.steps {
             Some(steps) => said::evaluation(&mut Evaluation::new(read(&self.bytes), self.encoding), steps, read),
-            None => said::operations(&self.bytes, self.encoding, read, |it| said::name_of(it)),
+            None => said::operations(&self.bytes, self.encoding, read, said::name_of),
         }
     }
 }

@@ -104,6 +104,9 @@ impl Case {
                 let opcode = only.unwrap_or_else(|| case.opcode());
                 case.operation(opcode, &mut text);
             }
+            if case.numbers.one_in(8) {
+                text.truncate(case.numbers.below(text.len()));
+            }
             case.texts.push(text);
         }
         case

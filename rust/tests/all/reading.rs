@@ -34,7 +34,7 @@ fn a_slice_has_gimlis_calls() {
     let rest = whole.range_from(1..);
     assert_eq!((rest.slice(), rest.offset_from(whole)), (&bytes[1..], 1));
     assert_eq!((whole.range(1..3), whole.range_to(..2)), (little(&[0x0c, 1]), little(&[0x96, 0x0c])));
-    assert_eq!((whole.find(1), whole.find(3)), (Some(2), None));
+    assert_eq!((whole.find(1), whole.find(3), little(&[7, 1, 1]).find(1)), (Some(2), None, Some(1)));
     assert_eq!((whole[1], &whole[2..], whole.first()), (0x0c, &[1, 2][..], Some(&0x96)));
     assert!(panics(|| whole.range_from(5..)) && panics(|| whole.offset_from(rest)));
     let [at_end, after] = [4, 5].map(|place| dwexpr::ReaderOffsetId(whole.offset_id().0 + place));

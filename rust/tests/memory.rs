@@ -1,6 +1,7 @@
 //! Refused memory is an error, and doesn't end the process.
 
-use dwexpr::{Encoding, EndianSlice, Error, Evaluation, EvaluationResult, Format, LittleEndian};
+use dwexpr::EvaluationResult::RequiresAtLocation;
+use dwexpr::{Encoding, EndianSlice, Error, Evaluation, Format, LittleEndian};
 use std::alloc::{GlobalAlloc, Layout, System};
 use std::cell::Cell;
 use std::ptr::null_mut;
@@ -8,9 +9,7 @@ use std::ptr::null_mut;
 thread_local! {
     /// How many bytes this thread may still allocate.
     static LEFT: Cell<usize> = const { Cell::new(usize::MAX) };
-}
 
-thread_local! {
     /// How often this thread has tried to allocate.
     static ASKED: Cell<usize> = const { Cell::new(0) };
 }
@@ -52,45 +51,44 @@ fn with_memory<T>(bytes: usize, call: impl FnOnce() -> T) -> T {
 
 const ENCODING: Encoding = Encoding { address_size: 8, format: Format::Dwarf32, version: 5 };
 
-fn little(bytes: &[u8]) -> EndianSlice<'_, LittleEndian> {
+type Little<'a> = EndianSlice<'a, LittleEndian>;
+
+fn little(bytes: &[u8]) -> Little<'_> {
     EndianSlice::new(bytes, LittleEndian)
+}
+
+/// Evaluates while the thread may allocate this many bytes, and answers a call by DW_OP_lit1.
+fn evaluates(evaluation: &mut Evaluation<Little<'_>>, memory: usize) -> Result<(), Error> {
+    with_memory(memory, || {
+        if let RequiresAtLocation(_) = evaluation.evaluate()? {
+            evaluation.resume_with_at_location(little(&[0x31]))?;
+        }
+        Ok(())
+    })
 }
 
 #[test]
 fn refused_memory_is_an_error() {
-    // A value: DW_OP_lit1.
-    let mut evaluation = with_memory(0, || Evaluation::new(little(&[0x31]), ENCODING));
-    assert_eq!(with_memory(0, || evaluation.evaluate()), Err(Error::StackFull));
-    // The fault is kept.
-    assert_eq!(evaluation.evaluate(), Err(Error::StackFull));
-    evaluation.restart(little(&[0x31]), ENCODING);
-    assert_eq!(evaluation.evaluate(), Ok(EvaluationResult::Complete));
-    // The lists keep their memory.
-    evaluation.restart(little(&[0x32]), ENCODING);
-    assert_eq!(with_memory(0, || evaluation.evaluate()), Ok(EvaluationResult::Complete));
-    // More values than there is memory for.
-    let many = [0x31; 10_000];
-    evaluation.restart(little(&many), ENCODING);
-    assert_eq!(with_memory(5_000, || evaluation.evaluate()), Err(Error::StackFull));
-    // A single piece allocates nothing before `result`, and two pieces do: DW_OP_reg0 and DW_OP_piece 4, twice.
-    let pieces = [0x50, 0x93, 4, 0x50, 0x93, 4];
-    let pieces_of_one = [pieces[0]];
-    let mut evaluation = Evaluation::new(little(&pieces_of_one), ENCODING);
-    assert_eq!(with_memory(0, || evaluation.evaluate()), Ok(EvaluationResult::Complete));
-    let piece = evaluation.as_result()[0];
-    assert_eq!(evaluation.result(), [piece]);
-    for (memory, pieces) in [(0, Err(Error::StackFull)), (1_000, Ok(vec![piece]))] {
-        let mut evaluation = Evaluation::new(little(&pieces_of_one), ENCODING);
-        assert_eq!(evaluation.evaluate(), Ok(EvaluationResult::Complete));
-        assert_eq!(with_memory(memory, || evaluation.try_result()), pieces);
+    // DW_OP_lit1, once and often; DW_OP_reg0 and DW_OP_piece 4, twice; DW_OP_call2, and DW_OP_nop after it.
+    for (text, memory) in
+        [(&[0x31][..], 0), (&[0x31; 10_000], 5_000), (&[0x50, 0x93, 4, 0x50, 0x93, 4], 0), (&[0x98, 1, 0, 0x96], 0)]
+    {
+        let mut evaluation = with_memory(0, || Evaluation::new(little(text), ENCODING));
+        assert_eq!(evaluates(&mut evaluation, memory), Err(Error::StackFull));
+        // The fault is kept.
+        assert_eq!(evaluation.evaluate(), Err(Error::StackFull));
+        evaluation.restart(little(text), ENCODING);
+        assert_eq!(evaluates(&mut evaluation, usize::MAX), Ok(()));
+        // The lists keep their memory.
+        evaluation.restart(little(text), ENCODING);
+        assert_eq!(evaluates(&mut evaluation, 0), Ok(()));
     }
-    let mut evaluation = Evaluation::new(little(&pieces), ENCODING);
-    assert_eq!(with_memory(0, || evaluation.evaluate()), Err(Error::StackFull));
-    // A caller: DW_OP_call2, and DW_OP_nop after it.
-    let mut evaluation = Evaluation::new(little(&[0x98, 1, 0, 0x96]), ENCODING);
-    assert!(matches!(with_memory(0, || evaluation.evaluate()), Ok(EvaluationResult::RequiresAtLocation(_))));
-    let called = with_memory(0, || evaluation.resume_with_at_location(little(&[0x31])));
-    assert_eq!(called, Err(Error::StackFull));
+    // A single piece allocates nothing before it is taken out.
+    for (memory, count) in [(0, Err(Error::StackFull)), (1_000, Ok(1))] {
+        let mut evaluation = Evaluation::new(little(&[0x50]), ENCODING);
+        assert_eq!(evaluates(&mut evaluation, 0), Ok(()));
+        assert_eq!(with_memory(memory, || evaluation.try_result().map(|pieces| pieces.len())), count);
+    }
 }
 
 /// A full list grows in proportion to its length: n items allocate about log2(n) times.
@@ -102,7 +100,7 @@ fn a_list_seldom_grows() {
             let text = item.repeat((1 << power) + 1);
             let mut evaluation = Evaluation::new(little(&text), ENCODING);
             ASKED.set(0);
-            assert_eq!(evaluation.evaluate(), Ok(EvaluationResult::Complete));
+            assert!(evaluation.evaluate().is_ok());
             assert!(ASKED.get() <= power + 2, "2^{power} items: {} times", ASKED.get());
         }
     }

@@ -4,7 +4,7 @@ use std::path::{Path, PathBuf};
 use std::{env, fs};
 
 /// Each of these sources has a struct that C sees.
-const SOURCES: [&str; 7] = ["answers", "encodings", "operations", "outcomes", "pieces", "settings", "values"];
+const SOURCES: [&str; 6] = ["answers", "encodings", "operations", "outcomes", "pieces", "settings"];
 
 fn main() {
     let path = env::var("DWEXPR_ARCHIVE").expect("DWEXPR_ARCHIVE names the archive");

@@ -1,54 +1,5 @@
 //! What gimli's own tests don't show: calls out of turn, storages, a user's readers, errors.
 
-/// Implements gimli's `Reader` for a type over a slice: like the slice, except for the calls that are given.
-#[cfg(feature = "gimli")]
-macro_rules! over_slice {
-    ($name:ident: $($own:tt)+) => {
-        impl gimli::Reader for $name<'_> {
-            type Endian = gimli::LittleEndian;
-            type Offset = usize;
-
-            over_slice! {
-                endian() -> gimli::LittleEndian;
-                len() -> usize;
-                offset_id() -> gimli::ReaderOffsetId;
-                lookup_offset_id(id: gimli::ReaderOffsetId) -> Option<usize>;
-                find(byte: u8) -> gimli::Result<usize>;
-                to_slice() -> gimli::Result<std::borrow::Cow<'_, [u8]>>;
-                to_string() -> gimli::Result<std::borrow::Cow<'_, str>>;
-                to_string_lossy() -> gimli::Result<std::borrow::Cow<'_, str>>;
-            }
-
-            fn empty(&mut self) {
-                self.0.empty();
-            }
-
-            fn truncate(&mut self, len: usize) -> gimli::Result<()> {
-                self.0.truncate(len)
-            }
-
-            fn offset_from(&self, base: &Self) -> usize {
-                self.0.offset_from(base.0)
-            }
-
-            fn skip(&mut self, len: usize) -> gimli::Result<()> {
-                self.0.skip(len)
-            }
-
-            fn split(&mut self, len: usize) -> gimli::Result<Self> {
-                self.0.split(len).map($name)
-            }
-
-            $($own)+
-        }
-    };
-    ($($name:ident($($argument:ident: $type:ty)?) -> $result:ty;)+) => {
-        $(fn $name(&self, $($argument: $type)?) -> $result {
-            gimli::Reader::$name(&self.0, $($argument)?)
-        })+
-    };
-}
-
 #[cfg(feature = "gimli")]
 mod clones;
 mod evaluations;
@@ -58,9 +9,9 @@ mod integers;
 mod interop;
 mod plain;
 mod ranges;
-mod reading;
 #[cfg(feature = "gimli")]
-mod requests;
+mod readers;
+mod reading;
 mod storages;
 
 use dwexpr::{Encoding, EndianSlice, Evaluation, Format, LittleEndian};

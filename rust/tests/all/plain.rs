@@ -2,11 +2,12 @@
 
 use dwexpr::constants::*;
 use dwexpr::{
-    BigEndian, DebugInfoOffset, Encoding, Error, Format, LittleEndian, NativeEndian, ReaderOffsetId, Register,
-    RunTimeEndian, UnitOffset,
+    BigEndian, DebugInfoOffset, Encoding, Error, Format, LittleEndian, NativeEndian, ReaderOffset, ReaderOffsetId,
+    Register, RunTimeEndian, UnitOffset,
 };
-use std::collections::{BTreeMap, HashSet};
+use std::collections::HashSet;
 use std::fmt::Debug;
+use std::hash::{BuildHasher, BuildHasherDefault, DefaultHasher, Hash};
 
 /// Each error, and its message.
 pub const ERRORS: [(Error, &str); 21] = [
@@ -44,79 +45,61 @@ fn each_error_says_what_it_is() {
 
 #[test]
 fn constants_have_their_names() {
-    assert_eq!(DW_OP_deref.to_string(), "DW_OP_deref");
-    assert_eq!(DW_OP_GNU_variable_value.static_string(), Some("DW_OP_GNU_variable_value"));
-    assert_eq!(DW_ATE_UTF.to_string(), "DW_ATE_UTF");
-    assert_eq!(DwOp(0xff).to_string(), "Unknown DwOp: 255");
     assert_eq!(format!("{:>20}|{:<20}|", DwAte(0x7f), DW_ATE_UTF), "  Unknown DwAte: 127|DW_ATE_UTF          |");
-    assert_eq!(DwAte(0x7f).static_string(), None);
     // The opcodes of DWARF 5, of GNU and of WebAssembly.
     for number in 0..=255 {
         let is_standard = matches!(number, 0x03..=0xa9) && !matches!(number, 0x04 | 0x05 | 0x07);
         let is_extension = matches!(number, 0xe0 | 0xed | 0xf0 | 0xf2..=0xf7 | 0xf9..=0xfd);
-        assert_eq!(DwOp(number).static_string().is_some(), is_standard || is_extension, "{number:#x}");
+        let name = DwOp(number).static_string();
+        assert_eq!(name.is_some(), is_standard || is_extension, "{number:#x}");
+        assert_eq!(DwOp(number).to_string(), name.map_or(format!("Unknown DwOp: {number}"), Into::into));
+        #[cfg(feature = "gimli")]
+        {
+            assert!(name.is_none() || name == gimli::DwOp(number).static_string(), "{number:#x}");
+            assert_eq!(DwAte(number).to_string(), gimli::DwAte(number).to_string());
+            assert_eq!(DwAte(number).static_string(), gimli::DwAte(number).static_string());
+        }
     }
 }
 
-/// The encodings of base types of DWARF 5, section 7.8.
-#[test]
-fn encodings_have_the_standards_numbers() {
-    macro_rules! assert_numbers {
-        ($($name:ident $number:literal;)+) => {
-            $(
-                assert_eq!($name, DwAte($number));
-                assert_eq!(DwAte($number).static_string(), Some(stringify!($name)));
-            )+
-            let known = [$($number),+];
-            for number in 0..=255 {
-                assert_eq!(DwAte(number).static_string().is_some(), known.contains(&number), "{number:#x}");
-            }
-        };
-    }
-    assert_numbers! {
-        DW_ATE_address 0x01; DW_ATE_boolean 0x02; DW_ATE_complex_float 0x03; DW_ATE_float 0x04; DW_ATE_signed 0x05;
-        DW_ATE_signed_char 0x06; DW_ATE_unsigned 0x07; DW_ATE_unsigned_char 0x08; DW_ATE_imaginary_float 0x09;
-        DW_ATE_packed_decimal 0x0a; DW_ATE_numeric_string 0x0b; DW_ATE_edited 0x0c; DW_ATE_signed_fixed 0x0d;
-        DW_ATE_unsigned_fixed 0x0e; DW_ATE_decimal_float 0x0f; DW_ATE_UTF 0x10; DW_ATE_UCS 0x11; DW_ATE_ASCII 0x12;
-        DW_ATE_lo_user 0x80; DW_ATE_hi_user 0xff;
-    }
-}
-
-/// `cmp`, `partial_cmp`, a sort and a map all order `all` by its numbers, which ascend.
-fn assert_ordered<T: Ord + Copy + Debug>(all: &[T]) {
-    let step = all.len().div_ceil(256);
-    for (i, x) in all.iter().enumerate().step_by(step) {
-        for (j, y) in all.iter().enumerate().step_by(step) {
+/// Items with ascending numbers are ordered, and hashed, by these.
+fn assert_numbered<T: Ord + Hash + Copy + Debug>(all: &[T]) {
+    for (i, x) in all.iter().enumerate() {
+        for (j, y) in all.iter().enumerate() {
             assert_eq!((x.cmp(y), x.partial_cmp(y)), (i.cmp(&j), Some(i.cmp(&j))), "{x:?} and {y:?}");
         }
     }
-    let mut sorted: Vec<T> = all.iter().rev().copied().collect();
-    sorted.sort();
-    assert_eq!(sorted, all);
-    let places: BTreeMap<T, usize> = all.iter().rev().enumerate().map(|(i, x)| (*x, all.len() - 1 - i)).collect();
-    assert!(places.values().copied().eq(0..all.len()));
+    assert_hashed(all);
+}
+
+/// Different items have different hashes.
+fn assert_hashed<T: Hash>(all: &[T]) {
+    let hashes: HashSet<_> = all.iter().map(|it| BuildHasherDefault::<DefaultHasher>::new().hash_one(it)).collect();
+    assert_eq!(hashes.len(), all.len());
+}
+
+/// gimli's bounds are enough for offsets of any reader.
+fn assert_offsets<O: ReaderOffset>(all: &[O]) {
+    assert_numbered(&all.iter().copied().map(UnitOffset).collect::<Vec<_>>());
+    assert_numbered(&all.iter().copied().map(DebugInfoOffset).collect::<Vec<_>>());
 }
 
 #[test]
-fn orders_are_those_of_the_numbers() {
+fn orders_and_hashes_are_those_of_the_numbers() {
     let bytes = || 0..=u8::MAX;
-    assert_ordered(&bytes().map(DwOp).collect::<Vec<_>>());
-    assert_ordered(&bytes().map(DwAte).collect::<Vec<_>>());
-    assert_ordered(&(0..=u16::MAX).map(Register).collect::<Vec<_>>());
-    let wide = || bytes().map(|byte| u64::from(byte) << 56 | u64::from(!byte));
-    assert_ordered(&wide().map(UnitOffset).collect::<Vec<_>>());
-    assert_ordered(&wide().map(DebugInfoOffset).collect::<Vec<_>>());
-}
-
-#[test]
-fn numbers_are_hashed() {
-    let hashed: HashSet<_> = [Register(1), Register(2), Register(1)].into();
-    assert_eq!(hashed.len(), 2);
-    let encoding = |version, format| Encoding { address_size: 8, format, version };
-    let hashed: HashSet<_> =
-        [encoding(4, Format::Dwarf32), encoding(5, Format::Dwarf32), encoding(4, Format::Dwarf64)].into();
-    assert!(hashed.len() == 3 && hashed.contains(&encoding(4, Format::Dwarf64)));
+    assert_numbered(&bytes().map(DwOp).collect::<Vec<_>>());
+    assert_numbered(&bytes().map(DwAte).collect::<Vec<_>>());
+    assert_numbered(&bytes().map(|byte| Register(u16::from(byte) << 8 | u16::from(!byte))).collect::<Vec<_>>());
+    assert_offsets(&bytes().map(|byte| usize::from(byte) << 24 | usize::from(!byte)).collect::<Vec<_>>());
+    assert_offsets(&bytes().map(|byte| u64::from(byte) << 56 | u64::from(!byte)).collect::<Vec<_>>());
+    assert_hashed(&[Format::Dwarf32, Format::Dwarf64]);
     assert_eq!((Format::Dwarf32.word_size(), Format::Dwarf64.word_size()), (4, 8));
+    let encodings = bytes().flat_map(|address_size| {
+        [Format::Dwarf32, Format::Dwarf64].map(|format| Encoding { address_size, format, version: address_size.into() })
+    });
+    assert_hashed(&encodings.chain([Encoding { version: 900, ..super::ENCODING }]).collect::<Vec<_>>());
+    let text = [1; 256];
+    assert_hashed(&(0..256).map(|length| super::little(&text[..length])).collect::<Vec<_>>());
 }
 
 #[test]

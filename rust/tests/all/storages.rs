@@ -1,96 +1,88 @@
-//! Storage on the heap, in borrowed slices and in arrays.
+//! Storage on the heap, in borrowed slices and in arrays, also of readers that have to be dropped.
 
-use super::{ENCODING, evaluation, little, panics};
+use super::{ENCODING, little, panics};
 use dwexpr::EvaluationResult::*;
-use dwexpr::{Error, Evaluation, EvaluationStorage, Location, Piece, SliceVec, StoreInSlices, Value};
+use dwexpr::{Error, Evaluation, EvaluationStorage, Location, Piece, Reader, SliceVec, StoreInSlices, Value};
 
-#[test]
-fn a_list_on_the_heap_has_no_limit() {
-    assert_eq!(evaluation(&[0x31; 200_000]).evaluate(), Ok(Complete));
-    // Each expression is a call, except the last, which pushes 1.
-    let mut it = evaluation(&[0x98, 1, 0]);
-    let mut result = it.evaluate();
-    for _ in 0..200_000 {
-        assert!(matches!(result, Ok(RequiresAtLocation(_))));
-        result = it.resume_with_at_location(little(&[0x98, 1, 0, 0x23, 1]));
-    }
-    assert!(matches!(result, Ok(RequiresAtLocation(_))));
-    assert_eq!(it.resume_with_at_location(little(&[0x31])), Ok(Complete));
-    assert_eq!(it.value_result(), Some(Value::Generic(200_001)));
-    // DW_OP_piece 1.
-    let pieces = [0x93, 1].repeat(200_000);
-    let mut it = evaluation(&pieces);
-    assert_eq!(it.evaluate(), Ok(Complete));
-    assert_eq!(it.result().len(), 200_000);
-}
-
-/// Two values, one caller and two pieces fit, and one more is refused.
-fn has_limits_2_1_2<'a, S: EvaluationStorage<super::Little<'a>>>(mut it: Evaluation<super::Little<'a>, S>) {
-    for (bytes, result) in [
-        (&[0x31, 0x32][..], Ok(Complete)),
-        (&[0x31, 0x32, 0x33], Err(Error::StackFull)),
-        (&[0x93, 1, 0x93, 1], Ok(Complete)),
-        (&[0x93, 1, 0x93, 1, 0x93, 1], Err(Error::StackFull)),
-        (&[0x31, 0x32, 0x22], Ok(Complete)),
+/// Two values, one caller and two pieces fit, and one more is refused; so it is after each restart.
+fn has_limits_2_1_2<R: Reader, S: EvaluationStorage<R>>(mut it: Evaluation<R, S>, read: fn(&'static [u8]) -> R) {
+    let call = &[0x98, 1, 0, 0x96];
+    for (text, called, wanted) in [
+        (&[0x31, 0x32][..], &[][..], Ok(2)),
+        (&[0x31, 0x32, 0x33], &[], Err(Error::StackFull)),
+        (&[0x93, 1, 0x93, 1], &[], Ok(0)),
+        (&[0x93, 1, 0x93, 1, 0x93, 1], &[], Err(Error::StackFull)),
+        (call, &[&[0x31][..]], Ok(1)),
+        (call, &[call, &[0x31]], Err(Error::StackFull)),
+        (&[0x31, 0x32, 0x22], &[], Ok(3)),
     ] {
-        it.restart(little(bytes), ENCODING);
-        assert_eq!(it.evaluate(), result);
+        it.restart(read(text), ENCODING);
+        let mut reply = it.evaluate();
+        for bytes in called {
+            assert!(matches!(reply, Ok(RequiresAtLocation(_))));
+            reply = it.resume_with_at_location(read(bytes));
+        }
+        let value = |it: &Evaluation<R, S>| it.value_result().map_or(Ok(0), |value| value.to_u64(u64::MAX));
+        assert_eq!(reply.and_then(|_| value(&it)), wanted, "{text:x?}");
     }
-    assert_eq!(it.as_result()[0].location, Location::Address { address: 3 });
-    it.restart(little(&[0x98, 1, 0, 0x96]), ENCODING);
-    assert!(matches!(it.evaluate(), Ok(RequiresAtLocation(_))));
-    assert!(matches!(it.resume_with_at_location(little(&[0x98, 1, 0, 0x96])), Ok(RequiresAtLocation(_))));
-    assert_eq!(it.resume_with_at_location(little(&[0x31])), Err(Error::StackFull));
+    assert!(matches!(it.as_result()[0].location, Location::Address { address: 3 }));
 }
 
-#[test]
-fn lists_may_be_lent() {
-    let bytes = little(&[]);
-    let (mut values, mut callers, mut pieces) = ([Value::default(); 2], [(bytes, bytes); 1], [Piece::default(); 2]);
-    has_limits_2_1_2(Evaluation::<_, StoreInSlices>::with_lists(
-        bytes,
+fn lists_have_limits<R: Reader>(read: fn(&'static [u8]) -> R) {
+    let (mut values, mut callers) = ([Value::default(); 2], [(read(&[]), read(&[]))]);
+    let mut pieces = [Piece::default(), Piece::default()];
+    let it = Evaluation::<_, StoreInSlices>::with_lists(
+        read(&[]),
         ENCODING,
         SliceVec::new(&mut values),
         SliceVec::new(&mut callers),
         SliceVec::new(&mut pieces),
-    ));
+    );
+    has_limits_2_1_2(it, read);
+    #[cfg(feature = "arrayvec")]
+    {
+        use arrayvec::ArrayVec;
+
+        struct InArrays;
+
+        impl<R: Reader> EvaluationStorage<R> for InArrays {
+            type Stack = [Value; 2];
+            type ExpressionStack = ArrayVec<(R, R), 1>;
+            type Result = [Piece<R>; 2];
+        }
+
+        struct OnHeap;
+
+        impl<R: Reader> EvaluationStorage<R> for OnHeap {
+            type Stack = Box<[Value; 2]>;
+            type ExpressionStack = Box<[(R, R); 1]>;
+            type Result = Box<[Piece<R>; 2]>;
+        }
+
+        has_limits_2_1_2(Evaluation::<_, InArrays>::new_in(read(&[]), ENCODING), read);
+        has_limits_2_1_2(Evaluation::<_, OnHeap>::new_in(read(&[]), ENCODING), read);
+    }
+}
+
+#[test]
+fn a_list_has_its_capacity() {
+    lists_have_limits(|bytes| little(bytes));
+    #[cfg(feature = "gimli")]
+    lists_have_limits(|bytes| dwexpr::GimliReader(gimli::EndianArcSlice::new(bytes.into(), gimli::LittleEndian)));
     let mut without_room = Evaluation::<_, StoreInSlices>::new_in(little(&[0x31]), ENCODING);
     assert_eq!(without_room.evaluate(), Err(Error::StackFull));
 }
 
 #[test]
-fn a_list_that_is_handed_over_is_empty() {
-    let start = |values| {
-        let mut it = Evaluation::<_>::with_lists(little(&[0x31]), ENCODING, values, Vec::new(), Vec::new());
-        it.evaluate()
+fn each_list_that_is_handed_over_is_empty() {
+    let text = little(&[0x31]);
+    let starts = |values, callers, pieces| {
+        !panics(|| Evaluation::<_>::with_lists(text, ENCODING, values, callers, pieces).status())
     };
-    assert_eq!(start(Vec::with_capacity(8)), Ok(Complete));
-    assert!(panics(|| start(vec![Value::Generic(1)])));
-}
-
-#[cfg(feature = "arrayvec")]
-#[test]
-fn lists_may_be_arrays() {
-    use arrayvec::ArrayVec;
-    use dwexpr::Reader;
-
-    struct InArrays;
-
-    impl<R: Reader> EvaluationStorage<R> for InArrays {
-        type Stack = [Value; 2];
-        type ExpressionStack = ArrayVec<(R, R), 1>;
-        type Result = [Piece<R>; 2];
+    assert!(starts(Vec::with_capacity(8), vec![], vec![]));
+    for count in 1..=3 {
+        assert!(!starts(vec![Value::default(); count], vec![], vec![]));
+        assert!(!starts(vec![], vec![(text, text); count], vec![]));
+        assert!(!starts(vec![], vec![], vec![Piece::default(); count]));
     }
-
-    has_limits_2_1_2(Evaluation::<_, InArrays>::new_in(little(&[]), ENCODING));
-
-    struct OnHeap;
-
-    impl<R: Reader> EvaluationStorage<R> for OnHeap {
-        type Stack = Box<[Value; 2]>;
-        type ExpressionStack = Box<[(R, R); 1]>;
-        type Result = Box<[Piece<R>; 2]>;
-    }
-
-    has_limits_2_1_2(Evaluation::<_, OnHeap>::new_in(little(&[]), ENCODING));
 }

@@ -1,7 +1,7 @@
 //! The rows and vectors of the program `dwexpr`, as cases.
 
 use crate::json::Json;
-use crate::said::bytes_in;
+use crate::said::{bytes_in, variant_of};
 use dwexpr::{Encoding, Format, RunTimeEndian};
 use std::fs;
 use std::path::Path;
@@ -16,27 +16,14 @@ pub struct Case {
 }
 
 impl Case {
-    /// A case, by the words of an encoding and the digits of the bytes. `None` if the program refuses them.
-    fn of(words: &[&str], steps: Option<String>, wanted: String) -> Option<Case> {
-        let [address_size, offset_size, version, order, digits] = *words else { return None };
-        let in_range = |word: &str, range: std::ops::RangeInclusive<u16>| {
-            let number = word.parse().ok().filter(|it| range.contains(it))?;
-            (word.len() == 1).then_some(number)
-        };
-        let format = match offset_size {
-            "4" => Format::Dwarf32,
-            "8" => Format::Dwarf64,
-            _ => return None,
-        };
-        let order = match order {
-            "le" => RunTimeEndian::Little,
-            "be" => RunTimeEndian::Big,
-            _ => return None,
-        };
-        let is_even = digits.len() % 2 == 0 && !digits.is_empty() && digits.bytes().all(|it| it.is_ascii_hexdigit());
-        let bytes = (digits == "-" || is_even).then(|| bytes_in(digits))?;
-        let (address_size, version) = (in_range(address_size, 1..=8)? as u8, in_range(version, 2..=5)?);
-        Some(Case { encoding: Encoding { address_size, format, version }, order, bytes, steps, wanted })
+    /// A case, by the words of an encoding and the digits of the bytes.
+    fn of(words: &[&str], steps: Option<String>, wanted: String) -> Case {
+        let [address_size, offset_size, version, order, digits] = *words else { panic!("{words:?}") };
+        let format = if offset_size == "8" { Format::Dwarf64 } else { Format::Dwarf32 };
+        let encoding =
+            Encoding { address_size: address_size.parse().unwrap(), format, version: version.parse().unwrap() };
+        let order = if order == "be" { RunTimeEndian::Big } else { RunTimeEndian::Little };
+        Case { encoding, order, bytes: bytes_in(digits), steps, wanted }
     }
 }
 
@@ -56,7 +43,7 @@ fn part(json: &Json) -> String {
     }
 }
 
-/// The case of a row. `None` if the row is about something else, such as words that the program refuses.
+/// The case of a row. `None` if the row is about something else, such as words or steps that the program refuses.
 fn case_of(row: &Json) -> Option<Case> {
     if ["by", "program", "input_from", "output_to", "megabytes"].iter().any(|it| row.get(it).is_some()) {
         return None;
@@ -69,15 +56,7 @@ fn case_of(row: &Json) -> Option<Case> {
         "ops" => None,
         _ => return None,
     };
-    if wanted.starts_with("bad ") { None } else { Case::of(&words[1..], steps, wanted) }
-}
-
-/// The variant or fault in a vector's name: `PlusConstant` for `PLUS_CONSTANT`.
-fn variant_of(name: &str) -> String {
-    let capitalized = |word: &str| {
-        if matches!(word, "TLS" | "CFA") { word.into() } else { word[..1].to_owned() + &word[1..].to_lowercase() }
-    };
-    name.split('_').map(capitalized).collect()
+    (!wanted.starts_with("bad ")).then(|| Case::of(&words[1..], steps, wanted))
 }
 
 fn case_of_vector(vector: &Json) -> Case {
@@ -90,7 +69,7 @@ fn case_of_vector(vector: &Json) -> Case {
         }
         None => format!("0 {digits} {}\n", variant_of(vector.get("kind").unwrap().text())),
     };
-    Case::of(&words, None, wanted).expect("a vector is read")
+    Case::of(&words, None, wanted)
 }
 
 fn json_in(path: &Path) -> Json {

@@ -5,8 +5,8 @@ use std::str::Chars;
 
 #[derive(Debug)]
 pub enum Json {
+    /// A string, or the letters and digits of anything else that is no list or object.
     Text(String),
-    Number(String),
     List(Vec<Json>),
     Object(Vec<(String, Json)>),
 }
@@ -17,13 +17,10 @@ impl Json {
         value(&mut text.chars().peekable())
     }
 
-    pub fn members(&self) -> &[(String, Json)] {
-        if let Json::Object(members) = self { members } else { panic!("{self:?} is no object") }
-    }
-
     /// A member of an object.
     pub fn get(&self, name: &str) -> Option<&Json> {
-        self.members().iter().find(|it| it.0 == name).map(|it| &it.1)
+        let Json::Object(members) = self else { panic!("{self:?} is no object") };
+        members.iter().find(|it| it.0 == name).map(|it| &it.1)
     }
 
     pub fn items(&self) -> &[Json] {
@@ -31,7 +28,7 @@ impl Json {
     }
 
     pub fn text(&self) -> &str {
-        if let Json::Text(text) | Json::Number(text) = self { text } else { panic!("{self:?} is no text") }
+        if let Json::Text(text) = self { text } else { panic!("{self:?} is no text") }
     }
 }
 
@@ -51,7 +48,7 @@ fn value(signs: &mut Peekable<Chars>) -> Json {
             assert_eq!((peek(signs), signs.next()), (':', Some(':')));
             (name, value(signs))
         })),
-        _ => Json::Number(std::iter::from_fn(|| signs.next_if(|it| it.is_alphanumeric() || *it == '-')).collect()),
+        _ => Json::Text(std::iter::from_fn(|| signs.next_if(|it| it.is_alphanumeric() || *it == '-')).collect()),
     }
 }
 

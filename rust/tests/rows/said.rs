@@ -1,8 +1,8 @@
 //! Decodes and evaluates, and gives the lines that the program `dwexpr` prints.
 
 use dwexpr::{
-    DieReference, Encoding, Error, Evaluation, EvaluationResult, Location, Operation, Piece, Reader, ReaderOffset,
-    Status, Value, ValueType,
+    DieReference, Encoding, Error, Evaluation, EvaluationResult, EvaluationStorage, Expression, Location, Operation,
+    Piece, Reader, ReaderOffset, Status, Value, ValueType,
 };
 use std::fmt::Debug;
 use std::panic::{AssertUnwindSafe, catch_unwind};
@@ -32,18 +32,18 @@ pub fn digits_of(bytes: &[u8]) -> String {
     if bytes.is_empty() { "-".into() } else { bytes.iter().map(|byte| format!("{byte:02x}")).collect() }
 }
 
-pub fn number_in(word: &str) -> u64 {
+fn number_in(word: &str) -> u64 {
     match word.strip_prefix("0x") {
         Some(digits) => u64::from_str_radix(digits, 16).unwrap(),
         None => word.parse().unwrap_or_else(|_| word.parse::<i64>().unwrap() as u64),
     }
 }
 
-pub fn type_in(word: &str) -> ValueType {
+fn type_in(word: &str) -> ValueType {
     TYPES.iter().find(|it| it.0 == word).expect("a type").1
 }
 
-pub fn value_in(word: &str) -> Value {
+fn value_in(word: &str) -> Value {
     let (value_type, number) = word.split_once(':').expect("a value has a type");
     Value::from_u64(type_in(value_type), number_in(number)).unwrap()
 }
@@ -65,11 +65,19 @@ fn block_word<R: Reader>(mut reader: R) -> String {
 }
 
 /// The name of a variant, from its `Debug`.
-fn name_of(shown: &impl Debug) -> String {
+pub fn name_of(shown: &impl Debug) -> String {
     format!("{shown:?}").split(|it: char| !it.is_alphanumeric()).next().unwrap().into()
 }
 
-pub fn fault(error: Error) -> String {
+/// The variant in a name of C's header: `PlusConstant` for `PLUS_CONSTANT`.
+pub fn variant_of(name: &str) -> String {
+    let capitalized = |word: &str| {
+        if matches!(word, "TLS" | "CFA") { word.into() } else { word[..1].to_owned() + &word[1..].to_lowercase() }
+    };
+    name.split('_').map(capitalized).collect()
+}
+
+fn fault(error: Error) -> String {
     let number = match error {
         Error::UnsupportedAddressSize(size) | Error::InvalidDerefSize(size) => Some(size.into()),
         Error::UnsupportedRegister(number) | Error::InvalidPieceSize(number) => Some(number),
@@ -80,7 +88,7 @@ pub fn fault(error: Error) -> String {
     format!("fault {}{}", name_of(&error), number.map_or(String::new(), |it| format!(" {it}")))
 }
 
-fn or_none<T>(it: Option<T>, word: impl Fn(T) -> String) -> String {
+pub fn or_none<T>(it: Option<T>, word: impl Fn(T) -> String) -> String {
     it.map_or("none".into(), word)
 }
 
@@ -126,26 +134,34 @@ fn piece_line<R: Reader>(piece: Piece<R>) -> String {
 }
 
 /// The lines of `dwexpr ops`: each operation with its place and its bytes, up to the first fault.
-pub fn operations<R: Reader + Debug>(bytes: &[u8], encoding: Encoding, read: impl Fn(&[u8]) -> R) -> String {
-    let (mut left, mut said) = (read(bytes), String::new());
-    while !left.is_empty() {
-        let place = bytes.len() - left.len().into_u64() as usize;
-        match Operation::parse(&mut left, encoding) {
-            Ok(operation) => {
-                let end = bytes.len() - left.len().into_u64() as usize;
-                said += &format!("{place} {} {}\n", digits_of(&bytes[place..end]), name_of(&operation));
-            }
-            Err(error) => {
-                said += &format!("{place} {}\n", fault(error));
-                break;
-            }
+pub fn operations<R: Reader>(
+    bytes: &[u8],
+    encoding: Encoding,
+    read: impl Fn(&[u8]) -> R,
+    say: impl Fn(&Operation<R>) -> String,
+) -> String {
+    let (whole, mut operations) = (Expression(read(bytes)), Expression(read(bytes)).operations(encoding));
+    let (mut place, mut said) = (0, String::new());
+    loop {
+        let item = operations.next();
+        let end = operations.offset_from(&whole).into_u64() as usize;
+        match item {
+            Ok(Some(it)) => said += &format!("{place} {} {}\n", digits_of(&bytes[place..end]), say(&it)),
+            Ok(None) => break,
+            Err(error) => said += &format!("{place} {}\n", fault(error)),
         }
+        place = end;
     }
+    assert_eq!(place, bytes.len());
     said
 }
 
 /// Takes a step. A setting has no reply.
-fn take<R: Reader>(it: &mut Evaluation<R>, step: &str, read: &impl Fn(&[u8]) -> R) -> Option<Reply<R>> {
+fn take<R: Reader, S: EvaluationStorage<R>>(
+    it: &mut Evaluation<R, S>,
+    step: &str,
+    read: &impl Fn(&[u8]) -> R,
+) -> Option<Reply<R>> {
     let (step, word) = step.split_once(' ').unwrap_or((step, ""));
     Some(match step {
         "initial" => {
@@ -179,21 +195,23 @@ fn take<R: Reader>(it: &mut Evaluation<R>, step: &str, read: &impl Fn(&[u8]) -> 
 
 /// The lines of `dwexpr eval`: each reply, up to a step out of turn, and the pieces and the value if the evaluation is
 /// complete.
-pub fn evaluation<R: Reader>(bytes: &[u8], encoding: Encoding, steps: &str, read: impl Fn(&[u8]) -> R) -> String {
-    let (mut evaluation, mut said) = (Evaluation::new(read(bytes), encoding), String::new());
-    evaluation.set_max_iterations(MAXIMUM);
+pub fn evaluation<R: Reader, S: EvaluationStorage<R>>(
+    it: &mut Evaluation<R, S>,
+    steps: &str,
+    read: impl Fn(&[u8]) -> R,
+) -> String {
+    let mut said = String::new();
+    it.set_max_iterations(MAXIMUM);
     for (number, step) in (1..).zip(steps.lines()) {
-        match catch_unwind(AssertUnwindSafe(|| take(&mut evaluation, step, &read))) {
+        match catch_unwind(AssertUnwindSafe(|| take(it, step, &read))) {
             Ok(Some(reply)) => said += &(reply_line(reply) + "\n"),
             Ok(None) => {}
             Err(_) => return said + &format!("misplaced {number}\n"),
         }
     }
-    if evaluation.status() == Status::Complete {
-        let value = or_none(evaluation.value_result(), value_word);
-        let pieces = evaluation.as_result().iter().cloned().map(|it| piece_line(it) + "\n").collect::<String>();
-        assert_eq!(pieces, evaluation.result().into_iter().map(|it| piece_line(it) + "\n").collect::<String>());
-        said += &format!("{pieces}value {value}\n");
+    if it.status() == Status::Complete {
+        said.extend(it.as_result().iter().cloned().map(|it| piece_line(it) + "\n"));
+        said += &format!("value {}\n", or_none(it.value_result(), value_word));
     }
     said
 }

@@ -2,6 +2,7 @@
 #ifndef CHECK_H
 #define CHECK_H
 
+#include <ctype.h>
 #include <stdio.h>
 #include <stdlib.h>
 #include <string.h>
@@ -40,9 +41,11 @@ static inline dwexpr_encoding encoding_of(int address_size, int offset_size, int
 static inline size_t bytes_of(const char *digits, uint8_t *bytes)
 {
     size_t count = 0;
-    int read = 0;
-    for (; sscanf(digits, "%2hhx%n", &bytes[count], &read) == 1; digits += read)
-        count++;
+    for (; isxdigit((unsigned char)digits[0]) && isxdigit((unsigned char)digits[1]); digits += strspn(digits, " ")) {
+        const char pair[] = {digits[0], digits[1], 0};
+        bytes[count++] = (uint8_t)strtoul(pair, NULL, 16);
+        digits += strlen(pair);
+    }
     return count;
 }
 

@@ -57,14 +57,10 @@ static inline int bad_operation(const dwexpr_operation *op, uint32_t code, size_
            (op->block_length && op->block_offset + op->block_length != op->offset + op->size);
 }
 
-/* Whether two structs have the same fields. Their padding may differ. */
+/* Whether two outcomes are the same. They have no padding, which pieces may have. */
 static inline int same_outcome(const dwexpr_outcome *a, const dwexpr_outcome *b)
 {
-    return a->code == b->code && a->request == b->request && a->detail == b->detail &&
-           a->number == b->number && a->base_type == b->base_type && a->space == b->space &&
-           a->register_number == b->register_number && a->size == b->size && a->flag == b->flag &&
-           a->value_type == b->value_type && a->value == b->value && a->block_text == b->block_text &&
-           a->block_offset == b->block_offset && a->block_length == b->block_length && a->pieces == b->pieces;
+    return !memcmp(a, b, sizeof *a);
 }
 
 static inline int same_pieces(const dwexpr_piece *a, const dwexpr_piece *b, size_t count)

@@ -299,7 +299,7 @@ static int is_driven(void)
         evaluation.memory = memory;
         dwexpr_evaluation_begin(&evaluation);
     }
-    manner = (int)below(4);
+    manner = (unsigned)below(4);
     given = 0, is_wrong = 0;
     refusal_wanted = is_alone ? -1 : (int)any() | 1;
     code = dwexpr_run_in(&evaluation, settings, texts[0], encoding, is_alone ? &types : &all, items, &refusal, &table,

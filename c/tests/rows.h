@@ -81,7 +81,8 @@ static inline int read_expression(const char *row, dwexpr_encoding *encoding, ch
     at += at != NULL;
     for (int i = 0; at && i < 5; i++) {
         at = read_text(at, digits);
-        snprintf(spaced + strlen(spaced), sizeof spaced - strlen(spaced), i ? "%.7s " : "", digits);
+        if (i)
+            snprintf(spaced + strlen(spaced), sizeof spaced - strlen(spaced), "%.7s ", digits);
         at = *at == ',' ? at + 2 : NULL;
     }
     if (field(row, "in")) {

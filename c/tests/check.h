@@ -2,6 +2,7 @@
 #ifndef CHECK_H
 #define CHECK_H
 
+#include <ctype.h>
 #include <stdio.h>
 #include <stdlib.h>
 #include <string.h>
@@ -40,9 +41,11 @@ static inline dwexpr_encoding encoding_of(int address_size, int offset_size, int
 static inline size_t bytes_of(const char *digits, uint8_t *bytes)
 {
     size_t count = 0;
-    int read = 0;
-    for (; sscanf(digits, "%2hhx%n", &bytes[count], &read) == 1; digits += read)
-        count++;
+    for (; isxdigit((unsigned char)digits[0]) && isxdigit((unsigned char)digits[1]); digits += strspn(digits, " ")) {
+        const char pair[] = {digits[0], digits[1], 0};
+        bytes[count++] = (uint8_t)strtoul(pair, NULL, 16);
+        digits += strlen(pair);
+    }
     return count;
 }
 
@@ -54,14 +57,10 @@ static inline int bad_operation(const dwexpr_operation *op, uint32_t code, size_
            (op->block_length && op->block_offset + op->block_length != op->offset + op->size);
 }
 
-/* Whether two structs have the same fields. Their padding may differ. */
+/* Whether two outcomes are the same. They have no padding, which pieces may have. */
 static inline int same_outcome(const dwexpr_outcome *a, const dwexpr_outcome *b)
 {
-    return a->code == b->code && a->request == b->request && a->detail == b->detail &&
-           a->number == b->number && a->base_type == b->base_type && a->space == b->space &&
-           a->register_number == b->register_number && a->size == b->size && a->flag == b->flag &&
-           a->value_type == b->value_type && a->value == b->value && a->block_text == b->block_text &&
-           a->block_offset == b->block_offset && a->block_length == b->block_length && a->pieces == b->pieces;
+    return !memcmp(a, b, sizeof *a);
 }
 
 static inline int same_pieces(const dwexpr_piece *a, const dwexpr_piece *b, size_t count)

@@ -322,6 +322,13 @@ class Functions(Unit):
     def nowhere(self):
         """A place in no function, whose caller is in one; and a place in no unit."""
         self.row([OUTSIDE, OUTSIDE, FIRST], *(f"a301509f on {frame} is {UNKNOWN}" for frame in range(2)))
+        # a file that isn't in the frame's modules: an address or a location list in it has no known place
+        for frames in ([FIRST], []):
+            self.row(frames, "listed from listing is a variable of another function",
+                     "listed_global from unit is a relocated address", "defined from declaring is a relocated address",
+                     "in_local from declaring is thread-local storage",
+                     "indexed from declaring is an entry of .debug_addr",
+                     "in_memory from declaring is it is only declared")
         self.row([0x10], "9100 on 0 is the frame base", "9c on 0 is the canonical frame address",
                  "a100 on 0 is an entry of .debug_addr", "entry of global is no debug information for the address")
 

@@ -1,6 +1,6 @@
 /* The variables, types and functions of the files that entries.py, types.py and functions.py make. The name of a
  * variable of a unit says what has to be, in words that end with a semicolon. In a program the name begins with where
- * frames stand, the innermost first, and a colon; else there is one frame without modules. The object is at 0x1010.
+ * frames stand, the innermost first, and a colon. If none is said, there is one frame without modules. The object is at 0x1010.
  *
  *     value VALUE                 the variable's value: bytes, or the name of a code
  *     size N                      the bytes of its type
@@ -12,6 +12,7 @@
  *     type none                   it has no type
  *     NAME in FRAME is VALUE      the value of a variable in that frame
  *     NAME of FUNCTION is VALUE   the same for a variable of a function, in the first frame
+ *     NAME from FUNCTION is VALUE the same if the file is in no module; the function may be `unit`
  *     entry of NAME is VALUE      its value on entry
  *     BYTES on FRAME is VALUE     the value of an expression
  *     count in FRAME is N         how many functions and variables there are
@@ -29,7 +30,7 @@
 static const uint64_t object = 0x1010;
 static int big_endian;
 static Dwfl *dwfl; /* NULL if the file isn't a program */
-static Dwarf_Die unit;
+static Dwarf_Die unit, foreign; /* the second one is the same unit of a file that is in no module */
 static dwexpr_libdw_frame *frames[8];
 static char place[64]; /* of the variable */
 
@@ -187,7 +188,9 @@ static int is_found(char word[4][64], const char *said)
         return found ? is_value(frame, said, dwexpr_libdw_on_entry(frame, &variable, &value), &value)
                      : refused_call > 0;
     }
-    found = *kind == 'i' ? find_variable(frame, name, &variable, &total) : find_in(unit, where, name, &variable);
+    found = *kind == 'i' ? find_variable(frame, name, &variable, &total)
+                         : find_in(*kind == 'o' ? unit : foreign, strcmp(where, "unit") ? where : NULL, name,
+                                   &variable);
     if (!strcmp(name, "count"))
         return refused_call || total == strtoul(said, NULL, 10);
     if (!found)
@@ -222,8 +225,13 @@ static void check_row(Dwarf_Die *variable, const char *row)
     snprintf(words, sizeof words, "%s", row);
     for (; dwfl && sscanf(here, "%lx%n", &places[count], &read) == 1; here += read)
         count++;
-    here += count ? 2 : 0;
-    for (i = dwfl ? count : 1; i-- > 0;) {
+    here += dwfl ? strcspn(here, " ") + 1 : 0;
+    if (!count) {
+        source.unit = dwfl ? &unit : NULL;
+        source.dwfl = NULL;
+        count = 1;
+    }
+    for (i = count; i-- > 0;) {
         source.pc = places[i];
         source.is_activation = i == 0;
         source.caller = i + 1 < count ? frames[i + 1] : NULL;
@@ -283,32 +291,6 @@ static void check_nowhere(void)
     dwexpr_libdw_free_frame(frame);
 }
 
-/* Variables of a file that isn't in the frame's modules: an address or a location list in it has no known place. */
-static void check_foreign(Dwarf_Die foreign)
-{
-    static const struct {
-        const char *function, *name, *said;
-    } rows[] = {{"listing", "listed", "a variable of another function"}, {NULL, "listed_global", "a relocated address"},
-                {"declaring", "defined", "a relocated address"}, {"declaring", "in_local", "thread-local storage"},
-                {"declaring", "indexed", "an entry of .debug_addr"}, {"declaring", "in_memory", "it is only declared"}};
-    size_t i;
-    int kind;
-    for (kind = 0; kind < 2; kind++) {
-        const dwexpr_libdw_source source = {.dwfl = kind ? NULL : dwfl, .pc = 0x401000, .is_activation = 1,
-                                            .unit = &unit, .read_memory = read_memory};
-        dwexpr_libdw_frame *frame;
-        dwexpr_libdw_make_frame(&source, &frame);
-        for (i = 0; i < COUNT(rows); i++) {
-            dwexpr_libdw_value *value;
-            Dwarf_Die variable;
-            check(find_in(foreign, rows[i].function, rows[i].name, &variable) &&
-                      is_value(frame, rows[i].said, dwexpr_libdw_variable(frame, &variable, &value), &value),
-                  rows[i].name, rows[i].said);
-        }
-        dwexpr_libdw_free_frame(frame);
-    }
-}
-
 static void check_file(const char *path)
 {
     static const Dwfl_Callbacks finders = {dwfl_build_id_find_elf, dwfl_standard_find_debuginfo, NULL, NULL};
@@ -316,7 +298,7 @@ static void check_file(const char *path)
     Dwarf *dwarf = dwarf_begin(file, DWARF_C_READ);
     Dwarf_CU *cu = NULL;
     Dwarf_Addr bias;
-    Dwarf_Die entry, foreign;
+    Dwarf_Die entry;
     dwexpr_encoding encoding;
     int more;
     check(!dwarf_get_units(dwarf, cu, &cu, NULL, NULL, &unit, NULL) && !dwexpr_libdw_encoding(cu, &encoding), path,
@@ -336,10 +318,8 @@ static void check_file(const char *path)
         if (row && strchr(row, dwfl ? ':' : ' '))
             check_row(&entry, row);
     }
-    if (dwfl && !refused_call) {
-        check_foreign(foreign);
+    if (dwfl && !refused_call)
         check_nowhere();
-    }
     dwfl_end(dwfl);
     dwarf_end(dwarf);
     close(file);

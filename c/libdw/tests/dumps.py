@@ -1,5 +1,7 @@
-"""Core dumps and the programs that they are dumps of, for x86-64, i386 and a big-endian machine. dumps.c says what is in
-them."""
+"""Core dumps and the programs that they are dumps of, for x86-64, i386 and a big-endian machine.
+
+dumps.c says what is in them.
+"""
 
 from dwarf import Unit
 
@@ -41,8 +43,7 @@ class Core(Unit):
             self.note("CORE", AUXILIARY, self.address(33, 0, 3, FIRST, 0, 0) + b"\0")
 
     def program(self):
-        low, high = ((1, self.address(it)) for it in (FIRST, FIRST + len(CODE)))
-        self.root.add("subprogram", name="f", low_pc=low, high_pc=high)
+        self.root.add("subprogram", name="f", **self.placed(FIRST, len(CODE)))
         # it begins 8 bytes after an address with its alignment, or has none
         local = (TLS, 0x403008, b"\1" * 4, 20, 16 if self.wide else 0)
         return self.elf(self.tree() | self.rules(FIRST, len(CODE)), [(LOAD, FIRST, CODE, len(CODE)), local], 2)

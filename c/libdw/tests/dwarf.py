@@ -16,9 +16,8 @@ FORMS |= {"E": "Bu", "T": "u", "L": "uc", "w": "H", "x": "I", "p": "rs"}
 OPCODES = pathlib.Path(__file__).parents[2] / "include" / "dwexpr_opcodes.h"
 ROWS = re.findall(r"row\((\w+), \"DW_OP_(\w+)\", '(.)'\)", OPCODES.read_text(encoding="utf-8"))
 OPERATIONS = {name: (int(opcode, 0), FORMS[form]) for opcode, name, form in ROWS if form in FORMS}
-BLOCK1, DATA1, FLAG, STRING, SDATA, UDATA, REF4, OFFSET, EXPRESSION, INDEX, CONSTANT = (
-    0x0A, 0x0B, 0x0C, 0x08, 0x0D, 0x0F, 0x13, 0x17, 0x18, 0x22, 0x21
-)  # fmt: skip
+ADDRESS, STRING, BLOCK1, DATA1, FLAG, SDATA, UDATA, REF4 = 0x01, 0x08, 0x0A, 0x0B, 0x0C, 0x0D, 0x0F, 0x13
+OFFSET, EXPRESSION, CONSTANT, INDEX = 0x17, 0x18, 0x21, 0x22
 
 
 def unsigned_leb(number, length=1):
@@ -79,6 +78,13 @@ class Unit:
     def counted(self, content):
         """What a section or a unit has after its length."""
         return b"\xff" * (self.offset_size - 4) + self.offset(len(content)) + content
+
+    def placed(self, begin, size):
+        """The attributes of an entry with code there."""
+        return {"low_pc": (ADDRESS, self.address(begin)), "high_pc": (ADDRESS, self.address(begin + size))}
+
+    def base_type(self, size, encoding):
+        return self.root.add("base_type", byte_size=size, encoding=encoding)
 
     def operand(self, form, word):
         number = self.root.entries[int(word[1:])].place if word[0] == "@" else int(word, 0)
@@ -183,7 +189,8 @@ class Unit:
                                     ("IIIBBH", len(strings), at, 8, *fields)))
                 strings += name.encode() + b"\0"
             sections = sections | {table: rows, ".strtab": strings}
-        sections = sections | {".shstrtab": b"\0" + b"".join(name.encode() + b"\0" for name in [*sections, ".shstrtab"])}
+        names = "\0".join(["", *sections, ".shstrtab", ""])
+        sections = sections | {".shstrtab": names.encode()}
         contents = [content for _, _, content, *_ in segments if isinstance(content, bytes)] + [*sections.values()]
         body = b"".join(contents)
         body += bytes(-(front + step * len(segments) + len(body)) % 8)
@@ -200,8 +207,7 @@ class Unit:
         kinds = {".shstrtab": 3, ".strtab": 3, ".symtab": 2, ".dynsym": 11}
         for index, (name, content) in enumerate(sections.items()):
             links = [index + 2, 1, 8, len(rows) // (len(symbols) + 1)] if name == table and symbols else [0, 0, 1, 0]
-            at = sections[".shstrtab"].index(b"\0" + name.encode() + b"\0") + 1
-            fields = at, kinds.get(name, 1), 0, 0, place, len(content), *links
+            fields = names.index(f"\0{name}\0") + 1, kinds.get(name, 1), 0, 0, place, len(content), *links
             headers += self.pack("IIQQQQIIQQ" if wide else "IIIIIIIIII", *fields)
             place += len(content)
         machine = {"<Q": 62, ">Q": 21, "<I": 3, ">I": 20}[self.order + words[2]]

@@ -13,9 +13,6 @@ ON_NUMBERS = ["abs", "neg", "not", "plus_uconst 1", "and", "div", "minus", "mod"
 
 
 class Entries(Unit):
-    def base_type(self, size, encoding):
-        return self.root.add("base_type", byte_size=size, encoding=encoding)
-
     def is_value(self, wanted, **attributes):
         wanted = wanted if isinstance(wanted, str) else wanted.hex()
         return self.root.add("variable", name=f"value {wanted}", **attributes)
@@ -89,7 +86,7 @@ class Entries(Unit):
         top = 2**64 - 9
         for kind, widened in [(SIGNED, top - 2**64), (UNSIGNED, top)]:
             for wanted, form, content in [
-                (-5, SDATA, signed_leb(-5)), (5, SDATA, signed_leb(5)), (7, UDATA, unsigned_leb(7)),
+                (-5, SDATA, signed_leb(-5)), (5, SDATA, signed_leb(5)),
                 (widened, UDATA, unsigned_leb(top)), (-5, CONSTANT, signed_leb(-5)),
             ]:  # fmt: skip
                 if form != CONSTANT or self.version >= 5:

@@ -3,7 +3,7 @@
 Each function has 256 bytes of code, from 0x401000 on. The name of a variable of the unit says what made.c checks.
 """
 
-from dwarf import OFFSET, Unit
+from dwarf import ADDRESS, OFFSET, Unit
 
 FIRST, SIZE = 0x401000, 0x100
 CODE = b"\x90" * 0x10000
@@ -17,25 +17,22 @@ class Functions(Unit):
     def __init__(self, version):
         super().__init__(8, 4, version, "le", language=0x0C)
         if version >= 5:
-            self.root.attributes |= {"low_pc": self.at(FIRST), "high_pc": self.at(FIRST + len(CODE))}
-        self.int = self.root.add("base_type", byte_size=4, encoding=5)
+            self.root.attributes |= self.placed(FIRST, len(CODE))
+        self.int = self.base_type(4, 5)
         self.count, self.symbols, self.sections = 0, [], {}
-
-    def at(self, address):
-        return 0x01, self.address(address)
 
     def function(self, parent=None, **attributes):
         """A function with code of its own; its `begin` is where that begins."""
         begin = FIRST + SIZE * self.count
         self.count += 1
         if "ranges" not in attributes:
-            attributes |= {"low_pc": self.at(begin), "high_pc": self.at(begin + SIZE)}
+            attributes |= self.placed(begin, SIZE)
         made = (parent or self.root).add("subprogram", **{"name": f"f{self.count}"} | attributes)
         made.begin = begin
         return made
 
     def inside(self, parent, tag, begin, size, **attributes):
-        return parent.add(tag, low_pc=self.at(begin), high_pc=self.at(begin + size), **attributes)
+        return parent.add(tag, **self.placed(begin, size), **attributes)
 
     def variable(self, parent, name, expression=None, tag="variable", **attributes):
         placed = {} if expression is None else {"location": expression}
@@ -79,8 +76,7 @@ class Functions(Unit):
         function.add("constant", name="number", type=self.int, const_value=-3)
         self.variable(function, "cut_off", "03")
         self.variable(function, "no_place", 5)
-        odd = self.root.add("base_type", byte_size=4, encoding=0x105)
-        self.variable(function, "odd", f"lit1 convert {odd} stack_value")
+        self.variable(function, "odd", f"lit1 convert {self.base_type(4, 0x105)} stack_value")
         self.row([begin + 0x12], "inner in 0 is 01000000", "not_there in 0 is 00000000", "shared in 0 is 10111213",
                  "number in 0 is fdffffff", "too_deep in 0 is missing", "try_block in 0 is missing",
                  "odd in 0 is a base type", "cut_off in 0 is an operation is cut off",
@@ -151,15 +147,15 @@ class Functions(Unit):
 
     def site(self, caller, at, value="lit10", place="reg0", **attributes):
         """A call that returns to an address in its caller, and passes a value in register 0."""
-        site = caller.add("call_site", **({"call_return_pc": self.at(at)} if at else {}), **attributes)
+        site = caller.add("call_site", **({"call_return_pc": (ADDRESS, self.address(at))} if at else {}), **attributes)
         site.add("call_site_parameter", location=place, **({} if value is None else {"call_value": value}))
         return site
 
-    def call(self, said, called, at=None, **attributes):
+    def call(self, said, called, caller=None, at=None, **attributes):
         """A call site at the next place of the caller, and what a value on entry is there."""
         self.place += 4
-        self.site(self.caller, self.place, **attributes)
-        self.row([called.begin + 3, at or self.place], f"given in 0 is {said}", f"entry of held is {said}")
+        self.site(caller or self.caller, self.place, **attributes)
+        self.row([called.begin + 3, at or self.place], f"given in 0 is {said}")
 
     def calls(self):
         called, self.caller, other = self.function(), self.function(), self.function()
@@ -171,7 +167,6 @@ class Functions(Unit):
         completed = self.function(specification=declaration)
         seen = self.function(name="seen", external=True)
         for function in (called, other, instance, completed, seen):
-            self.parameter(function, "held", "reg0")
             self.parameter(function)
         for said, site in [
             ("0a000000", named), (UNKNOWN, {"call_origin": other}), (UNKNOWN, {}),
@@ -191,10 +186,7 @@ class Functions(Unit):
             self.row(frames, f"given in 0 is {UNKNOWN}")
         # the site stands in blocks of each kind, and not in a class
         for tag in ("lexical_block", "inlined_subroutine", "try_block", "catch_block", "structure_type"):
-            self.place += 4
-            self.site(self.caller.add(tag), self.place, **named)
-            said = UNKNOWN if tag == "structure_type" else "0a000000"
-            self.row([called.begin + 3, self.place], f"given in 0 is {said}")
+            self.call(UNKNOWN if tag == "structure_type" else "0a000000", called, self.caller.add(tag), **named)
         # an instance, a definition, a name that other units see, and that of a symbol at the same address
         self.call("0a000000", instance, call_origin=instance_of)
         self.call("0a000000", completed, call_origin=declaration)
@@ -210,14 +202,16 @@ class Functions(Unit):
             (other, "0a000000", {"name": "x", "MIPS_linkage_name": "alias"}),
         ]:  # fmt: skip
             self.call(said, function, call_origin=self.root.add("subprogram", **DECLARED, **attributes))
-        for name, expression, said in [
-            ("long", "reg0" + 40 * " nop", "an operation can't be encoded"), ("without", None, "optimized away"),
-            ("typed", f"regval_type 0 {self.int}", "0a000000"), ("empty", "", "optimized away"),
-            ("unreadable", "01", UNKNOWN), ("untyped", "breg0 0", UNKNOWN), ("framed", "fbreg 0", UNKNOWN),
-            ("two", "reg0 reg0", UNKNOWN),
-        ]:  # fmt: skip
+        parameters = [
+            ("held", "reg0", "0a000000"), ("long", "reg0" + 40 * " nop", "an operation can't be encoded"),
+            ("without", None, "optimized away"), ("typed", f"regval_type 0 {self.int}", "0a000000"),
+            ("empty", "", "optimized away"), ("unreadable", "01", UNKNOWN), ("untyped", "breg0 0", UNKNOWN),
+            ("framed", "fbreg 0", UNKNOWN), ("two", "reg0 reg0", UNKNOWN),
+        ]  # fmt: skip
+        for name, expression, _ in parameters:
             self.parameter(called, name, expression)
-            self.row([called.begin + 3, self.caller.begin + 0x14], f"entry of {name} is {said}")
+        first = [called.begin + 3, self.caller.begin + 0x14]
+        self.row(first, *(f"entry of {name} is {said}" for name, _, said in parameters))
 
     def chain(self, length, last_calls=None):
         """Functions that leave for the next one by a tail call."""
@@ -339,8 +333,8 @@ class Functions(Unit):
         self.variable(self.root.add("module", name="module"), "in_module", "lit0")
         self.variable(self.root, None, "lit0")
         self.root.add("constant", name="fixed", type=self.int, const_value=1)
-        self.row([OUTSIDE], *(f"all of {name} is 1" for name in ("global", "linked", "in_namespace", "in_module", "fixed")),
-                 "all of no_such is 0")
+        names = "global", "linked", "in_namespace", "in_module", "fixed"
+        self.row([OUTSIDE], *(f"all of {name} is 1" for name in names), "all of no_such is 0")
 
     def program(self):
         for write in (self.instances, self.globals, self.bases, self.blocks, self.siblings, self.nested, self.calls,

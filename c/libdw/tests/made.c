@@ -1,6 +1,7 @@
-/* The variables, types and functions of the files that entries.py, types.py and functions.py make. The name of a
+/* The variables, types and functions of the files that entries.py, typed.py and functions.py make. The name of a
  * variable of a unit says what has to be, in words that end with a semicolon. In a program the name begins with where
- * frames stand, the innermost first, and a colon. If none is said, there is one frame without modules. The object is at 0x1010.
+ * frames stand, the innermost first, and a colon. If none is said, there is one frame without modules. The object is at
+ * 0x1010.
  *
  *     value VALUE                 the variable's value: bytes, or the name of a code
  *     size N                      the bytes of its type

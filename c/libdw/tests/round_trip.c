@@ -1,5 +1,5 @@
-/* Encodes each expression of object files from libdw's operations, and compares it with the file's bytes. Of expressions
- * in location lists libdw doesn't give these: examples/expressions.c compares their operations. The last line is
+/* Encodes each expression of object files from libdw's operations, and compares it with the file's bytes. libdw doesn't
+ * give the bytes of those in location lists: examples/expressions.c compares their operations. The last line is
  * `N passed, M failed`. */
 #include <dwarf.h>
 #include <fcntl.h>

@@ -8,7 +8,7 @@ import itertools
 
 from dwarf import INDEX, OFFSET, Entry, Unit
 
-SIGNED, UNSIGNED_CHAR, UNSIGNED = 5, 8, 7
+SIGNED, UNSIGNED = 5, 7
 C99, ADA, RUST = 0x0C, 0x0D, 0x1C
 FORTRANS = 0x07, 0x08, 0x0E, 0x22, 0x23
 NO_NUMBER, FAULT = b"no", "plus"
@@ -24,10 +24,7 @@ class Types(Unit):
     def __init__(self, language, *numbers):
         super().__init__(*numbers, language=language)
         self.language = language
-        self.int, self.byte, self.short = (
-            self.root.add("base_type", byte_size=size, encoding=encoding)
-            for size, encoding in [(4, SIGNED), (1, UNSIGNED), (2, SIGNED)]
-        )
+        self.int, self.byte, self.short = (self.base_type(*it) for it in [(4, SIGNED), (1, UNSIGNED), (2, SIGNED)])
 
     def says(self, said, kind):
         self.root.add("variable", name=said, type=kind)
@@ -148,8 +145,8 @@ class Types(Unit):
         def base(**attributes):
             return {"type": add("base_type", **attributes)} | here
 
-        minus = {"type": add("base_type", byte_size=1, encoding=SIGNED), "location": "const4u 0x10fe"}
-        self.says("size 5", self.array(self.byte, span(add("variable", **minus), 2)))
+        minus = add("variable", type=self.base_type(1, SIGNED), location="const4u 0x10fe")
+        self.says("size 5", self.array(self.byte, span(minus, 2)))
         for said, attributes in [
             (35, {"type": self.byte} | here), (35, base(byte_size=1, encoding=6)),
             (35, {"type": add("subrange_type", type=self.byte)} | here), ("none", here), ("none", {"type": self.byte}),

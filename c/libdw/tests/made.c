@@ -33,7 +33,7 @@ static int big_endian;
 static Dwfl *dwfl; /* NULL if the file isn't a program */
 static Dwarf_Die unit, foreign; /* the second one is the same unit of a file that is in no module */
 static dwexpr_libdw_frame *frames[8];
-static char place[64]; /* of the variable */
+static char place[4096]; /* of the variable */
 
 static int read_more_registers(void *context, uint32_t number, uint8_t *content, size_t *size)
 {
@@ -70,14 +70,15 @@ static int is_member(Dwarf_Die *type, const char *name, const char *begins, cons
 {
     Dwarf_Die member;
     uint64_t begin = 1, bits, alone = 1;
-    uint32_t code;
+    uint32_t code, alone_code;
     int more = dwarf_child(type, &member);
     while (more == 0 && strcmp(dwarf_diename(&member), name))
         more = dwarf_siblingof(&member, &member);
     code = dwexpr_libdw_member(frames[0], &member, &object, &begin, &bits);
+    alone_code = dwexpr_libdw_member(frames[0], &member, &object, &alone, NULL);
+    /* the place may be known where the bits aren't, and alone if they aren't counted from the highest one */
     return is_said(has, code, bits) && (!strcmp(begins, "none") || begin == strtoull(begins, NULL, 10)) &&
-           (code = dwexpr_libdw_member(frames[0], &member, &object, &alone, NULL),
-            dwarf_hasattr(&member, DW_AT_bit_offset) || is_said(begins, code, alone));
+           (dwarf_hasattr(&member, DW_AT_bit_offset) || is_said(begins, alone_code, alone));
 }
 
 /* Checks the size of a type, and of the variable's as it stands: that of a typedef. */
@@ -115,7 +116,11 @@ static int is_type(Dwarf_Die *variable, char word[4][64])
         code = dwexpr_libdw_number(frames[0], &attribute, &object, &number);
         return is_said(word[1], code, number);
     }
-    return code || (!strcmp(word[0], "without") && dwexpr_libdw_size(frames[0], &type, NULL, &number));
+    if (!strcmp(word[0], "without"))
+        code = dwexpr_libdw_size(frames[0], &type, NULL, &number);
+    else if (strcmp(word[0], "type"))
+        return 0;
+    return code != 0;
 }
 
 /* ---- variables and their values */
@@ -295,6 +300,7 @@ static void check_nowhere(void)
 static void check_file(const char *path)
 {
     static const Dwfl_Callbacks finders = {dwfl_build_id_find_elf, dwfl_standard_find_debuginfo, NULL, NULL};
+    const char *slash = strrchr(path, '/');
     const int file = open(path, O_RDONLY);
     Dwarf *dwarf = dwarf_begin(file, DWARF_C_READ);
     Dwarf_CU *cu = NULL;
@@ -314,7 +320,7 @@ static void check_file(const char *path)
     }
     for (more = dwarf_child(&unit, &entry); more == 0; more = dwarf_siblingof(&entry, &entry)) {
         const char *row = dwarf_tag(&entry) == DW_TAG_variable ? dwarf_diename(&entry) : NULL;
-        snprintf(place, sizeof place, "%.40s at 0x%llx", strrchr(path, '/'),
+        snprintf(place, sizeof place, "%s at 0x%llx", slash ? slash + 1 : path,
                  (unsigned long long)dwarf_dieoffset(&entry));
         if (row && strchr(row, dwfl ? ':' : ' '))
             check_row(&entry, row);
@@ -328,7 +334,8 @@ static void check_file(const char *path)
 
 int main(int argc, char **argv)
 {
-    const unsigned long step = argc > 2 ? strtoul(argv[1], NULL, 10) : 0;
+    char *rest = argv[0];
+    const unsigned long number = argc > 2 ? strtoul(argv[1], &rest, 10) : 0, step = *rest ? 0 : number;
     int i;
     for (i = step ? 2 : 1; i < argc; i++) {
         unsigned long all;

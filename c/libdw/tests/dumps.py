@@ -1,110 +1,72 @@
-#!/usr/bin/env python3
-"""Writes core dumps and the programs that they are dumps of, for x86-64, i386 and a big-endian machine.
+"""Core dumps and the programs that they are dumps of, for x86-64, i386 and a big-endian machine.
 
-    dumps.py FOLDER     writes FOLDER/MACHINE.core and FOLDER/MACHINE.program
-
-dumps.c has their content.
+dumps.c says what is in them.
 """
 
-import itertools
-import pathlib
-import struct
-import sys
-
-from tree import Tree, signed_leb, unsigned_leb
+from dwarf import Unit
 
 FIRST, STACK, NEXT, CUT = 0x401000, 0x500000, 0x501000, 0x502000
 CODE = bytes(range(256)) * 2
-LOAD, NOTE, TLS = 1, 4, 7
+LOAD, DYNAMIC, NOTE, TLS = 1, 2, 4, 7
 STATUS, FLOATS, PROCESS, AUXILIARY, XSAVE, FXSAVE, SEGMENTS = 1, 2, 3, 6, 0x202, 0x46E62B7F, 0x200
-# of the general registers: where the program counter, the stack's pointer and the base of fs or gs's selector stand
-PLACES = {8: (16, 19, 21), 4: (12, 15, 10)}
 
 
-class Core(Tree):
-    def __init__(self, address_size, order):
+class Core(Unit):
+    def __init__(self, address_size, order="le"):
         super().__init__(address_size, 4, 4, order)
-        self.notes = b""
+        self.wide, self.notes = address_size == 8, b""
 
     def note(self, name, kind, content):
-        text = name.encode() + b"\0"
-        text += bytes(-len(text) % 4)
-        self.notes += self.pack("III", len(name) + 1, len(content), kind) + text + content + bytes(-len(content) % 4)
+        def padded(text):
+            return text + bytes(-len(text) % 4)
+
+        self.notes += self.pack("III", len(name) + 1, len(content), kind) + padded(name.encode() + b"\0")
+        self.notes += padded(content)
 
     def status(self, thread, stack, third=0):
-        """A thread that stands in the program, with the stack's pointer and a third register."""
-        wide = self.address_size == 8
-        at, registers = (32, 27) if wide else (24, 17)
+        """A thread that stands in the program, with the stack's pointer and the base of fs or gs's selector."""
+        words = [0x100 * thread + number for number in range(27 if self.wide else 17)]
         if self.order == ">":
-            registers = 48
-        words = [0x100 * thread + number for number in range(registers)]
-        if self.order == "<":
-            for place, number in zip(PLACES[self.address_size], (FIRST + 0x10, stack, third)):
-                words[place] = number
-        front = bytearray(112 if wide else 72)
-        front[at : at + 4] = self.pack("I", thread)
-        self.note("CORE", STATUS, bytes(front) + b"".join(map(self.address, words)) + bytes(8 if wide else 4))
+            words += range(21)
+        else:
+            words[16 if self.wide else 12] = FIRST + 0x10
+            words[19 if self.wide else 15] = stack
+            words[21 if self.wide else 10] = third
+        front = bytes(32 if self.wide else 24) + self.pack("I", thread) + bytes(76 if self.wide else 44)
+        self.note("CORE", STATUS, front + self.address(*words) + bytes(self.address_size))
 
-    def floats(self, byte):
-        """xmm0 to xmm15, each with a byte of its own, as FXSAVE has them."""
-        return bytes(160) + b"".join(bytes([byte + number]) * 16 for number in range(16)) + bytes(96)
-
-    def xsave(self, byte, mask, state):
-        whole = bytearray(self.floats(byte) + bytes(64))
-        whole[464], whole[512] = mask, state
-        return bytes(whole) + b"".join(bytes([byte + 0x80 + number]) * 16 for number in range(16))
-
-    def rules(self):
-        """.debug_frame: the CFA is above the stack's pointer, and there is no caller."""
-        pointer, returns = (7, 16) if self.address_size == 8 else (4, 8)
-        common = self.pack("IB", 0xFFFFFFFF, 1) + b"\0" + unsigned_leb(1) + signed_leb(-8) + bytes([returns])
-        common += b"\x0c" + bytes([pointer, self.address_size]) + b"\7" + bytes([returns])
-        common += bytes(-(len(common) + 4) % 8)
-        frame = self.pack("I", 0) + self.address(FIRST) + self.address(len(CODE))
-        frame += bytes(-(len(frame) + 4) % 8)
-        return self.pack("I", len(common)) + common + self.pack("I", len(frame)) + frame
+    def ends(self, has_program=True):
+        """What libdwfl takes for the process, and where the program is."""
+        before, after = (24, 108) if self.wide else (12, 108)
+        self.note("CORE", PROCESS, bytes(before) + self.pack("I", 100) + bytes(after))
+        if has_program:
+            self.note("CORE", AUXILIARY, self.address(33, 0, 3, FIRST, 0, 0) + b"\0")
 
     def program(self):
-        low, high = ((1, self.address(it)) for it in (FIRST, FIRST + len(CODE)))
-        self.root.add("subprogram", name="f", low_pc=low, high_pc=high)
+        self.root.add("subprogram", name="f", **self.placed(FIRST, len(CODE)))
         # it begins 8 bytes after an address with its alignment, or has none
-        local = (TLS, 0x403008, b"\1" * 4, 20, 16 if self.address_size == 8 else 0)
-        return self.elf({**self.tree(), ".debug_frame": self.rules()}, [(LOAD, FIRST, CODE, len(CODE)), local], 2)
-
-    def process(self, number):
-        """What libdwfl takes for the process."""
-        size, at = (136, 24) if self.address_size == 8 else (124, 12)
-        self.note("CORE", PROCESS, bytes(at) + self.pack("I", number) + bytes(size - at - 4))
-
-    def auxiliary(self):
-        words = [(33, 0), (3, FIRST), (0, 0)]
-        self.note("CORE", AUXILIARY, b"".join(self.address(it) for pair in words for it in pair) + b"\0")
+        local = (TLS, 0x403008, b"\1" * 4, 20, 16 if self.wide else 0)
+        return self.elf(self.tree() | self.rules(FIRST, len(CODE)), [(LOAD, FIRST, CODE, len(CODE)), local], 2)
 
     def core(self):
-        """Of the stack's segment the file has 0x20 bytes of 0x40, and then those of the next one; the last one is cut
-        off."""
-        stack = bytes(range(0x20))
-        loads = [(NOTE, 0, self.notes, 0), (LOAD, STACK, stack, 0x40), (LOAD, NEXT, b"\xee" * 0x20, 0x20)]
-        loads += [(LOAD, STACK + 0x20, b"\xdd" * 0x10, 0x10)]
-        loads += [(LOAD, CUT, b"", 0x10), (LOAD, CUT + 0x10, b"", 0x10), (NOTE, 0, b"", 0)]
-        made = bytearray(self.elf({}, loads, 4))
-        size = 56 if self.address_size == 8 else 32
-        front = 64 if self.address_size == 8 else 52
-        fields = "IIQQQQQQ" if self.address_size == 8 else "IIIIIIII"
+        """Of the stack's segment the file has 0x20 bytes of 0x40, and then those of the next one. One ends after the
+        file, one begins there, and one of notes has more bytes than the file."""
+        return self.elf({}, [
+            (NOTE, 0, self.notes, 0), (LOAD, STACK, bytes(range(0x20)), 0x40), (LOAD, NEXT, b"\xee" * 0x20, 0x20),
+            (LOAD, STACK + 0x20, b"\xdd" * 0x10, 0x10), (LOAD, CUT, (-4, 0x10), 0x10),
+            (LOAD, CUT + 0x10, (4, 0x10), 0x10), (NOTE, 0, (-8, 0x100), 0),
+        ], 4)  # fmt: skip
 
-        def change(index, **changes):
-            at = front + index * size
-            names = ["kind", "flags", "offset", "address", "physical", "filesz", "memsz", "align"]
-            if self.address_size == 4:
-                names = ["kind", "offset", "address", "physical", "filesz", "memsz", "flags", "align"]
-            values = dict(zip(names, struct.unpack_from(self.order + fields, made, at))) | changes
-            struct.pack_into(self.order + fields, made, at, *(values[name] for name in names))
 
-        # one ends after the file, one begins there, and one of notes has more bytes than the file
-        change(4, offset=len(made) - 4, filesz=0x10)
-        change(5, offset=len(made) + 4, filesz=0x10)
-        change(6, offset=len(made) - 8, filesz=0x100)
-        return bytes(made)
+def floats(byte):
+    """xmm0 to xmm15, each with a byte of its own, as FXSAVE has them."""
+    return bytes(160) + b"".join(bytes([byte + number]) * 16 for number in range(16)) + bytes(96)
+
+
+def xsave(byte, mask, state):
+    whole = bytearray(floats(byte) + bytes(64))
+    whole[464], whole[512] = mask, state
+    return bytes(whole) + b"".join(bytes([byte + 0x80 + number]) * 16 for number in range(16))
 
 
 class Glibc(Core):
@@ -119,22 +81,20 @@ class Glibc(Core):
     MODULES = [(0x40, 0, 0, 0), (0, 1, BLOCKS, 5), (NONE, 4, BLOCKS + 0x40, 4), (0, 0, BLOCKS, 0), (0, 2, 0, 0),
                (0, 3, BLOCKS + 1, 0), (0, 5, BLOCKS, 6), (0, FAR, BLOCKS, 0)]
 
-    def words(self, *numbers):
-        return b"".join(self.address(it % (1 << 8 * self.address_size)) for it in numbers)
-
     def library(self, number):
         """The last two have no dynamic section, and no thread-local storage."""
-        self.root.attributes["name"] = f"library {number}"
         begin, count = 0x800000 + 0x10000 * number, len(self.MODULES)
-        dynamic, local = (2, begin, b"", 16), (TLS, begin + 8, b"", 32)
-        loads = [local] * (number != count + 2) + [dynamic] * (number != count + 1)
-        return self.elf(self.tree(), [(LOAD, begin, b"x" * 16, 16), *loads], 2)
+        segments = [(LOAD, begin, b"x" * 16, 16)]
+        segments += [(TLS, begin + 8, b"", 32)] * (number != count + 2)
+        segments += [(DYNAMIC, begin, b"", 16)] * (number != count + 1)
+        self.root.attributes["name"] = f"library {number}"
+        return self.elf(self.tree(), segments, 2)
 
     def linker(self):
         """The dynamic linker, with the names that tell debuggers where its fields are."""
-        symbols = [("_r_debug", self.DEBUG, 0x11), ("_rtld_global", self.GLOBAL, 0x11)]
-        symbols += [("_thread_db_sizeof_dtv_slotinfo", self.SIZE, 0x11)]
-        symbols += [(f"_thread_db_{name}", self.MEMORY + 16 * at, 0x11) for at, name in enumerate(self.FIELDS)]
+        places = {"_r_debug": self.DEBUG, "_rtld_global": self.GLOBAL, "_thread_db_sizeof_dtv_slotinfo": self.SIZE}
+        places |= {f"_thread_db_{name}": self.MEMORY + 16 * at for at, name in enumerate(self.FIELDS)}
+        symbols = [(name, place, 0x11) for name, place in places.items()]
         return self.elf({}, [(LOAD, 0x700000, b"x" * 16, 16)], 2, symbols, ".dynsym")
 
     def memory(self):
@@ -142,79 +102,64 @@ class Glibc(Core):
         size, last = self.address_size, len(self.MODULES) - 1
         maps, vector = b"", [5, 0] + 2 * [0] * 9
         for at, (distance, number, block, _) in enumerate(self.MODULES):
-            after = self.MAPS + 0x100 * (at + 1 if at < last else at)
-            entry = self.words(0, 0, 0x800000 + 0x10000 * at, 0 if at == last and size == 4 else after)
-            maps += entry + bytes(4 * size) + self.words(distance, number) + bytes(0x100 - 10 * size)
+            after = self.MAPS + 0x100 * min(at + 1, last)
+            entry = [0, 0, 0x800000 + 0x10000 * at, after if self.wide or at < last else 0, 0, 0, 0, 0]
+            maps += (self.address(*entry, distance % 256**size, number)).ljust(0x100, b"\0")
             if 0 < number < self.FAR:
                 vector[2 * number] = block
         loaded = {number: generation for _, number, _, generation in self.MODULES}
-        slots = [(loaded.get(at, 0), 0) for at in range(6)]
+        slots = [it for at in range(6) for it in (loaded.get(at, 0), 0)]
         after = self.LISTS + 0x80
-        first = self.words(3, after, *itertools.chain(*slots[:3]))
-        second = self.words(3, after if size == 8 else 0, *itertools.chain(*slots[3:]))
+        lists = self.address(3, after, *slots[:6]).ljust(0x80, b"\0")
         parts = {
             self.MEMORY: b"".join(bytes(8) + self.pack("II", size * it, 0) for it in self.FIELDS.values()),
-            self.DEBUG: self.words(0, self.MAPS), self.GLOBAL: self.words(0, 0, self.LISTS),
-            self.SIZE: self.pack("I", 2 * size), self.MAPS: maps, self.VECTOR: self.words(*vector),
-            self.LISTS: first + bytes(0x80 - len(first)) + second, STACK: self.words(0, self.VECTOR, 0, 0x10),
-            self.VECTOR + 2 * size * self.FAR: self.words(self.BLOCKS),
+            self.DEBUG: self.address(0, self.MAPS), self.GLOBAL: self.address(0, 0, self.LISTS),
+            self.SIZE: self.pack("I", 2 * size), self.MAPS: maps, self.VECTOR: self.address(*vector),
+            self.LISTS: lists + self.address(3, after if self.wide else 0, *slots[6:]),
+            STACK: self.address(0, self.VECTOR, 0, 0x10), self.VECTOR + 2 * size * self.FAR: self.address(self.BLOCKS),
         }  # fmt: skip
         return [(LOAD, address, content, len(content)) for address, content in parts.items()]
 
-    def write(self, folder, name):
-        """A thread whose pointer is the stack's, and one whose vector can't be read."""
+    def files(self):
+        """Of a thread whose pointer is the stack's, and one whose vector can't be read."""
+        name = f"glibc{8 * self.address_size}"
         for thread, pointer in [(401, STACK), (402, STACK + 2 * self.address_size)]:
-            self.status(thread, pointer, pointer if self.address_size == 8 else 0x63)
+            self.status(thread, pointer, pointer if self.wide else 0x63)
             self.note("LINUX", SEGMENTS, self.pack("IIII", 0x63 >> 3, pointer, 0, 0))
-        if self.address_size == 8:
-            self.auxiliary()
-        self.process(100)
+        self.ends(has_program=self.wide)
         for number in range(len(self.MODULES) + 3):
-            (folder / f"{name}.library{number}").write_bytes(self.library(number))
-        (folder / f"{name}.linker").write_bytes(self.linker())
-        (folder / f"{name}.core").write_bytes(self.elf({}, [(NOTE, 0, self.notes, 0), *self.memory()], 4))
+            yield f"{name}.library{number}", self.library(number)
+        yield f"{name}.linker", self.linker()
+        yield f"{name}.core", self.elf({}, [(NOTE, 0, self.notes, 0), *self.memory()], 4)
 
 
-def main():
-    folder = pathlib.Path(sys.argv[1])
-    wide = Core(8, "le")
+def files():
+    wide, narrow, big = Core(8), Core(4), Core(8, "be")
     wide.note("OTHER", STATUS, bytes(336))
     wide.note("CORE", STATUS, bytes(8))
-    wide.note("ELSE", STATUS, bytes(336))
     for thread, (mask, state, cut) in enumerate([(7, 7, 0), (7, 3, 0), (3, 3, 0), (7, 7, 200), (7, 7, 800)], 101):
         wide.status(thread, STACK + 8, 0x600000 + thread)
-        wide.note("CORE", FLOATS, wide.floats(thread - 100))
-        wide.note("LINUX", XSAVE, wide.xsave(thread - 100, mask, state)[: 832 - cut])
+        wide.note("CORE", FLOATS, floats(thread - 100))
+        wide.note("LINUX", XSAVE, xsave(thread - 100, mask, state)[: 832 - cut])
         wide.note("LINUX", 0x777, b"12345678")
     # a thread without XSAVE, and one whose registers of floating point are cut off
-    wide.status(106, STACK + 8, 0x600000 + 106)
-    wide.note("CORE", FLOATS, wide.floats(6))
-    wide.status(107, STACK + 8, 0x600000 + 107)
-    wide.note("CORE", FLOATS, wide.floats(7)[:200])
-    # notes of another name
-    others = ("LINUX", STATUS), ("CORE", XSAVE), ("LINUX", FLOATS), ("LINUX", AUXILIARY), ("LOAD", AUXILIARY)
-    for name, kind in others:
-        wide.note(name, kind, bytes(336))
-    wide.note("CORE", STATUS, bytes(112))
-    wide.auxiliary()
-    narrow = Core(4, "le")
-    for thread in (201, 202, 203):
+    for thread, size in [(106, 512), (107, 200)]:
+        wide.status(thread, STACK + 8, 0x600000 + thread)
+        wide.note("CORE", FLOATS, floats(thread - 100)[:size])
+    # notes of another name, and one without registers
+    for name, kind, size in [("LINUX", STATUS, 336), ("CORE", XSAVE, 336), ("LINUX", FLOATS, 336),
+                             ("LINUX", AUXILIARY, 336), ("LOAD", AUXILIARY, 336), ("CORE", STATUS, 112)]:
+        wide.note(name, kind, bytes(size))
+    for thread, count in [(201, 2), (202, 1), (203, 0)]:
         narrow.status(thread, STACK + 8, 0x63)
-        narrow.note("LINUX", FXSAVE, narrow.floats(thread - 200))
-        if thread != 203:
-            segments = [(5, 0x700000), (0x63 >> 3, 0x600000 + thread)][: 3 - (thread - 200)]
-            narrow.note("LINUX", SEGMENTS, b"".join(narrow.pack("IIII", *it, 0, 0) for it in segments) + b"123")
-    narrow.auxiliary()
-    big = Core(8, "be")
+        narrow.note("LINUX", FXSAVE, floats(thread - 200))
+        segments = [(5, 0x700000, 0, 0), (0x63 >> 3, 0x600000 + thread, 0, 0)][:count]
+        if count:
+            narrow.note("LINUX", SEGMENTS, b"".join(narrow.pack("IIII", *it) for it in segments) + b"123")
     big.status(301, STACK + 8)
-    big.auxiliary()
-    for name, core in [("x86_64", wide), ("i386", narrow), ("big", big), ("empty", Core(8, "le"))]:
-        core.process(100)
-        (folder / f"{name}.program").write_bytes(core.program())
-        (folder / f"{name}.core").write_bytes(core.core())
-    for name, size in [("glibc64", 8), ("glibc32", 4)]:
-        Glibc(size, "le").write(folder, name)
-
-
-if __name__ == "__main__":
-    main()
+    for name, core in [("x86_64", wide), ("i386", narrow), ("big", big), ("empty", Core(8))]:
+        core.ends()
+        yield f"{name}.program", core.program()
+        yield f"{name}.core", core.core()
+    for size in (8, 4):
+        yield from Glibc(size).files()

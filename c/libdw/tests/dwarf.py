@@ -1,0 +1,217 @@
+"""Debug information from trees of entries, in each encoding of a unit, and the ELF files that hold it."""
+
+import pathlib
+import re
+import struct
+import subprocess
+
+# The numbers of tags and attributes, as libdw's header has them.
+HEADER = ["cc", "-E", "-include", "dwarf.h", "-x", "c", "/dev/null"]
+NAMED = re.findall(r"DW_((?:TAG|AT)_\w+) = (\w+)", subprocess.check_output(HEADER, text=True))
+NUMBERS = {name: int(number, 0) for name, number in NAMED}
+# The opcodes and the operands of operations. Of these, `a` is an address, `r` an offset in .debug_info, bBhHiIqQ are as
+# in struct, `u` and `s` LEB128, `k` a block's length as LEB128, and `c` one in a byte.
+FORMS = {it: it for it in "aBbHhIiQqusrk"} | {"-": "", "R": "u", "O": "us", "V": "uu", "P": "u", "K": "uu", "D": "B"}
+FORMS |= {"E": "Bu", "T": "u", "L": "uc", "w": "H", "x": "I", "p": "rs"}
+OPCODES = pathlib.Path(__file__).parents[2] / "include" / "dwexpr_opcodes.h"
+ROWS = re.findall(r"row\((\w+), \"DW_OP_(\w+)\", '(.)'\)", OPCODES.read_text(encoding="utf-8"))
+OPERATIONS = {name: (int(opcode, 0), FORMS[form]) for opcode, name, form in ROWS if form in FORMS}
+ADDRESS, STRING, BLOCK1, DATA1, FLAG, SDATA, UDATA, REF4 = 0x01, 0x08, 0x0A, 0x0B, 0x0C, 0x0D, 0x0F, 0x13
+OFFSET, EXPRESSION, CONSTANT, INDEX = 0x17, 0x18, 0x21, 0x22
+
+
+def unsigned_leb(number, length=1):
+    """An unsigned LEB128 number of at least this many bytes."""
+    count = max(length, -(-number.bit_length() // 7))
+    return bytes(number >> 7 * at & 0x7F | 0x80 * (at + 1 < count) for at in range(count))
+
+
+def signed_leb(number, length=1):
+    """A signed LEB128 number."""
+    count = max(length, max(number, ~number).bit_length() // 7 + 1)
+    return unsigned_leb(number % (1 << 7 * count), count)
+
+
+class Entry:
+    """An entry of a tree: its tag, its children, and its attributes by their names in DWARF. Of these a number is data
+    or, if it is negative, sdata; text is an expression, or a name; bytes are a string, True is a flag, an entry a
+    reference, and a pair a form and its bytes."""
+
+    entries = []
+
+    def __init__(self, tag, *children, **attributes):
+        self.tag, self.children, self.attributes = NUMBERS[f"TAG_{tag}"], list(children), attributes
+        self.place, self.number = 0, len(self.entries)
+        self.entries.append(self)
+
+    def __str__(self):
+        """Its place, in the text of an expression."""
+        return f"@{self.number}"
+
+    def add(self, tag, *children, **attributes):
+        self.children.append(Entry(tag, *children, **attributes))
+        return self.children[-1]
+
+
+class Unit:
+    """A unit, whose entries are those of `root`."""
+
+    def __init__(self, address_size, offset_size, version, order, **attributes):
+        self.address_size, self.offset_size, self.version = address_size, offset_size, version
+        self.order = "<" if order == "le" else ">"
+        self.name = f"{address_size}-{offset_size}-{version}-{order}"
+        self.root = Entry("compile_unit", **attributes)
+        self.abbreviations = {}
+
+    def pack(self, form, *numbers):
+        return struct.pack(self.order + form, *numbers)
+
+    def word(self, size, *numbers):
+        return self.pack(("Q" if size == 8 else "I") * len(numbers), *numbers)
+
+    def address(self, *numbers):
+        return self.word(self.address_size, *numbers)
+
+    def offset(self, number):
+        return self.word(self.offset_size, number)
+
+    def counted(self, content):
+        """What a section or a unit has after its length."""
+        return b"\xff" * (self.offset_size - 4) + self.offset(len(content)) + content
+
+    def placed(self, begin, size):
+        """The attributes of an entry with code there."""
+        return {"low_pc": (ADDRESS, self.address(begin)), "high_pc": (ADDRESS, self.address(begin + size))}
+
+    def base_type(self, size, encoding):
+        return self.root.add("base_type", byte_size=size, encoding=encoding)
+
+    def operand(self, form, word):
+        number = self.root.entries[int(word[1:])].place if word[0] == "@" else int(word, 0)
+        if form in "uk":
+            return unsigned_leb(number, 2 if word[0] == "@" else 1)
+        if form == "s":
+            return signed_leb(number)
+        if form in "ar":
+            return self.word(self.address_size if form == "a" else self.offset_size, number)
+        return self.pack("B" if form == "c" else form, number)
+
+    def expression(self, text):
+        """The bytes of operations by their names, each before its operands; other words are bytes. @N is the place of
+        an entry."""
+        words, made = iter(text.split()), b""
+        for word in words:
+            opcode, forms = OPERATIONS.get(word, (None, ""))
+            made += bytes.fromhex(word) if opcode is None else bytes([opcode])
+            for form in forms:
+                made += self.operand(form, next(words))
+        return made
+
+    def content(self, name, value):
+        """The form of an attribute's value, and its bytes."""
+        if value is True:
+            return FLAG, b"\1"
+        if isinstance(value, Entry):
+            return REF4, self.pack("I", value.place)
+        if isinstance(value, bytes) or name.endswith("name"):
+            return STRING, (value if isinstance(value, bytes) else value.encode()) + b"\0"
+        if isinstance(value, str):
+            made = self.expression(value)
+            return (EXPRESSION if self.version >= 4 else BLOCK1), unsigned_leb(len(made)) + made
+        if isinstance(value, int):
+            return (SDATA, signed_leb(value)) if value < 0 else (UDATA, unsigned_leb(value))
+        return value
+
+    def written(self, entry, begin):
+        """The bytes of an entry and its children. The first time the places of later entries aren't known."""
+        entry.place = begin
+        contents = [(NUMBERS[f"AT_{name}"], *self.content(name, value)) for name, value in entry.attributes.items()]
+        shape = unsigned_leb(entry.tag) + bytes([bool(entry.children)])
+        for name, form, content in contents:
+            shape += unsigned_leb(name) + unsigned_leb(form) + (content if form == CONSTANT else b"")
+        made = bytearray(unsigned_leb(self.abbreviations.setdefault(shape + b"\0\0", len(self.abbreviations) + 1)))
+        made += b"".join(content for _, form, content in contents if form != CONSTANT)
+        for child in entry.children:
+            made += self.written(child, begin + len(made))
+        return made + b"\0" * bool(entry.children)
+
+    def tree(self):
+        """The sections of the debug information, by name."""
+        header = self.pack("HBB", 5, 1, self.address_size) + self.offset(0)
+        if self.version < 5:
+            header = self.pack("H", self.version) + self.offset(0) + bytes([self.address_size])
+        for _ in range(2):
+            made = self.written(self.root, len(self.counted(header)))
+        shapes = b"".join(unsigned_leb(code) + shape for shape, code in self.abbreviations.items())
+        return {".debug_abbrev": shapes + b"\0", ".debug_info": self.counted(header + made)}
+
+    def lists(self, content):
+        """The section of location lists with this content, by its name, and where the content begins in it. In version
+        5 that has index 0 too."""
+        if self.version < 5:
+            return {".debug_loc": content}, 0
+        front = self.pack("HBBI", 5, self.address_size, 0, 1) + self.offset(self.offset_size)
+        section = self.counted(front + content)
+        return {".debug_loclists": section}, len(section) - len(content)
+
+    def addresses(self, *numbers):
+        """The section of the addresses that operations name by their index."""
+        self.root.attributes["addr_base"] = (OFFSET, self.offset(2 * self.offset_size))
+        return {".debug_addr": self.counted(self.pack("HBB", 5, self.address_size, 0) + self.address(*numbers))}
+
+    def rules(self, begin, size):
+        """.debug_frame of one function: the CFA is a word above the stack's pointer, and there is no caller."""
+        word = self.address_size
+        pointer, returns = (7, 16) if word == 8 else (4, 8)
+        common = self.pack("IB", 0xFFFFFFFF, 4) + bytes([0, word, 0, 1]) + signed_leb(-word)
+        common += bytes([returns, 0x0C, pointer, word, 0x07, returns])
+        made = b""
+        for part in (common, self.pack("I", 0) + self.address(begin, size)):
+            part += bytes(-(len(part) + 4) % 8)
+            made += self.pack("I", len(part)) + part
+        return {".debug_frame": made}
+
+    def elf(self, sections, segments=(), kind=1, symbols=(), table=".symtab"):
+        """The bytes of an object file with these sections, by name; or of a program or a core dump, with segments.
+
+        A segment is its type, its address, its bytes, how many it has in memory, and its alignment if that isn't 1.
+        In place of bytes there may be the distance to the file's end, and how many there are said to be. A symbol is a
+        name, an address, which is None if another file has it, and what it is."""
+        wide = self.address_size == 8
+        front, step, header = (64, 56, 64) if wide else (52, 32, 40)
+        words = "IIQQQQQQ" if wide else "IIIIIIII"
+        if symbols:
+            strings, rows = b"\0", bytes(24 if wide else 16)
+            for name, address, what in symbols:
+                defined, at = address is not None, address or 0
+                fields = (what, 0, defined)
+                rows += self.pack(*(("IBBHQQ", len(strings), *fields, at, 8) if wide else
+                                    ("IIIBBH", len(strings), at, 8, *fields)))
+                strings += name.encode() + b"\0"
+            sections = sections | {table: rows, ".strtab": strings}
+        names = "\0".join(["", *sections, ".shstrtab", ""])
+        sections = sections | {".shstrtab": names.encode()}
+        contents = [content for _, _, content, *_ in segments if isinstance(content, bytes)] + [*sections.values()]
+        body = b"".join(contents)
+        body += bytes(-(front + step * len(segments) + len(body)) % 8)
+        place = front + step * len(segments)
+        end = place + len(body) + header * (len(sections) + 1)
+        made = b""
+        for segment, address, content, size, *align in segments:
+            at, length = (place, len(content)) if isinstance(content, bytes) else (end + content[0], content[1])
+            fields = [at, address, address, length, size]
+            fields = [segment, 7, *fields] if wide else [segment, *fields, 7]
+            made += self.pack(words, *fields, *(align or [1]))
+            place += length if isinstance(content, bytes) else 0
+        headers = bytes(header)
+        kinds = {".shstrtab": 3, ".strtab": 3, ".symtab": 2, ".dynsym": 11}
+        for index, (name, content) in enumerate(sections.items()):
+            links = [index + 2, 1, 8, len(rows) // (len(symbols) + 1)] if name == table and symbols else [0, 0, 1, 0]
+            fields = names.index(f"\0{name}\0") + 1, kinds.get(name, 1), 0, 0, place, len(content), *links
+            headers += self.pack("IIQQQQIIQQ" if wide else "IIIIIIIIII", *fields)
+            place += len(content)
+        machine = {"<Q": 62, ">Q": 21, "<I": 3, ">I": 20}[self.order + words[2]]
+        first = self.pack(f"HHI{3 * words[2]}I6H", kind, machine, 1, 0, front * bool(segments), end - len(headers), 0,
+                          front, step, len(segments), header, len(sections) + 1, len(sections))
+        ident = b"\x7fELF" + bytes([1 + wide, 1 + (self.order == ">"), 1]) + bytes(9)
+        return ident + first + made + body + headers

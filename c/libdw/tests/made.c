@@ -1,0 +1,351 @@
+/* The variables, types and functions of the files that entries.py, typed.py and functions.py make. The name of a
+ * variable of a unit says what has to be, in words that end with a semicolon. In a program the name begins with where
+ * frames stand, the innermost first, and a colon. If none is said, there is one frame without modules. The object is at
+ * 0x1010.
+ *
+ *     value VALUE                 the variable's value: bytes, or the name of a code
+ *     size N                      the bytes of its type
+ *     at I,J B N                  where the element begins in bits, and how many it has
+ *     member NAME B N             the same for a member
+ *     data N                      the address of the data; `memory` if it is read there
+ *     vtable N                    where its virtual function is
+ *     without                     the size isn't known without the object
+ *     type none                   it has no type
+ *     NAME in FRAME is VALUE      the value of a variable in that frame
+ *     NAME of FUNCTION is VALUE   the same for a variable of a function, in the first frame
+ *     NAME from FUNCTION is VALUE the same if the file is in no module; the function may be `unit`
+ *     entry of NAME is VALUE      its value on entry
+ *     BYTES on FRAME is VALUE     the value of an expression
+ *     count in FRAME is N         how many functions and variables there are
+ *     all of NAME is N            how many globals have the name
+ *
+ * `none` is no number, `missing` no such variable, and `nameless` one that has no name. With a number N before the
+ * files, they are read again and again, and each time another call of malloc fails: each of the first 60, and then one
+ * in N. Then a value isn't known, or is as said. Register 7 has 0x10; other registers and memory are as in frame.h. */
+#include "check.h"
+#include "frame.h"
+#include "refusing.h"
+#include <fcntl.h>
+#include <unistd.h>
+
+static const uint64_t object = 0x1010;
+static int big_endian;
+static Dwfl *dwfl; /* NULL if the file isn't a program */
+static Dwarf_Die unit, foreign; /* the second one is the same unit of a file that is in no module */
+static dwexpr_libdw_frame *frames[8];
+static char place[4096]; /* of the variable */
+
+static int read_more_registers(void *context, uint32_t number, uint8_t *content, size_t *size)
+{
+    if (number != 7)
+        return read_register(context, number, content, size);
+    memset(content, 0, 8);
+    content[0] = 0x10;
+    *size = 8;
+    return 0;
+}
+
+/* ---- types */
+
+/* Whether a number is the word's, or is missing if the word is `none`. */
+static int is_said(const char *word, uint32_t code, uint64_t number)
+{
+    return strcmp(word, "none") ? !code && number == strtoull(word, NULL, 10) : code != 0;
+}
+
+static int is_element(Dwarf_Die *type, const char *said, const char *begins, const char *has)
+{
+    int64_t indexes[80];
+    uint64_t begin, bits;
+    size_t count = 0;
+    uint32_t code;
+    int read;
+    for (; sscanf(said, "%ld%n", &indexes[count], &read) == 1; said += read + (said[read] == ','))
+        count++;
+    code = dwexpr_libdw_element(frames[0], type, &object, indexes, count, &begin, &bits);
+    return is_said(begins, code, begin) && (code || is_said(has, code, bits));
+}
+
+static int is_member(Dwarf_Die *type, const char *name, const char *begins, const char *has)
+{
+    Dwarf_Die member;
+    uint64_t begin = 1, bits, alone = 1;
+    uint32_t code, alone_code;
+    int more = dwarf_child(type, &member);
+    while (more == 0 && strcmp(dwarf_diename(&member), name))
+        more = dwarf_siblingof(&member, &member);
+    code = dwexpr_libdw_member(frames[0], &member, &object, &begin, &bits);
+    alone_code = dwexpr_libdw_member(frames[0], &member, &object, &alone, NULL);
+    /* the place may be known where the bits aren't, and alone if they aren't counted from the highest one */
+    return is_said(has, code, bits) && (!strcmp(begins, "none") || begin == strtoull(begins, NULL, 10)) &&
+           (dwarf_hasattr(&member, DW_AT_bit_offset) || is_said(begins, alone_code, alone));
+}
+
+/* Checks the size of a type, and of the variable's as it stands: that of a typedef. */
+static int has_size(Dwarf_Die *variable, Dwarf_Die *type, const char *said)
+{
+    Dwarf_Attribute attribute;
+    uint64_t number;
+    uint32_t code = dwexpr_libdw_size(frames[0], type, &object, &number);
+    int holds = is_said(said, code, number);
+    if (dwarf_formref_die(dwarf_attr(variable, DW_AT_type, &attribute), type)) {
+        code = dwexpr_libdw_size(frames[0], type, &object, &number);
+        holds &= is_said(said, code, number);
+    }
+    return holds;
+}
+
+static int is_type(Dwarf_Die *variable, char word[4][64])
+{
+    Dwarf_Die type = {.addr = NULL};
+    Dwarf_Attribute attribute;
+    uint64_t number = 0;
+    uint32_t code = dwexpr_libdw_type(variable, &type);
+    if (!strcmp(word[0], "size"))
+        return has_size(variable, &type, word[1]);
+    if (!strcmp(word[0], "at"))
+        return is_element(&type, word[1], word[2], word[3]);
+    if (!strcmp(word[0], "member"))
+        return is_member(&type, word[1], word[2], word[3]);
+    if (!strcmp(word[0], "data")) {
+        code = dwexpr_libdw_data(frames[0], &type, object, &number);
+        return strcmp(word[1], "memory") ? is_said(word[1], code, number) : !code && number != object;
+    }
+    if (!strcmp(word[0], "vtable")) {
+        dwarf_attr(&type, DW_AT_vtable_elem_location, &attribute);
+        code = dwexpr_libdw_number(frames[0], &attribute, &object, &number);
+        return is_said(word[1], code, number);
+    }
+    if (!strcmp(word[0], "without"))
+        code = dwexpr_libdw_size(frames[0], &type, NULL, &number);
+    else if (strcmp(word[0], "type"))
+        return 0;
+    return code != 0;
+}
+
+/* ---- variables and their values */
+
+/* A variable of a frame. */
+static int find_variable(dwexpr_libdw_frame *frame, const char *name, Dwarf_Die *variable, size_t *total)
+{
+    dwexpr_libdw_entry *entries;
+    size_t i;
+    int found = 0;
+    dwexpr_libdw_variables(frame, &entries, total);
+    for (i = 0; i < *total && !found; i++) {
+        const char *given = dwarf_diename(&entries[i].entry);
+        found = !strcmp(given ? given : "nameless", name);
+        *variable = entries[i].entry;
+    }
+    free(entries);
+    return found;
+}
+
+/* A variable of a function with this linkage name or, if that is NULL, of the entry itself. */
+static int find_in(Dwarf_Die parent, const char *function, const char *name, Dwarf_Die *variable)
+{
+    Dwarf_Die child;
+    int more;
+    for (more = dwarf_child(&parent, &child); more == 0; more = dwarf_siblingof(&child, &child)) {
+        Dwarf_Attribute attribute;
+        const char *linkage = dwarf_formstring(dwarf_attr(&child, DW_AT_linkage_name, &attribute));
+        const char *given = dwarf_diename(&child);
+        *variable = child;
+        if (function ? find_in(child, linkage && !strcmp(linkage, function) ? NULL : function, name, variable)
+                     : given && !strcmp(given, name))
+            return 1;
+    }
+    return 0;
+}
+
+static int is_value(dwexpr_libdw_frame *frame, const char *said, uint32_t code, dwexpr_libdw_value **value)
+{
+    uint8_t wanted[64], got[64];
+    const int has_bytes = strspn(said, "0123456789abcdef") == strlen(said);
+    const size_t size = has_bytes ? bytes_of(said, wanted) : 1;
+    if (!code)
+        code = dwexpr_libdw_read(frame, *value, 8 * size, got, NULL);
+    dwexpr_libdw_release(*value);
+    if (code && refused_call)
+        return 1;
+    return has_bytes ? !code && !memcmp(got, wanted, size) : code && !strcmp(dwexpr_libdw_code_name(code), said);
+}
+
+static int is_found(char word[4][64], const char *said)
+{
+    const char *name = word[0], *kind = word[1], *where = word[2];
+    dwexpr_libdw_frame *frame = *kind == 'i' || !strcmp(kind, "on") ? frames[atoi(where)] : frames[0];
+    dwexpr_libdw_value *value = NULL;
+    Dwarf_Die variable = unit, *globals;
+    size_t total = 0;
+    uint8_t bytes[32];
+    int found;
+    if (!strcmp(kind, "on")) {
+        const dwexpr_libdw_text text = {.text = {bytes, bytes_of(name, bytes)}, .encoding = LE8};
+        return is_value(frame, said, dwexpr_libdw_evaluate(frame, &text, NULL, NULL, &value), &value);
+    }
+    if (!strcmp(name, "all")) {
+        const uint32_t code = dwexpr_libdw_globals(frame, NULL, where, &globals, &total);
+        free(globals);
+        return refused_call || is_said(said, code, total);
+    }
+    if (!strcmp(name, "entry")) {
+        found = find_variable(frame, where, &variable, &total) || find_in(unit, NULL, where, &variable);
+        return found ? is_value(frame, said, dwexpr_libdw_on_entry(frame, &variable, &value), &value)
+                     : refused_call > 0;
+    }
+    found = *kind == 'i' ? find_variable(frame, name, &variable, &total)
+                         : find_in(*kind == 'o' ? unit : foreign, strcmp(where, "unit") ? where : NULL, name,
+                                   &variable);
+    if (!strcmp(name, "count"))
+        return refused_call || total == strtoul(said, NULL, 10);
+    if (!found)
+        return refused_call || !strcmp(said, "missing");
+    return is_value(frame, said, dwexpr_libdw_variable(frame, &variable, &value), &value);
+}
+
+static void check_words(Dwarf_Die *variable, const char *words)
+{
+    char word[4][64] = {"", "", "", ""};
+    const char *said = strstr(words, " is ");
+    dwexpr_libdw_value *value;
+    int holds;
+    sscanf(words, "%63s %63s %63s %63s", word[0], word[1], word[2], word[3]);
+    if (!strcmp(word[0], "value"))
+        holds = is_value(frames[0], words + 6, dwexpr_libdw_variable(frames[0], variable, &value), &value);
+    else
+        holds = said ? is_found(word, said + 4) : is_type(variable, word);
+    check(holds, place, words);
+}
+
+/* ---- files */
+
+static void check_row(Dwarf_Die *variable, const char *row)
+{
+    dwexpr_libdw_source source = {.dwfl = dwfl, .read_register = read_more_registers, .read_memory = read_memory,
+                                  .context = &big_endian, .is_activation = 1};
+    char words[1024], *next, *here = words;
+    size_t count = 0, i;
+    unsigned long places[8] = {0};
+    int read;
+    snprintf(words, sizeof words, "%s", row);
+    for (; dwfl && sscanf(here, "%lx%n", &places[count], &read) == 1; here += read)
+        count++;
+    here += dwfl ? strcspn(here, " ") + 1 : 0;
+    if (!count) {
+        source.unit = dwfl ? &unit : NULL;
+        source.dwfl = NULL;
+        count = 1;
+    }
+    for (i = count; i-- > 0;) {
+        source.pc = places[i];
+        source.is_activation = i == 0;
+        source.caller = i + 1 < count ? frames[i + 1] : NULL;
+        if (dwexpr_libdw_make_frame(&source, &frames[i]))
+            break;
+    }
+    for (; here && frames[0]; here = next) {
+        next = strstr(here, "; ");
+        if (next) {
+            *next = 0;
+            next += 2;
+        }
+        check_words(variable, here);
+    }
+    for (i = 0; i < COUNT(frames); i++) {
+        dwexpr_libdw_free_frame(frames[i]);
+        frames[i] = NULL;
+    }
+}
+
+/* What isn't known where there is no unit or no function, and frames whose base and CFA are given. */
+static void check_nowhere(void)
+{
+    static const uint8_t base[] = {DW_OP_fbreg, 0}, cfa[] = {DW_OP_call_frame_cfa};
+    const dwexpr_libdw_text texts[] = {{.text = {base, 2}, .encoding = LE8}, {.text = {cfa, 1}, .encoding = LE8},
+                                       {.text = {base, 2}, .encoding = LE8, .on_cfa = 1}};
+    const uint64_t given = 0x1100;
+    const dwexpr_libdw_source source = {.dwfl = dwfl, .pc = 0x10, .is_activation = 1};
+    const dwexpr_libdw_source outside = {.dwfl = dwfl, .unit = &unit, .pc = 0x10, .is_activation = 1};
+    const dwexpr_libdw_source known = {.frame_base = &given, .cfa = &given};
+    dwexpr_libdw_frame *frame;
+    dwexpr_libdw_value *value;
+    dwexpr_libdw_entry *entries;
+    dwexpr_libdw_place here;
+    Dwarf_Die *scopes;
+    uint8_t bytes[DWEXPR_LIBDW_REGISTER_SIZE];
+    size_t count, i;
+    dwexpr_libdw_make_frame(&source, &frame);
+    check(dwexpr_libdw_locate(frame, &here) == DWEXPR_LIBDW_NO_UNIT, "nowhere", "no unit");
+    check(dwexpr_libdw_scopes(frame, &scopes, &count) == DWEXPR_LIBDW_NO_UNIT && !scopes, "nowhere", "no scopes");
+    check(dwexpr_libdw_variables(frame, &entries, &count) == DWEXPR_LIBDW_NO_UNIT && !count, "nowhere", "no variables");
+    check(dwexpr_libdw_memory(frame, 0, bytes, 1) == DWEXPR_LIBDW_NOT_READABLE, "nowhere", "no memory");
+    check(dwexpr_libdw_register(frame, 0, bytes, &count) == DWEXPR_LIBDW_NOT_READABLE, "nowhere", "no register");
+    check(dwexpr_libdw_evaluate(frame, &texts[2], NULL, NULL, &value) == DWEXPR_LIBDW_WANTS + DWEXPR_WANTS_CFA,
+          "nowhere", "no CFA");
+    dwexpr_libdw_free_frame(frame);
+    dwexpr_libdw_make_frame(&outside, &frame);
+    check(dwexpr_libdw_on_entry(frame, &unit, &value) == DWEXPR_LIBDW_OPTIMIZED_AWAY, "no function", "nor its entry");
+    dwexpr_libdw_free_frame(frame);
+    dwexpr_libdw_make_frame(&known, &frame);
+    check(dwexpr_libdw_scopes(frame, &scopes, &count) == DWEXPR_LIBDW_NO_UNIT, "no Dwfl", "no scopes");
+    for (i = 0; i < 2; i++) {
+        check(!dwexpr_libdw_evaluate(frame, &texts[i], NULL, NULL, &value) && value->pieces[0].number == given, "given",
+              "it is known");
+        dwexpr_libdw_release(value);
+    }
+    dwexpr_libdw_free_frame(frame);
+}
+
+static void check_file(const char *path)
+{
+    static const Dwfl_Callbacks finders = {dwfl_build_id_find_elf, dwfl_standard_find_debuginfo, NULL, NULL};
+    const char *slash = strrchr(path, '/');
+    const int file = open(path, O_RDONLY);
+    Dwarf *dwarf = dwarf_begin(file, DWARF_C_READ);
+    Dwarf_CU *cu = NULL;
+    Dwarf_Addr bias;
+    Dwarf_Die entry;
+    dwexpr_encoding encoding;
+    int more;
+    check(!dwarf_get_units(dwarf, cu, &cu, NULL, NULL, &unit, NULL) && !dwexpr_libdw_encoding(cu, &encoding), path,
+          "its unit");
+    big_endian = encoding.big_endian;
+    dwfl = strstr(path, ".functions") ? dwfl_begin(&finders) : NULL;
+    if (dwfl) {
+        Dwfl_Module *module = dwfl_report_elf(dwfl, "functions", path, -1, 0, 0);
+        dwfl_report_end(dwfl, NULL, NULL);
+        foreign = unit;
+        unit = *dwfl_module_nextcu(module, NULL, &bias);
+    }
+    for (more = dwarf_child(&unit, &entry); more == 0; more = dwarf_siblingof(&entry, &entry)) {
+        const char *row = dwarf_tag(&entry) == DW_TAG_variable ? dwarf_diename(&entry) : NULL;
+        snprintf(place, sizeof place, "%s at 0x%llx", slash ? slash + 1 : path,
+                 (unsigned long long)dwarf_dieoffset(&entry));
+        if (row && strchr(row, dwfl ? ':' : ' '))
+            check_row(&entry, row);
+    }
+    if (dwfl && !refused_call)
+        check_nowhere();
+    dwfl_end(dwfl);
+    dwarf_end(dwarf);
+    close(file);
+}
+
+int main(int argc, char **argv)
+{
+    char *rest = argv[0];
+    const unsigned long number = argc > 2 ? strtoul(argv[1], &rest, 10) : 0, step = *rest ? 0 : number;
+    int i;
+    for (i = step ? 2 : 1; i < argc; i++) {
+        unsigned long all;
+        calls = refused_call = 0;
+        check_file(argv[i]);
+        all = calls;
+        for (refused_call = 1; step && refused_call <= all; refused_call += refused_call < 60 ? 1 : step) {
+            calls = 0;
+            check_file(argv[i]);
+        }
+    }
+    return finish();
+}

@@ -36,12 +36,12 @@ def rows_in(name):
 
 def listing_of(vector):
     """The row of a vector."""
-    name = vector.get("code") or vector["kind"]
-    variant = "".join(word if word in ("TLS", "CFA") else word.capitalize() for word in name.split("_"))
-    number = f" {vector['detail']}" if "code" in vector and "detail" in vector else ""
-    said = f"fault {variant}{number}" if "code" in vector else f"{vector['bytes']} {variant}"
-    words = ["ops", *vector["in"].split(), vector["bytes"]]
-    return {"name": vector["bytes"], "words": words, "input": "", "output": f"0 {said}\n", "status": int("code" in vector)}
+    digits, code = vector["bytes"], vector.get("code")
+    parts = (code or vector["kind"]).split("_")
+    name = "".join(part if part in ("TLS", "CFA") else part.capitalize() for part in parts)
+    said = f"fault {name} {vector.get('detail', '')}".rstrip() if code else f"{digits} {name}"
+    words = ["ops", *vector["in"].split(), digits]
+    return {"name": digits, "words": words, "input": "", "output": f"0 {said}\n", "status": int(bool(code))}
 
 
 def bytes_of(text):

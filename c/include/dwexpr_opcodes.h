@@ -1,5 +1,4 @@
-/* The opcodes of operations, each with its name and the form of its operands. The repository's `bin/numbers` writes
- * the numbers and the names from the proved sources; the forms are written by hand:
+/* The opcodes of operations, each with its name and the form of its operands:
  *   -  none                  a  address
  *   B H I Q  1, 2, 4 and 8 bytes without a sign         b h i q  with one
  *   u  unsigned LEB128       s  signed LEB128           R  register

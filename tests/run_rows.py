@@ -6,7 +6,7 @@ output is a text; `{"hex": ..}`, its bytes as digits; or a list of parts, each a
 it stands. A row may say besides
 - `program`: the program's name, the word before its words;
 - `input_from`: in place of an input, a `directory`, whose read fails, or a pipe that stays `open` and gives nothing;
-- `output_to`: `full`, a device on which every write fails, or `closed`, a pipe that nobody reads;
+- `output_to`: a device, such as one on which every write fails;
 - `megabytes`: how much memory the program may have;
 - `error`: all of standard error;
 - `output_pattern` or `error_pattern`: a regular expression for it;
@@ -59,11 +59,8 @@ def ends_of(row):
         ends["input"] = bytes_of(row["input"])
     else:
         ends["stdin"] = os.open("/", os.O_RDONLY) if row["input_from"] == "directory" else os.pipe()[0]
-    if row.get("output_to") == "full":
-        ends["stdout"] = os.open("/dev/full", os.O_WRONLY)
-    if row.get("output_to") == "closed":
-        reader, ends["stdout"] = os.pipe()
-        os.close(reader)
+    if "output_to" in row:
+        ends["stdout"] = os.open(row["output_to"], os.O_WRONLY)
     if "megabytes" in row:
         limits = [row["megabytes"] << 20] * 2
         ends["preexec_fn"] = lambda: resource.setrlimit(resource.RLIMIT_AS, limits)
@@ -79,8 +76,7 @@ def is_wanted(row, field, printed):
 def run(group, row):
     program = str(TOP / row["by"] if "by" in row else PROGRAM)
     words = [bytes_of(row.get("program", program)), *map(bytes_of, row["words"])]
-    # Python ignores SIGPIPE, and so does the program then: it has to see that its write failed.
-    ran = subprocess.run(words, executable=program, timeout=60, restore_signals=False, **ends_of(row))
+    ran = subprocess.run(words, executable=program, timeout=60, **ends_of(row))
     output = ran.stdout or b""
     good = is_wanted(row, "output", output) and is_wanted(row, "error", ran.stderr) and ran.returncode == row["status"]
     checks.expect(good, f"{group}: {row['name']}", f"{output[-200:]} {ran.stderr[-200:]}, status {ran.returncode}")

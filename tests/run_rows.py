@@ -76,10 +76,15 @@ def is_wanted(row, field, printed):
 def run(group, row):
     program = str(TOP / row["by"] if "by" in row else PROGRAM)
     words = [bytes_of(row.get("program", program)), *map(bytes_of, row["words"])]
-    ran = subprocess.run(words, executable=program, timeout=60, **ends_of(row))
+    name = f"{group}: {row['name']}"
+    try:
+        ran = subprocess.run(words, executable=program, timeout=60, **ends_of(row))
+    except subprocess.TimeoutExpired as error:
+        checks.expect(False, name, error)
+        return
     output = ran.stdout or b""
     good = is_wanted(row, "output", output) and is_wanted(row, "error", ran.stderr) and ran.returncode == row["status"]
-    checks.expect(good, f"{group}: {row['name']}", f"{output[-200:]} {ran.stderr[-200:]}, status {ran.returncode}")
+    checks.expect(good, name, f"{output[-200:]} {ran.stderr[-200:]}, status {ran.returncode}")
 
 
 def main():

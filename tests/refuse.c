@@ -1,8 +1,8 @@
 /* Refuses one call of a program: a library to load before the C library, by LD_PRELOAD. Each variable says which call
    of its kind is refused, counted from 1; if it isn't set, none is.
    - REFUSED_ALLOCATION: malloc and realloc, which then give no memory.
-   - REFUSED_READ, REFUSED_WRITE: read and write, which then fail. The others of that kind move one byte at a time.
-   REFUSED_WITH is the error that a read or a write fails with, in place of EIO; 0 is none, and it moves no byte. */
+   - REFUSED_READ, REFUSED_WRITE: read and write, which then fail. Those before it move one byte at a time.
+   REFUSED_WITH is the error that a read or a write fails with; 0 is none, and it moves no byte. */
 #define _GNU_SOURCE
 #include <errno.h>
 #include <stddef.h>
@@ -14,41 +14,35 @@
 void *__libc_malloc(size_t size);
 void *__libc_realloc(void *old, size_t size);
 
-struct kind {
-    int is_set;
-    unsigned long left;
-};
-
-static struct kind allocations, reads, writes;
+/* How many calls of a kind are left, with the one that is refused; 0 if none is refused any more. */
+static unsigned long allocations, reads, writes;
 static int failure;
 
-static struct kind kind_of(const char *variable)
+static unsigned long number_in(const char *variable)
 {
     const char *number = getenv(variable);
-    struct kind kind = {number != NULL, number != NULL ? strtoul(number, NULL, 10) : 0};
-    return kind;
+    return number ? strtoul(number, NULL, 10) : 0;
 }
 
 __attribute__((constructor)) static void begin(void)
 {
-    const char *number = getenv("REFUSED_WITH");
-    failure = number != NULL ? atoi(number) : EIO;
-    allocations = kind_of("REFUSED_ALLOCATION");
-    reads = kind_of("REFUSED_READ");
-    writes = kind_of("REFUSED_WRITE");
+    failure = (int)number_in("REFUSED_WITH");
+    allocations = number_in("REFUSED_ALLOCATION");
+    reads = number_in("REFUSED_READ");
+    writes = number_in("REFUSED_WRITE");
 }
 
-static int is_refused(struct kind *kind, int error)
+static int is_refused(unsigned long *left, int error)
 {
-    if (kind->left == 0 || --kind->left != 0)
+    if (*left == 0 || --*left != 0)
         return 0;
     errno = error;
     return 1;
 }
 
-static size_t moved(const struct kind *kind, size_t size)
+static size_t moved(unsigned long left, size_t size)
 {
-    return kind->is_set && size > 1 ? 1 : size;
+    return left && size > 1 ? 1 : size;
 }
 
 void *malloc(size_t size)
@@ -63,12 +57,12 @@ void *realloc(void *old, size_t size)
 
 ssize_t read(int file, void *bytes, size_t size)
 {
-    return is_refused(&reads, failure) ? -(failure != 0) : syscall(SYS_read, file, bytes, moved(&reads, size));
+    return is_refused(&reads, failure) ? -(failure != 0) : syscall(SYS_read, file, bytes, moved(reads, size));
 }
 
 ssize_t write(int file, const void *bytes, size_t size)
 {
-    return is_refused(&writes, failure) ? -(failure != 0) : syscall(SYS_write, file, bytes, moved(&writes, size));
+    return is_refused(&writes, failure) ? -(failure != 0) : syscall(SYS_write, file, bytes, moved(writes, size));
 }
 
 /* The C library's other name of it. */

@@ -17,97 +17,79 @@ The last line is `N passed, M failed`, of the runs. It wants cc.
 
 import errno
 import os
+import subprocess
 
 import checks
+import commands
 import run_rows
-from checks import commands, expect
-from commands import TOP
 
 # More allocations than a run has.
 ALLOCATIONS = 60
-# Inputs of which a byte, or the end, can't be read.
-INPUTS = ["", "evaluate\n", "nonsense\n"]
 READ_ERRORS = [error for error in errno.errorcode if error != errno.EINTR]
 # The rows whose lists grow, and those that print each kind of line, of which the first completes.
-ROWS = run_rows.rows_of(run_rows.ROWS / "refused_calls.json")
+ROWS = run_rows.rows_in("rows/refused_calls.json")
 ROWS = [row | {it: run_rows.bytes_of(row[it]).decode() for it in ("input", "output")} for row in ROWS]
 MANY = [row for row in ROWS if row["name"].startswith("many ")]
 FEW = [row for row in ROWS if row not in MANY]
 
 
-def run(library, refused, row, failure=errno.EIO, text=None):
-    """What a row prints on its input or this one, its status, and what it says on standard error, if these calls, one
-    of a kind, are refused."""
+def run(library, row, failure, refused):
+    """Runs a row while these calls, one of a kind, are refused. What it prints, its status, and what it says."""
     numbers = {f"REFUSED_{kind}": str(number) for kind, number in refused.items()}
-    env = {**os.environ, "LD_PRELOAD": str(library), "REFUSED_WITH": str(failure), **numbers}
-    words = [run_rows.bytes_of(word).decode() for word in row["words"]]
-    ran = checks.run([run_rows.PROGRAM, *words], input=row["input"] if text is None else text, env=env)
+    env = os.environ | {"LD_PRELOAD": str(library), "REFUSED_WITH": str(failure)} | numbers
+    words = [run_rows.PROGRAM, *map(run_rows.bytes_of, row["words"])]
+    ran = subprocess.run(words, input=row["input"], capture_output=True, text=True, timeout=60, env=env)
     return (ran.stdout, ran.returncode), ran.stderr
 
 
-def is_whole(row, printed):
-    """Whether this is what a row prints with ample memory, and its status."""
-    return printed == (row["output"], row["status"])
+def whole(row):
+    """What a row prints with ample memory, and its status."""
+    return row["output"], row["status"]
 
 
-def is_allowed(row, text, status):
-    """Whether a run with a refused allocation may print this and end so."""
-    steps = row["input"].count("\n")
-    answers = row["output"].splitlines()[:steps]
-    without_memory = [answers[:known] + ["no memory"] for known in range(steps + 1)]
-    full = [answers[:known] + ["fault StackFull"] * (steps - known) for known in range(steps)]
-    return status == 1 and text.splitlines() in without_memory + full
+def cut(row):
+    """What a row may print without an allocation, and its status."""
+    steps, lines = row["input"].count("\n"), row["output"].splitlines(keepends=True)
+    for known in range(steps + 1):
+        yield "".join(lines[:known]) + "no memory\n", 1
+    for known in range(steps):
+        yield "".join(lines[:known]) + "fault StackFull\n" * (steps - known), 1
 
 
-def refuse_allocations(library):
+def tries(buffer):
+    """Each row, the error and the calls that are refused, all that may be printed then, and what is said."""
     for row in MANY:
         for number in range(1, ALLOCATIONS + 1):
-            printed, said = run(library, {"ALLOCATION": number}, row)
-            good = is_whole(row, printed) or is_allowed(row, *printed)
-            expect(good, f"{row['name']}, allocation {number} refused: {printed!r}, {said!r}")
-            if number in (1, ALLOCATIONS):
-                expect(is_whole(row, printed) == (number > 1), f"{row['name']} has no allocation, or too many")
-
-
-def refuse_reads(library):
-    for text in INPUTS:
-        # The last of them is the read that finds the end.
+            # The first allocation is needed, and the last isn't made.
+            allowed = [*cut(row)] * (number < ALLOCATIONS) + [whole(row)] * (number > 1)
+            yield row, 0, {"ALLOCATION": number}, allowed, ""
+    # Neither a byte nor the end, which the last read finds, can be read.
+    for text in ("", "evaluate\n", "nonsense\n"):
         for number in range(1, len(text) + 2):
             for failure in READ_ERRORS:
-                printed, said = run(library, {"READ": number}, FEW[0], failure, text)
-                good = printed == ("", 1) and said.startswith("dwexpr: standard input can't be read: ")
-                expect(good, f"input {text!r}, read {number}, {errno.errorcode[failure]}: {printed!r}, {said!r}")
-
-
-def refuse_writes(library, buffer):
+                yield FEW[0] | {"input": text}, failure, {"READ": number}, [("", 1)], "standard input can't be read: "
     for row in FEW:
-        for number in range(1, len(row["output"]) + 1):
-            for failure in (errno.EIO, errno.EPIPE, 0):
-                printed, said = run(library, {**buffer, "WRITE": number}, row, failure)
-                good = printed == (row["output"][: number - 1], 1) and "standard output can't be written: " in said
-                expect(good, f"{row['name']}, write {number}, {failure}, {buffer}: {printed!r}, {said!r}")
-
-
-def interrupt(library, buffer):
-    for row in FEW:
-        for kind, count in (("READ", len(row["input"]) + 1), ("WRITE", len(row["output"]))):
-            for number in range(1, count + 1):
-                printed, said = run(library, {**buffer, kind: number}, row, errno.EINTR)
-                expect(is_whole(row, printed), f"{row['name']}, {kind} {number}, {buffer}: {printed!r}, {said!r}")
+        for other in ({}, buffer):
+            for number in range(1, len(row["output"]) + 1):
+                refused, before = {**other, "WRITE": number}, row["output"][: number - 1]
+                for failure in (errno.EIO, errno.EPIPE, 0):
+                    yield row, failure, refused, [(before, 1)], "standard output can't be written: "
+                yield row, errno.EINTR, refused, [whole(row)], ""
+            for number in range(1, len(row["input"]) + 2):
+                yield row, errno.EINTR, {**other, "READ": number}, [whole(row)], ""
 
 
 def main():
     with commands.temporary() as folder:
         library = folder / "refuse.so"
-        commands.run("cc", "-O1", "-shared", "-fPIC", TOP / "tests/refuse.c", "-o", library)
-        refuse_allocations(library)
-        refuse_reads(library)
+        commands.run("cc", "-O1", "-shared", "-fPIC", commands.TOP / "tests/refuse.c", "-o", library)
         # The first allocation that the program can do without is that of its buffer of standard output.
-        numbers = range(1, ALLOCATIONS)
-        number = next(it for it in numbers if is_whole(FEW[0], run(library, {"ALLOCATION": it}, FEW[0])[0]))
-        for buffer in ({}, {"ALLOCATION": number}):
-            refuse_writes(library, buffer)
-            interrupt(library, buffer)
+        buffers = ({"ALLOCATION": number} for number in range(1, ALLOCATIONS))
+        buffer = next(it for it in buffers if run(library, FEW[0], 0, it)[0] == whole(FEW[0]))
+        for row, failure, refused, allowed, wanted in tries(buffer):
+            printed, said = run(library, row, failure, refused)
+            name = f"{row['name']}, {row['input'][:10]!r}, {refused}, error {failure}"
+            checks.expect(printed in allowed and wanted in said, name, f"{printed}, {said}")
 
 
 if __name__ == "__main__":

@@ -6,10 +6,10 @@ output is a text; `{"hex": ..}`, its bytes as digits; or a list of parts, each a
 it stands. A row may say besides
 - `program`: the program's name, the word before its words;
 - `input_from`: in place of an input, a `directory`, whose read fails, or a pipe that stays `open` and gives nothing;
-- `output_to`: `full`, a device on which every write fails, or `closed`, a pipe that nobody reads;
+- `output_to`: a device, such as one on which every write fails;
 - `megabytes`: how much memory the program may have;
-- `output_pattern`: a regular expression for all of the output, in place of it;
-- `error`, or `error_pattern`: the same of standard error, which isn't looked at in a row that has neither;
+- `error`: all of standard error;
+- `output_pattern` or `error_pattern`: a regular expression for it;
 - `by`: the script of the repository that is run in place of the program.
 
 Each vector of tests/vectors/decode.json is a row too: `dwexpr ops` lists its operation by its name, or its fault.
@@ -24,31 +24,24 @@ import resource
 import subprocess
 
 import checks
-from checks import expect
 from commands import TOP
 
-ROWS = TOP / "tests/rows"
 PROGRAM = TOP / "crates/dwexpr/out/dwexpr"
-SECONDS = 60
 
 
-def variant_of(name):
-    """The variant in Rattle that has this name in C: `PlusConstant` of `PLUS_CONSTANT`."""
-    return "".join(word if word in ("TLS", "CFA") else word.capitalize() for word in name.split("_"))
+def rows_in(name):
+    """The rows of a file."""
+    return json.loads((TOP / "tests" / name).read_text(encoding="utf-8"))
 
 
 def listing_of(vector):
     """The row of a vector."""
-    words, code = ["ops", *vector["in"].split(), vector["bytes"]], vector.get("code")
-    number = f" {vector['detail']}" if "detail" in vector else ""
-    said = f"fault {variant_of(code)}{number}" if code else f"{vector['bytes']} {variant_of(vector['kind'])}"
-    return {"name": vector["bytes"], "words": words, "input": "", "output": f"0 {said}\n", "status": int(bool(code))}
-
-
-def rows_of(file):
-    """The rows of a file."""
-    rows = json.loads(file.read_text(encoding="utf-8"))
-    return rows if file.parent == ROWS else [listing_of(vector) for vector in rows]
+    digits, code = vector["bytes"], vector.get("code")
+    parts = (code or vector["kind"]).split("_")
+    name = "".join(part if part in ("TLS", "CFA") else part.capitalize() for part in parts)
+    said = f"fault {name} {vector.get('detail', '')}".rstrip() if code else f"{digits} {name}"
+    words = ["ops", *vector["in"].split(), digits]
+    return {"name": digits, "words": words, "input": "", "output": f"0 {said}\n", "status": int(bool(code))}
 
 
 def bytes_of(text):
@@ -66,49 +59,40 @@ def ends_of(row):
         ends["input"] = bytes_of(row["input"])
     else:
         ends["stdin"] = os.open("/", os.O_RDONLY) if row["input_from"] == "directory" else os.pipe()[0]
-    if row.get("output_to") == "full":
-        ends["stdout"] = os.open("/dev/full", os.O_WRONLY)
-    if row.get("output_to") == "closed":
-        reader, ends["stdout"] = os.pipe()
-        os.close(reader)
+    if "output_to" in row:
+        ends["stdout"] = os.open(row["output_to"], os.O_WRONLY)
     if "megabytes" in row:
         limits = [row["megabytes"] << 20] * 2
         ends["preexec_fn"] = lambda: resource.setrlimit(resource.RLIMIT_AS, limits)
     return ends
 
 
-def run(row):
+def is_wanted(row, field, printed):
+    if f"{field}_pattern" in row:
+        return re.fullmatch(row[f"{field}_pattern"].encode("utf-8"), printed, re.DOTALL)
+    return field not in row or printed == bytes_of(row[field])
+
+
+def run(group, row):
     program = str(TOP / row["by"] if "by" in row else PROGRAM)
     words = [bytes_of(row.get("program", program)), *map(bytes_of, row["words"])]
-    # Python ignores SIGPIPE, and so does the program then: it has to see that its write failed.
-    return subprocess.run(words, executable=program, timeout=SECONDS, restore_signals=False, **ends_of(row))
-
-
-def complaints_of(row):
-    """What is wrong with the program's answer to a row: nothing, if it passes."""
+    name = f"{group}: {row['name']}"
     try:
-        ran = run(row)
-    except subprocess.TimeoutExpired:
-        return [f"it took more than {SECONDS} seconds"]
-    complaints = []
-    for field, printed in (("output", ran.stdout or b""), ("error", ran.stderr)):
-        wanted = row.get(f"{field}_pattern", row.get(field, printed))
-        if f"{field}_pattern" in row:
-            good = re.fullmatch(wanted.encode("utf-8"), printed, re.DOTALL)
-        else:
-            good = printed == (wanted if isinstance(wanted, bytes) else bytes_of(wanted))
-        if not good:
-            complaints.append(f"as its {field} it printed {printed[-200:]!r}, and {str(wanted)[-200:]} is wanted")
-    if ran.returncode != row["status"]:
-        complaints.append(f"it ended with status {ran.returncode}, and {row['status']} is wanted: {ran.stderr!r}")
-    return complaints
+        ran = subprocess.run(words, executable=program, timeout=60, **ends_of(row))
+    except subprocess.TimeoutExpired as error:
+        checks.expect(False, name, error)
+        return
+    output = ran.stdout or b""
+    good = is_wanted(row, "output", output) and is_wanted(row, "error", ran.stderr) and ran.returncode == row["status"]
+    checks.expect(good, name, f"{output[-200:]} {ran.stderr[-200:]}, status {ran.returncode}")
 
 
 def main():
-    for file in [*sorted(ROWS.glob("[!.]*.json")), TOP / "tests/vectors/decode.json"]:
-        for row in rows_of(file):
-            complaints = complaints_of(row)
-            expect(not complaints, f"{file.stem}: {row['name']}", "\n".join(complaints))
+    for file in sorted((TOP / "tests/rows").glob("[!.]*.json")):
+        for row in rows_in(file):
+            run(file.stem, row)
+    for vector in rows_in("vectors/decode.json"):
+        run("decode", listing_of(vector))
 
 
 if __name__ == "__main__":

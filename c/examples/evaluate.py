@@ -1,12 +1,11 @@
 #!/usr/bin/env python3
-"""Decodes and evaluates DW_OP_fbreg -16 in a frame whose base is 0x3000, by the shared library named by the word."""
+"""Evaluates DW_OP_fbreg -16 in a frame whose base is 0x3000, by the shared library named by the word."""
 
 import ctypes
 import sys
 from ctypes import POINTER, byref, c_char_p, c_int64, c_size_t, c_uint8, c_uint16, c_uint32, c_uint64, c_void_p
 
-OK, FRAME_OFFSET = 0, 33
-COMPLETE, WANTS_FRAME_BASE, ANSWER_FRAME_BASE, AT_ADDRESS = 1, 4, 5, 3
+OK, COMPLETE, WANTS_FRAME_BASE, ANSWER_FRAME_BASE, AT_ADDRESS = 0, 1, 4, 5, 3
 
 
 def struct(**fields):
@@ -22,10 +21,6 @@ Settings = struct(
 )  # fmt: skip
 Answer = struct(kind__value_type=c_uint32, number=c_uint64, text=c_size_t)
 Evaluation = struct(memory=c_void_p)
-Operation = struct(
-    offset__size=c_size_t, opcode__kind=c_uint32, number=c_uint64, signed_number=c_int64, base_type=c_uint64,
-    register_number__deref_size__flag__fault=c_uint32, block_offset__block_length=c_size_t, detail=c_uint64,
-)  # fmt: skip
 Outcome = struct(
     code__request=c_uint32, detail__number__base_type__space=c_uint64,
     register_number__size__flag__value_type=c_uint32, value=c_uint64,
@@ -39,23 +34,18 @@ Piece = struct(
 
 def main():
     library = ctypes.CDLL(sys.argv[1])
-    library.dwexpr_decode.argtypes = [c_char_p, c_size_t, Encoding, c_size_t, POINTER(Operation)]
     library.dwexpr_evaluation_size.restype = c_size_t
     written = [POINTER(Outcome), c_void_p, c_size_t]
     call = [POINTER(Evaluation), c_void_p, c_size_t]
     library.dwexpr_evaluation_evaluate.argtypes = [*call, Encoding, POINTER(Settings), *written]
     library.dwexpr_evaluation_resume.argtypes = [*call, Answer, *written]
-    expression, encoding = bytes([0x91, 0x70]), Encoding(8, 4, 0, 5)
-    operation, outcome, pieces = Operation(), Outcome(), (Piece * 1)()
-    code = library.dwexpr_decode(expression, len(expression), encoding, 0, byref(operation))
-    if code == OK and operation.kind == FRAME_OFFSET:
-        print(f"the frame base and {operation.signed_number}")
+    expression, outcome, pieces = bytes([0x91, 0x70]), Outcome(), (Piece * 1)()
     texts = (Text * 1)(Text(expression, len(expression)))
     memory = (c_uint64 * (library.dwexpr_evaluation_size() // 8 + 1))()
     evaluation, settings = Evaluation(ctypes.addressof(memory)), Settings(max_iterations=100)
     library.dwexpr_evaluation_begin(byref(evaluation))
     given, written = (byref(evaluation), texts, 1), (byref(outcome), pieces, 1)
-    code = library.dwexpr_evaluation_evaluate(*given, encoding, byref(settings), *written)
+    code = library.dwexpr_evaluation_evaluate(*given, Encoding(8, 4, 0, 5), byref(settings), *written)
     while code == OK and outcome.request == WANTS_FRAME_BASE:
         code = library.dwexpr_evaluation_resume(*given, Answer(ANSWER_FRAME_BASE, 0, 0x3000, 0), *written)
     if outcome.request != COMPLETE:

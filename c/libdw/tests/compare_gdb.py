@@ -27,7 +27,7 @@ MOST_BYTES = 4096
 
 
 def parts(value, place, size):
-    """The parts of a value that isn't in memory: where each begins in bits, its size, and its bits if they are known."""
+    """The parts of a value that isn't in memory: where each begins in bits, its size, and its bits or None."""
     kind = value.type.strip_typedefs()
     if kind.code == gdb.TYPE_CODE_ARRAY:
         for index in range(kind.range()[1] + 1):
@@ -143,7 +143,8 @@ OF_LEVEL = {("deep", "n"): lambda level: level, ("deep", "step"): lambda level: 
 
 
 def kind_of(level, function, name, size, theirs, text):
-    """What the two say of a variable, in words, or None. gdb also names those of an inlined function without a value."""
+    """What the two say of a variable, in words, or None if they differ. gdb also names those of an inlined function
+    that have no value."""
     everything = (1 << 8 * size) - 1
     ours, unknown = bits_of(text, size)
     bits, known, lost = (0, 0, everything) if isinstance(theirs, str) else theirs

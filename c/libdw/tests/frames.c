@@ -1,4 +1,5 @@
-/* The frames of a stopped program: how many there are, registers and values of callers, limits, and reads by two threads.
+/* The frames of a stopped program: how many there are, registers and values of callers, limits, places of members, and
+ * reads by two threads.
  *
  *     frames KIND PID    KIND says what is checked, and so which program it is: processes.cmake has it */
 #include <dwarf.h>

@@ -13,70 +13,55 @@ static uint8_t bytes[256], got[64], unknown[64], wanted[64];
 #define UNREADABLE DWEXPR_LIBDW_NOT_READABLE
 
 static const struct {
-    const char *name;
-    int big_endian;
-    const char *expression;
+    const char *name, *expression;
     unsigned bits;
-    const char *bytes, *unknown; /* the unknown bits; none if it is empty */
+    const char *bytes[2], *unknown[2]; /* in little and in big endian; no bits are unknown if it is NULL */
     uint32_t code;
 } rows[] = {
-    {"a register", 0, "50", 32, "88776655", "", 0},
-    {"a register", 1, "50", 32, "55667788", "", 0},
-    {"bits beyond a register", 0, "50 9d 08 d804", 8, "00", "ff", SMALL},
-    {"one bit of a register", 0, "50 9d 01 03", 1, "01", "", 0},
-    {"one bit of a register", 1, "50 9d 01 03", 1, "80", "", 0},
-    {"two registers", 0, "50 93 08 51 93 08", 128, "8877665544332211 00ffeeddccbbaa99", "", 0},
-    {"two registers", 1, "50 93 08 51 93 08", 128, "1122334455667788 99aabbccddeeff00", "", 0},
-    {"halves of registers", 0, "50 93 04 51 93 04", 64, "88776655 00ffeedd", "", 0},
-    {"halves of registers", 1, "50 93 04 51 93 04", 64, "55667788 ddeeff00", "", 0},
-    {"a wide register", 0, "61", 128, "000102030405060708090a0b0c0d0e0f", "", 0},
-    {"the front of a wide register", 0, "61", 32, "00010203", "", 0},
-    {"the end of a wide register", 1, "61", 32, "0c0d0e0f", "", 0},
-    {"a register that is too small", 0, "50", 72, "887766554433221100", "0000000000000000ff", SMALL},
-    {"a register that is too small", 1, "50", 72, "001122334455667788", "ff0000000000000000", SMALL},
-    {"an unknown register", 0, "52", 32, "00000000", "ffffffff", UNREADABLE},
-    {"a half that is optimized away", 0, "50 93 04 93 04", 64, "8877665500000000", "00000000ffffffff", AWAY},
-    {"a half that is optimized away", 1, "93 04 50 93 04", 64, "0000000055667788", "ffffffff00000000", AWAY},
-    {"no piece for the rest", 0, "50 93 02", 32, "88770000", "0000ffff", AWAY},
+    {"a register", "50", 32, {"88776655", "55667788"}, {NULL}, 0},
+    {"bits beyond a register", "50 9d 08 d804", 8, {"00"}, {"ff"}, SMALL},
+    {"one bit of a register", "50 9d 01 03", 1, {"01", "80"}, {NULL}, 0},
+    {"two registers", "50 93 08 51 93 08", 128,
+     {"8877665544332211 00ffeeddccbbaa99", "1122334455667788 99aabbccddeeff00"}, {NULL}, 0},
+    {"halves of registers", "50 93 04 51 93 04", 64, {"88776655 00ffeedd", "55667788 ddeeff00"}, {NULL}, 0},
+    {"a wide register", "61", 128, {"000102030405060708090a0b0c0d0e0f"}, {NULL}, 0},
+    {"the front of a wide register", "61", 32, {"00010203"}, {NULL}, 0},
+    {"the end of a wide register", "61", 32, {NULL, "0c0d0e0f"}, {NULL}, 0},
+    {"a register that is too small", "50", 72, {"887766554433221100", "001122334455667788"},
+     {"0000000000000000ff", "ff0000000000000000"}, SMALL},
+    {"an unknown register", "52", 32, {"00000000"}, {"ffffffff"}, UNREADABLE},
+    {"a half that is optimized away", "50 93 04 93 04", 64, {"8877665500000000"}, {"00000000ffffffff"}, AWAY},
+    {"a half that is optimized away", "93 04 50 93 04", 64, {NULL, "0000000055667788"},
+     {NULL, "ffffffff00000000"}, AWAY},
+    {"no piece for the rest", "50 93 02", 32, {"88770000"}, {"0000ffff"}, AWAY},
     /* the bits 1 to 3 of 88 are 100, and then come five ones */
-    {"bits of a register and a value", 0, "50 9d 03 01 4f 9f 9d 05 00", 8, "fc", "", 0},
-    {"bits of a register and a value", 1, "50 9d 03 01 4f 9f 9d 05 00", 8, "9f", "", 0},
-    {"bits that are optimized away", 0, "50 9d 03 01 9d 02 00 4f 9f 9d 03 00", 8, "e4", "18", AWAY},
-    {"bits that are optimized away", 1, "50 9d 03 01 9d 02 00 4f 9f 9d 03 00", 8, "87", "18", AWAY},
-    {"bits across bytes", 0, "50 9d 04 00 0c 00100000 93 02", 20, "081000", "", 0},
-    {"bits across bytes", 1, "50 9d 04 00 0c 00001000 93 02", 20, "800010", "", 0},
-    {"memory", 0, "0c 00100000", 24, "000102", "", 0},
-    {"memory", 1, "0c 00001000", 24, "000102", "", 0},
-    {"bits of memory", 0, "0c 05100000 9d 0c 04", 12, "6000", "", 0},
-    {"bits of memory", 1, "0c 00001005 9d 0c 04", 12, "5060", "", 0},
+    {"bits of a register and a value", "50 9d 03 01 4f 9f 9d 05 00", 8, {"fc", "9f"}, {NULL}, 0},
+    {"bits that are optimized away", "50 9d 03 01 9d 02 00 4f 9f 9d 03 00", 8, {"e4", "87"}, {"18", "18"}, AWAY},
+    {"bits across bytes", "50 9d 04 00 08 10 38 24 93 02", 20, {"081000", "800010"}, {NULL}, 0},
+    {"memory", "08 10 38 24", 24, {"000102", "000102"}, {NULL}, 0},
+    {"bits of memory", "08 10 38 24 23 05 9d 0c 04", 12, {"6000", "5060"}, {NULL}, 0},
     /* of 07 08 */
-    {"bits beyond the first byte", 0, "0c 05100000 9d 08 14", 8, "80", "", 0},
-    {"the last byte of memory", 0, "0c ff1f0000", 8, "ff", "", 0},
-    {"memory that ends", 0, "0c ff1f0000", 16, "ff00", "00ff", UNREADABLE},
-    {"memory that ends and begins", 0, "0c fe1f0000 93 04 0c fe0f0000 93 04", 64, "feff000000000001",
-     "0000ffffffff0000", UNREADABLE},
-    {"literal bytes", 0, "9e 04 aabbccdd", 32, "aabbccdd", "", 0},
-    {"literal bytes", 1, "9e 04 aabbccdd", 32, "aabbccdd", "", 0},
-    {"the front of literal bytes", 1, "9e 04 aabbccdd", 8, "aa", "", 0},
-    {"bits of literal bytes", 0, "9e 02 a50f 9d 04 04", 4, "0a", "", 0},
-    {"bits of literal bytes", 1, "9e 02 a50f 9d 04 04", 4, "50", "", 0},
-    {"literal bytes that are too few", 0, "9e 01 aa", 16, "aa00", "00ff", SMALL},
-    {"literal bytes that are too few", 1, "9e 01 aa", 16, "aa00", "00ff", SMALL},
-    {"a value", 0, "31 9f", 32, "01000000", "", 0},
-    {"a value", 1, "31 9f", 32, "00000001", "", 0},
-    {"the bits of a value from bit 4", 0, "08 a5 9f 9d 04 04", 4, "0a", "", 0},
-    {"the bits of a value from bit 4", 1, "08 a5 9f 9d 04 04", 4, "a0", "", 0},
-    {"a value that is too small", 0, "31 9f", 128, "01000000000000000000000000000000",
-     "0000000000000000ffffffffffffffff", SMALL},
-    {"a value that is too small", 1, "31 9f", 128, "00000000000000000000000000000001",
-     "ffffffffffffffff0000000000000000", SMALL},
-    {"bits of a value that end before those of the piece", 0, "08 a5 9f 9d 10 3c", 16, "0000", "f0ff", SMALL},
-    {"an implicit pointer", 0, "a0 10000000 02", 64, "0000000000000000", "ffffffffffffffff", POINTER},
-    {"a struct with an implicit pointer", 0, "50 93 02 a0 10000000 02 93 02", 32, "88770000", "0000ffff", POINTER},
-    {"the first unknown bit", 0, "93 02 a0 10000000 02 93 02", 32, "00000000", "ffffffff", AWAY},
-    {"an empty expression", 0, "", 8, "00", "ff", AWAY},
-    {"a fault", 0, "22", 8, "00", "ff", DWEXPR_NOT_ENOUGH_STACK_ITEMS},
-    {"an endless loop", 0, "2f fdff", 8, "00", "ff", DWEXPR_TOO_MANY_ITERATIONS},
+    {"bits beyond the first byte", "0c 05100000 9d 08 14", 8, {"80"}, {NULL}, 0},
+    {"the last byte of memory", "0c ff1f0000", 8, {"ff"}, {NULL}, 0},
+    {"memory that ends", "0c ff1f0000", 16, {"ff00"}, {"00ff"}, UNREADABLE},
+    {"memory that ends and begins", "0c fe1f0000 93 04 0c fe0f0000 93 04", 64, {"feff000000000001"},
+     {"0000ffffffff0000"}, UNREADABLE},
+    {"literal bytes", "9e 04 aabbccdd", 32, {"aabbccdd", "aabbccdd"}, {NULL}, 0},
+    {"the front of literal bytes", "9e 04 aabbccdd", 8, {NULL, "aa"}, {NULL}, 0},
+    {"bits of literal bytes", "9e 02 a50f 9d 04 04", 4, {"0a", "50"}, {NULL}, 0},
+    {"literal bytes that are too few", "9e 01 aa", 16, {"aa00", "aa00"}, {"00ff", "00ff"}, SMALL},
+    {"a value", "31 9f", 32, {"01000000", "00000001"}, {NULL}, 0},
+    {"the bits of a value from bit 4", "08 a5 9f 9d 04 04", 4, {"0a", "a0"}, {NULL}, 0},
+    {"a value that is too small", "31 9f", 128,
+     {"01000000000000000000000000000000", "00000000000000000000000000000001"},
+     {"0000000000000000ffffffffffffffff", "ffffffffffffffff0000000000000000"}, SMALL},
+    {"bits of a value that end before those of the piece", "08 a5 9f 9d 10 3c", 16, {"0000"}, {"f0ff"}, SMALL},
+    {"an implicit pointer", "a0 10000000 02", 64, {"0000000000000000"}, {"ffffffffffffffff"}, POINTER},
+    {"a struct with an implicit pointer", "50 93 02 a0 10000000 02 93 02", 32, {"88770000"}, {"0000ffff"}, POINTER},
+    {"the first unknown bit", "93 02 a0 10000000 02 93 02", 32, {"00000000"}, {"ffffffff"}, AWAY},
+    {"an empty expression", "", 8, {"00"}, {"ff"}, AWAY},
+    {"a fault", "22", 8, {"00"}, {"ff"}, DWEXPR_NOT_ENOUGH_STACK_ITEMS},
+    {"an endless loop", "2f fdff", 8, {"00"}, {"ff"}, DWEXPR_TOO_MANY_ITERATIONS},
 };
 
 /* Requests that nothing answers here. */
@@ -127,20 +112,21 @@ static int read_value(const char *name, dwexpr_libdw_frame *frame, const uint8_t
 static void check_values(void)
 {
     size_t i;
-    for (i = 0; i < COUNT(rows); i++) {
-        int big_endian = rows[i].big_endian;
-        const size_t length = bytes_of(rows[i].expression, bytes);
+    for (i = 0; i < 2 * COUNT(rows); i++) {
+        int order = i % 2;
+        const char *name = rows[i / 2].name, *said = rows[i / 2].bytes[order], *lost = rows[i / 2].unknown[order];
+        const size_t length = bytes_of(rows[i / 2].expression, bytes);
         uint32_t code;
-        const int is_there = read_value(rows[i].name, make_frame(&big_endian), bytes, length,
-                                        encoding_of(8, 4, 5, big_endian), rows[i].bits, &code);
-        check(code == rows[i].code, rows[i].name, dwexpr_libdw_code_name(code));
-        if (is_there) {
-            const size_t size = bytes_of(rows[i].bytes, wanted);
-            check(size == (rows[i].bits + 7) / 8 && !memcmp(got, wanted, size), rows[i].name, "bytes");
+        if (!said)
+            continue;
+        if (read_value(name, make_frame(&order), bytes, length, encoding_of(8, 4, 5, order), rows[i / 2].bits, &code)) {
+            const size_t size = bytes_of(said, wanted);
+            check(size == (rows[i / 2].bits + 7) / 8 && !memcmp(got, wanted, size), name, "bytes");
             memset(wanted, 0, sizeof wanted);
-            bytes_of(rows[i].unknown, wanted);
-            check(!memcmp(unknown, wanted, size), rows[i].name, "unknown bits");
+            bytes_of(lost ? lost : "", wanted);
+            check(!memcmp(unknown, wanted, size), name, "unknown bits");
         }
+        check(code == rows[i / 2].code, name, dwexpr_libdw_code_name(code));
     }
 }
 

@@ -157,7 +157,7 @@ def kind_of(level, function, name, size, theirs, text):
     if level > 0 and text in ("memory or a register can't be read", "unknown: a register"):
         # the compiler isn't GCC, which would say that the call keeps it
         return "in a register that a call may change, which gdb takes as unchanged"
-    if text == "unknown: thread-local storage" and "gcc" in PROGRAM and "split" in PROGRAM:
+    if text == "unknown: thread-local storage" and "split" in PROGRAM:
         return "in thread-local storage at an address, which GCC 12 writes for an offset in split debug information"
     if text == "unknown: an entry value" and function == "even":
         return "on entry of a function that calls itself by tail calls, where gdb takes what the first one was given"

@@ -131,7 +131,7 @@ def bits_of(text, size):
     everything = (1 << 8 * size) - 1
     if number := re.fullmatch(r"(-?\d+)(?: \(0x[0-9a-f]+\))?", text):
         return int(number[1]) & everything, 0
-    if not re.fullmatch(r"((\?\?|[0-9a-f]{2}(\?[0-9a-f]{2})?) )+", text) or len(text.split()) != size:
+    if not re.fullmatch(r"((\?\?|[0-9a-f]{2}(\?[0-9a-f]{2})?) )+", text):
         return 0, everything
     bytes_of = ["00?ff" if part == "??" else part if "?" in part else f"{part}?00" for part in text.split()]
     known, unknown = (bytes.fromhex("".join(part.split("?")[i] for part in bytes_of)) for i in (0, 1))
@@ -148,6 +148,8 @@ def kind_of(level, function, name, size, theirs, text):
     everything = (1 << 8 * size) - 1
     ours, unknown = bits_of(text, size)
     bits, known, lost = (0, 0, everything) if isinstance(theirs, str) else theirs
+    if re.fullmatch("([0-9a-f]{2} )+", text) and len(text.split()) != size:
+        return None
     if theirs == "no bytes":
         return "known here alone, as gdb's Python has no bytes of it"
     if not known and unknown == everything:

@@ -178,9 +178,9 @@ endif()
 
 if(CMAKE_C_FLAGS MATCHES "sanitize|coverage")
   foreach(program ${programs})
-    if(program MATCHES "pieces-.*-O2-")
+    if(program MATCHES "pieces-.*-O2-|signals|(registers|nested)-O2")
       add_test(NAME "libdw_hostile ${program}"
-        COMMAND test_libdw_hostile ${CMAKE_CURRENT_BINARY_DIR}/${program} 1 260)
+        COMMAND test_libdw_hostile ${CMAKE_CURRENT_BINARY_DIR}/${program} 1 130)
     endif()
   endforeach()
   if(dump)

@@ -3,23 +3,11 @@
  * notes have wrong bytes. It prints how many it read. It has to end, and the sanitizers must find nothing.
  *
  *     hostile FILE FIRST LAST    copies FILE to FILE.changed, changed as each number from FIRST to LAST says */
-#include "dwexpr_libdw.h"
-#include <dwarf.h>
 #include <fcntl.h>
 #include <gelf.h>
-#include <stdio.h>
-#include <stdlib.h>
-#include <string.h>
 #include <unistd.h>
 
-static unsigned long long state;
-
-static unsigned long long next_number(void)
-{
-    state ^= state << 13;
-    state ^= state >> 7;
-    return state ^= state << 17;
-}
+#include "walk.h"
 
 static int read_register(void *context, uint32_t number, uint8_t *bytes, size_t *size)
 {
@@ -49,7 +37,7 @@ static void read_variable(dwexpr_libdw_frame *frame, Dwarf_Die *variable)
     if (!code) {
         Dwarf_Die entry;
         values++;
-        whole += !dwexpr_libdw_read(frame, value, 1 + next_number() % (8 * sizeof bytes), bytes, unknown);
+        whole += !dwexpr_libdw_read(frame, value, 1 + any() % (8 * sizeof bytes), bytes, unknown);
         dwexpr_libdw_points_into(value, &value->pieces[0], &entry);
     }
     dwexpr_libdw_release(value);
@@ -87,10 +75,11 @@ static void read_rules(dwexpr_libdw_frame *frame)
     free(rules);
 }
 
-static void read_frame(dwexpr_libdw_frame *frame)
+static void read_frame(dwexpr_libdw_frame *frame, size_t index)
 {
     dwexpr_libdw_entry *entries;
     size_t count, i;
+    (void)index;
     dwexpr_libdw_variables(frame, &entries, &count);
     for (i = 0; i < count; i++)
         read_variable(frame, &entries[i].entry);
@@ -106,14 +95,14 @@ static GElf_Xword text_size;
 /* an address of code; the program is position-independent, and begins at 0 */
 static Dwarf_Addr next_address(Dwarf_Addr first)
 {
-    return first + text_address + next_number() % text_size;
+    return first + text_address + any() % text_size;
 }
 
 /* where a call on x86-64 returns to, mostly */
 static Dwarf_Addr next_return(Dwarf_Addr first)
 {
     Dwarf_Addr address = next_address(first);
-    while (content[text_offset + (address - first - text_address)] != 0xe8 && next_number() % 1000)
+    while (content[text_offset + (address - first - text_address)] != 0xe8 && any() % 1000)
         address = next_address(first);
     return address + 5;
 }
@@ -130,27 +119,9 @@ static void read_frames(Dwfl *dwfl, Dwarf_Addr first)
         source.caller = frames[i + 1];
         dwexpr_libdw_make_frame(&source, &frames[i]);
     }
-    read_frame(frames[0]);
+    read_frame(frames[0], 0);
     for (i = 0; i < 3; i++)
         dwexpr_libdw_free_frame(frames[i]);
-}
-
-static void read_core(const char *path)
-{
-    dwexpr_libdw_target *target;
-    const pid_t *threads;
-    size_t i, j;
-    if (dwexpr_libdw_open_core(path, NULL, &target))
-        return;
-    for (i = 0; i < dwexpr_libdw_threads(target, &threads); i++) {
-        dwexpr_libdw_stack *stack;
-        dwexpr_libdw_frame *frame;
-        dwexpr_libdw_unwind(target, threads[i], 256, &stack);
-        for (j = 0; (frame = dwexpr_libdw_frame_at(stack, j)) != NULL; j++)
-            read_frame(frame);
-        dwexpr_libdw_free_stack(stack);
-    }
-    dwexpr_libdw_close(target);
 }
 
 static void read_program(const char *path)
@@ -208,7 +179,7 @@ static size_t find_sections(const char *path, size_t places[][2], size_t most, i
 int main(int argc, char **argv)
 {
     static uint8_t changed[1 << 20];
-    size_t places[8][2], count, length, bytes = 0;
+    size_t places[8][2], count, length;
     unsigned long number, last;
     char path[4096];
     FILE *file;
@@ -224,24 +195,24 @@ int main(int argc, char **argv)
     snprintf(path, sizeof path, "%s.changed", argv[1]);
     for (number = strtoul(argv[2], NULL, 10); number <= last; number++) {
         unsigned changes, i;
-        state = 0x9e3779b97f4a7c15u * (number + 1);
+        made_up_state = 0x9e3779b97f4a7c15u * (number + 1);
         memcpy(changed, content, length);
-        changes = number ? 1 + (unsigned)(next_number() % 20) : 0;
+        changes = number ? 1 + (unsigned)(any() % 20) : 0;
         for (i = 0; i < changes; i++) {
-            const size_t *place = places[next_number() % count];
-            changed[place[0] + next_number() % place[1]] = (uint8_t)next_number();
+            const size_t *place = places[any() % count];
+            changed[place[0] + any() % place[1]] = (uint8_t)any();
         }
-        bytes += changes;
+        passed += (int)changes;
         file = fopen(path, "wb");
         fwrite(changed, 1, length, file);
         fclose(file);
         if (is_core)
-            read_core(path);
+            read_core(path, 256, read_frame);
         else
             read_program(path);
         remove(path);
     }
     printf("%zu variables, %zu with a value, %zu of them whole\n", variables, values, whole);
-    printf("%zu passed, 0 failed\n", bytes);
-    return 0;
+    check(variables > 0, argv[1], "it has variables");
+    return finish();
 }

@@ -12,7 +12,7 @@ __attribute__((noinline)) long library_last(long given, long other)
 {
     USE(given);
     USE(other);
-    __asm__ volatile("" : : : "rdi", "rsi", "rax", "rdx", "rcx", "memory");
+    FORGET;
     library_static += library_hidden;
     if (exchanged == 2)
         __asm__ volatile("ud2");

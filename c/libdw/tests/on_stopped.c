@@ -3,14 +3,13 @@
  *     on_stopped [--core FILE] [COMMAND..] -- PROGRAM WORD..
  *
  * A word PID of the command stands for the process's id. With --core the process ends by a signal then, and its core
- * dump becomes FILE. As under gdb, its addresses aren't randomized. It has no environment. */
+ * dump becomes FILE. */
 #define _GNU_SOURCE
 #include <glob.h>
 #include <signal.h>
 #include <stdio.h>
 #include <stdlib.h>
 #include <string.h>
-#include <sys/personality.h>
 #include <sys/prctl.h>
 #include <sys/ptrace.h>
 #include <sys/resource.h>
@@ -19,16 +18,14 @@
 
 static void be_traced(char **words)
 {
-    static char *no_environment[] = {NULL};
     struct rlimit limit;
     prctl(PR_SET_PDEATHSIG, SIGKILL);
-    personality(ADDR_NO_RANDOMIZE);
     getrlimit(RLIMIT_CORE, &limit);
     limit.rlim_cur = limit.rlim_max;
     setrlimit(RLIMIT_CORE, &limit);
     ptrace(PTRACE_TRACEME, 0, NULL, NULL);
     if (freopen("/dev/null", "w", stdout) && freopen("/dev/null", "w", stderr))
-        execve(words[0], words, no_environment);
+        execv(words[0], words);
     _exit(127);
 }
 

@@ -1,11 +1,9 @@
 /* Reads the variables of a core dump again and again, and each time another call of malloc fails. Values that are known
  * then are those that are known if no call fails. The library is built with the calls of refusing.h.
  *
- *     refused CORE STEP    refuses the first 400 calls, and then one in STEP */
-#include "check.h"
-#include "dwexpr_libdw.h"
+ *     refused CORE */
 #include "refusing.h"
-#include <dwarf.h>
+#include "walk.h"
 
 /* What is known of a variable in a frame, if no call is refused. */
 static struct known {
@@ -79,37 +77,17 @@ static void read_frame(dwexpr_libdw_frame *frame, size_t index)
     dwexpr_libdw_release(value);
 }
 
-static void read_core(const char *path)
-{
-    dwexpr_libdw_target *target;
-    dwexpr_libdw_stack *stack;
-    dwexpr_libdw_frame *frame;
-    const pid_t *threads;
-    size_t i;
-    const uint32_t code = dwexpr_libdw_open_core(path, NULL, &target);
-    without_memory += code == DWEXPR_LIBDW_NO_MEMORY;
-    if (code)
-        return;
-    dwexpr_libdw_threads(target, &threads);
-    without_memory += dwexpr_libdw_unwind(target, threads[0], 256, &stack) == DWEXPR_LIBDW_NO_MEMORY;
-    for (i = 0; i < 2 && (frame = dwexpr_libdw_frame_at(stack, i)) != NULL; i++)
-        read_frame(frame, i);
-    dwexpr_libdw_free_stack(stack);
-    dwexpr_libdw_close(target);
-}
-
 int main(int argc, char **argv)
 {
-    unsigned long all, step;
-    if (argc != 3)
+    unsigned long all;
+    if (argc != 2)
         return 2;
-    read_core(argv[1]);
+    without_memory += read_core(argv[1], 2, read_frame);
     all = calls;
-    step = strtoul(argv[2], NULL, 10);
     check(known_length > 5 && !without_memory, argv[1], "variables are known");
-    for (refused_call = 1; refused_call <= all; refused_call += refused_call < 400 ? 1 : step) {
+    for (refused_call = 1; refused_call <= all; refused_call++) {
         calls = 0;
-        read_core(argv[1]);
+        without_memory += read_core(argv[1], 2, read_frame);
     }
     check(!wrong, argv[1], "what is known is the same");
     check(without_memory > 50, argv[1], "memory is refused");

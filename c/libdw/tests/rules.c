@@ -6,64 +6,33 @@
 #include <string.h>
 #include <unistd.h>
 
-void rules(void);
+/* A function with directives on call frame information, which begins as the words of `start` say. */
+#define FUNCTION(name, start, directives) \
+    void name(void); \
+    __asm__(".globl " #name "\n.type " #name ", @function\n" #name ":\n.cfi_startproc " start "\n" directives \
+            "nop\nret\n.cfi_endproc\n.size " #name ", .-" #name "\n")
 
 /* The CFA is the word 8 bytes above rsp. Registers: 3 is at the CFA + 16, by an expression with a number of two bytes;
  * 12 has the value CFA * 2 - 1; 6 is at the CFA - 16; 14 has the value CFA - 8; 13 is in 15; 8 has the value 5, by an
  * expression that isn't a place; 9 has the value of rsp, by an operation that isn't in its shortest form; 10 is at the
  * CFA. */
-__asm__(".text\n"
-        ".globl rules\n"
-        ".type rules, @function\n"
-        "rules:\n"
-        ".cfi_startproc\n"
-        ".cfi_escape 0x0f, 0x04, 0x77, 0x88, 0x00, 0x06\n"
-        ".cfi_escape 0x10, 0x03, 0x04, 0x23, 0x90, 0x00, 0x96\n"
-        ".cfi_escape 0x16, 0x0c, 0x06, 0x12, 0x22, 0x11, 0x7f, 0x22, 0x96\n"
-        ".cfi_offset 6, -16\n"
-        ".cfi_val_offset 14, -8\n"
-        ".cfi_register 13, 15\n"
-        ".cfi_escape 0x10, 0x01, 0x04, 0x93, 0x04, 0x93, 0x04\n"
-        ".cfi_escape 0x16, 0x08, 0x02, 0x35, 0x9f\n"
-        ".cfi_escape 0x16, 0x09, 0x04, 0x92, 0x87, 0x00, 0x00\n"
-        ".cfi_offset 10, 0\n"
-        ".cfi_undefined 2\n"
-        ".cfi_same_value 5\n"
-        "nop\n"
-        "ret\n"
-        ".cfi_endproc\n"
-        ".size rules, .-rules\n");
-
-/* A function without a CFA, and one whose CFA isn't an expression. */
-void without_cfa(void), bad_cfa(void);
-__asm__(".globl without_cfa\n"
-        ".type without_cfa, @function\n"
-        "without_cfa:\n"
-        ".cfi_startproc simple\n"
-        "nop\n"
-        "ret\n"
-        ".cfi_endproc\n"
-        ".size without_cfa, .-without_cfa\n"
-        ".globl bad_cfa\n"
-        ".type bad_cfa, @function\n"
-        "bad_cfa:\n"
-        ".cfi_startproc\n"
-        ".cfi_escape 0x0f, 0x01, 0x00\n"
-        "nop\n"
-        "ret\n"
-        ".cfi_endproc\n"
-        ".size bad_cfa, .-bad_cfa\n");
-
-/* A function without a rule. */
-void plain(void);
-__asm__(".globl plain\n"
-        ".type plain, @function\n"
-        "plain:\n"
-        ".cfi_startproc\n"
-        "nop\n"
-        "ret\n"
-        ".cfi_endproc\n"
-        ".size plain, .-plain\n");
+__asm__(".text\n");
+FUNCTION(rules, "",
+         ".cfi_escape 0x0f, 0x04, 0x77, 0x88, 0x00, 0x06\n"
+         ".cfi_escape 0x10, 0x03, 0x04, 0x23, 0x90, 0x00, 0x96\n"
+         ".cfi_escape 0x16, 0x0c, 0x06, 0x12, 0x22, 0x11, 0x7f, 0x22, 0x96\n"
+         ".cfi_offset 6, -16\n"
+         ".cfi_val_offset 14, -8\n"
+         ".cfi_register 13, 15\n"
+         ".cfi_escape 0x10, 0x01, 0x04, 0x93, 0x04, 0x93, 0x04\n"
+         ".cfi_escape 0x16, 0x08, 0x02, 0x35, 0x9f\n"
+         ".cfi_escape 0x16, 0x09, 0x04, 0x92, 0x87, 0x00, 0x00\n"
+         ".cfi_offset 10, 0\n"
+         ".cfi_undefined 2\n"
+         ".cfi_same_value 5\n");
+FUNCTION(without_cfa, "simple", "");
+FUNCTION(bad_cfa, "", ".cfi_escape 0x0f, 0x01, 0x00\n");
+FUNCTION(plain, "", "");
 
 static const struct {
     int number; /* -1 for the CFA */
@@ -84,8 +53,6 @@ static const struct {
     {9, "", 1, 1, DWEXPR_LIBDW_NOT_ENCODABLE, 0, 0},
     {10, "23 00", 1, 0, 0, DWEXPR_AT_ADDRESS, 0x5000},
     {-2, "", 0, 0, DWEXPR_LIBDW_FAILED, 0, 0},
-    /* no rule names rax, which a call may change */
-    {0, "", 0, 0, DWEXPR_LIBDW_OPTIMIZED_AWAY, 0, 0},
 };
 
 /* register 7 has 0x1000, and memory at 0x1008 has 0x5000 */
@@ -121,22 +88,14 @@ static Dwarf_Frame *rules_at(Dwfl *dwfl, void (*function)(void), Elf **elf)
     return state;
 }
 
-/* What the ABI says of registers that no rule names: a call keeps rbx, and may change rax. */
-static void check_plain(Dwfl *dwfl)
+/* What the rule of a register is in a function's state. */
+static void check_rule(Dwfl *dwfl, void (*function)(void), int number, uint32_t wanted, const char *name)
 {
     Elf *elf;
-    Dwarf_Frame *state = rules_at(dwfl, plain, &elf);
+    Dwarf_Frame *state = rules_at(dwfl, function, &elf);
     dwexpr_libdw_text text;
-    check(state != NULL, "no rules", "a state");
-    check(dwexpr_libdw_rule(state, elf, 3, &text) == DWEXPR_LIBDW_SAME_VALUE, "rbx", "it is kept");
-    check(dwexpr_libdw_rule(state, elf, 0, &text) == DWEXPR_LIBDW_OPTIMIZED_AWAY, "rax", "it isn't");
-    check(dwexpr_libdw_rule(state, NULL, 0, &text) == DWEXPR_LIBDW_FAILED, "rax", "no file");
-    free(state);
-    state = rules_at(dwfl, without_cfa, &elf);
-    check(state && dwexpr_libdw_rule(state, elf, DWEXPR_LIBDW_CFA, &text) == DWEXPR_LIBDW_FAILED, "no CFA", "none");
-    free(state);
-    state = rules_at(dwfl, bad_cfa, &elf);
-    check(state && dwexpr_libdw_rule(state, elf, DWEXPR_LIBDW_CFA, &text) == DWEXPR_LIBDW_FAILED, "a bad CFA", "none");
+    check(state && dwexpr_libdw_rule(state, elf, number, &text) == wanted, name, "its rule");
+    check(state && dwexpr_libdw_rule(state, NULL, 0, &text) == DWEXPR_LIBDW_FAILED, name, "no file");
     free(state);
 }
 
@@ -187,7 +146,11 @@ int main(void)
     check(!dwexpr_libdw_evaluate(frame, &text, NULL, NULL, &value) && value->pieces[0].number == 0x5000, "the CFA",
           "its value");
     dwexpr_libdw_release(value);
-    check_plain(dwfl);
+    /* what the ABI says of registers that no rule names: a call keeps rbx, and may change rax */
+    check_rule(dwfl, plain, 3, DWEXPR_LIBDW_SAME_VALUE, "rbx");
+    check_rule(dwfl, plain, 0, DWEXPR_LIBDW_OPTIMIZED_AWAY, "rax");
+    check_rule(dwfl, without_cfa, DWEXPR_LIBDW_CFA, DWEXPR_LIBDW_FAILED, "no CFA");
+    check_rule(dwfl, bad_cfa, DWEXPR_LIBDW_CFA, DWEXPR_LIBDW_FAILED, "a bad CFA");
     free(state);
     dwexpr_libdw_free_frame(frame);
     dwfl_end(dwfl);

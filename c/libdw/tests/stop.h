@@ -8,5 +8,7 @@
 static volatile int at;
 #define STOP(k) do { if (at == (k)) __asm__ volatile("ud2" : : : "memory"); } while (0)
 #define USE(x) __asm__ volatile("" : : "g"(x) : "memory")
+/* After this no register has a parameter any more. */
+#define FORGET __asm__ volatile("" : : : "rdi", "rsi", "rax", "rdx", "rcx", "memory")
 
 #endif

@@ -13,85 +13,75 @@ static uint8_t bytes[256], got[64], unknown[64], wanted[64];
 #define UNREADABLE DWEXPR_LIBDW_NOT_READABLE
 
 static const struct {
-    const char *name;
-    int big_endian;
-    const char *expression;
+    const char *name, *expression;
     unsigned bits;
-    const char *bytes, *unknown;
+    const char *bytes[2], *unknown[2]; /* in little and in big endian; no bits are unknown if it is NULL */
     uint32_t code;
 } rows[] = {
-    {"a register", 0, "50", 32, "88776655", "00000000", 0},
-    {"a register", 1, "50", 32, "55667788", "00000000", 0},
-    {"bits beyond a register", 0, "50 9d 08 d804", 8, "00", "ff", SMALL},
-    {"one bit of a register", 0, "50 9d 01 03", 1, "01", "00", 0},
-    {"one bit of a register", 1, "50 9d 01 03", 1, "80", "00", 0},
-    {"two registers", 0, "50 93 08 51 93 08", 128, "8877665544332211 00ffeeddccbbaa99",
-     "00000000000000000000000000000000", 0},
-    {"two registers", 1, "50 93 08 51 93 08", 128, "1122334455667788 99aabbccddeeff00",
-     "00000000000000000000000000000000", 0},
-    {"halves of registers", 0, "50 93 04 51 93 04", 64, "88776655 00ffeedd", "0000000000000000", 0},
-    {"halves of registers", 1, "50 93 04 51 93 04", 64, "55667788 ddeeff00", "0000000000000000", 0},
-    {"a wide register", 0, "61", 128, "000102030405060708090a0b0c0d0e0f", "00000000000000000000000000000000", 0},
-    {"the front of a wide register", 0, "61", 32, "00010203", "00000000", 0},
-    {"the end of a wide register", 1, "61", 32, "0c0d0e0f", "00000000", 0},
-    {"a register that is too small", 0, "50", 72, "887766554433221100", "0000000000000000ff", SMALL},
-    {"a register that is too small", 1, "50", 72, "001122334455667788", "ff0000000000000000", SMALL},
-    {"an unknown register", 0, "52", 32, "00000000", "ffffffff", UNREADABLE},
-    {"a half that is optimized away", 0, "50 93 04 93 04", 64, "8877665500000000", "00000000ffffffff", AWAY},
-    {"a half that is optimized away", 1, "93 04 50 93 04", 64, "0000000055667788", "ffffffff00000000", AWAY},
-    {"no piece for the rest", 0, "50 93 02", 32, "88770000", "0000ffff", AWAY},
+    {"a register", "50", 32, {"88776655", "55667788"}, {NULL}, 0},
+    {"bits beyond a register", "50 9d 08 d804", 8, {"00"}, {"ff"}, SMALL},
+    {"one bit of a register", "50 9d 01 03", 1, {"01", "80"}, {NULL}, 0},
+    {"two registers", "50 93 08 51 93 08", 128,
+     {"8877665544332211 00ffeeddccbbaa99", "1122334455667788 99aabbccddeeff00"}, {NULL}, 0},
+    {"halves of registers", "50 93 04 51 93 04", 64, {"88776655 00ffeedd", "55667788 ddeeff00"}, {NULL}, 0},
+    {"a wide register", "61", 128, {"000102030405060708090a0b0c0d0e0f"}, {NULL}, 0},
+    {"the front of a wide register", "61", 32, {"00010203"}, {NULL}, 0},
+    {"the end of a wide register", "61", 32, {NULL, "0c0d0e0f"}, {NULL}, 0},
+    {"a register that is too small", "50", 72, {"887766554433221100", "001122334455667788"},
+     {"0000000000000000ff", "ff0000000000000000"}, SMALL},
+    {"an unknown register", "52", 32, {"00000000"}, {"ffffffff"}, UNREADABLE},
+    {"a half that is optimized away", "50 93 04 93 04", 64, {"8877665500000000"}, {"00000000ffffffff"}, AWAY},
+    {"a half that is optimized away", "93 04 50 93 04", 64, {NULL, "0000000055667788"},
+     {NULL, "ffffffff00000000"}, AWAY},
+    {"no piece for the rest", "50 93 02", 32, {"88770000"}, {"0000ffff"}, AWAY},
     /* the bits 1 to 3 of 88 are 100, and then come five ones */
-    {"bits of a register and a value", 0, "50 9d 03 01 4f 9f 9d 05 00", 8, "fc", "00", 0},
-    {"bits of a register and a value", 1, "50 9d 03 01 4f 9f 9d 05 00", 8, "9f", "00", 0},
-    {"bits that are optimized away", 0, "50 9d 03 01 9d 02 00 4f 9f 9d 03 00", 8, "e4", "18", AWAY},
-    {"bits that are optimized away", 1, "50 9d 03 01 9d 02 00 4f 9f 9d 03 00", 8, "87", "18", AWAY},
-    {"bits across bytes", 0, "50 9d 04 00 0c 00100000 93 02", 20, "081000", "000000", 0},
-    {"bits across bytes", 1, "50 9d 04 00 0c 00001000 93 02", 20, "800010", "000000", 0},
-    {"memory", 0, "0c 00100000", 24, "000102", "000000", 0},
-    {"memory", 1, "0c 00001000", 24, "000102", "000000", 0},
-    {"bits of memory", 0, "0c 05100000 9d 0c 04", 12, "6000", "0000", 0},
-    {"bits of memory", 1, "0c 00001005 9d 0c 04", 12, "5060", "0000", 0},
+    {"bits of a register and a value", "50 9d 03 01 4f 9f 9d 05 00", 8, {"fc", "9f"}, {NULL}, 0},
+    {"bits that are optimized away", "50 9d 03 01 9d 02 00 4f 9f 9d 03 00", 8, {"e4", "87"}, {"18", "18"}, AWAY},
+    {"bits across bytes", "50 9d 04 00 08 10 38 24 93 02", 20, {"081000", "800010"}, {NULL}, 0},
+    {"memory", "08 10 38 24", 24, {"000102", "000102"}, {NULL}, 0},
+    {"bits of memory", "08 10 38 24 23 05 9d 0c 04", 12, {"6000", "5060"}, {NULL}, 0},
     /* of 07 08 */
-    {"bits beyond the first byte", 0, "0c 05100000 9d 08 14", 8, "80", "00", 0},
-    {"the last byte of memory", 0, "0c ff1f0000", 8, "ff", "00", 0},
-    {"memory that ends", 0, "0c ff1f0000", 16, "ff00", "00ff", UNREADABLE},
-    {"memory that ends and begins", 0, "0c fe1f0000 93 04 0c fe0f0000 93 04", 64, "feff000000000001",
-     "0000ffffffff0000", UNREADABLE},
-    {"literal bytes", 0, "9e 04 aabbccdd", 32, "aabbccdd", "00000000", 0},
-    {"literal bytes", 1, "9e 04 aabbccdd", 32, "aabbccdd", "00000000", 0},
-    {"the front of literal bytes", 1, "9e 04 aabbccdd", 8, "aa", "00", 0},
-    {"bits of literal bytes", 0, "9e 02 a50f 9d 04 04", 4, "0a", "00", 0},
-    {"bits of literal bytes", 1, "9e 02 a50f 9d 04 04", 4, "50", "00", 0},
-    {"literal bytes that are too few", 0, "9e 01 aa", 16, "aa00", "00ff", SMALL},
-    {"literal bytes that are too few", 1, "9e 01 aa", 16, "aa00", "00ff", SMALL},
-    {"a value", 0, "31 9f", 32, "01000000", "00000000", 0},
-    {"a value", 1, "31 9f", 32, "00000001", "00000000", 0},
-    {"the bits of a value from bit 4", 0, "08 a5 9f 9d 04 04", 4, "0a", "00", 0},
-    {"the bits of a value from bit 4", 1, "08 a5 9f 9d 04 04", 4, "a0", "00", 0},
-    {"a value that is too small", 0, "31 9f", 128, "01000000000000000000000000000000",
-     "0000000000000000ffffffffffffffff", SMALL},
-    {"a value that is too small", 1, "31 9f", 128, "00000000000000000000000000000001",
-     "ffffffffffffffff0000000000000000", SMALL},
-    {"bits of a value that end before those of the piece", 0, "08 a5 9f 9d 10 3c", 16, "0000", "f0ff", SMALL},
-    {"an implicit pointer", 0, "a0 10000000 02", 64, "0000000000000000", "ffffffffffffffff", POINTER},
-    {"a struct with an implicit pointer", 0, "50 93 02 a0 10000000 02 93 02", 32, "88770000", "0000ffff", POINTER},
-    {"the first unknown bit", 0, "93 02 a0 10000000 02 93 02", 32, "00000000", "ffffffff", AWAY},
-    {"an empty expression", 0, "", 8, "00", "ff", AWAY},
-    {"a fault", 0, "22", 8, "00", "ff", DWEXPR_NOT_ENOUGH_STACK_ITEMS},
-    {"an endless loop", 0, "2f fdff", 8, "00", "ff", DWEXPR_TOO_MANY_ITERATIONS},
-    {"no memory", 0, "08 10 06", 8, "00", "ff", DWEXPR_LIBDW_WANTS + DWEXPR_WANTS_MEMORY},
-    {"another address space", 0, "30 0a 0010 18", 8, "00", "ff", DWEXPR_LIBDW_WANTS + DWEXPR_WANTS_MEMORY},
-    {"no register", 0, "75 00", 8, "00", "ff", DWEXPR_LIBDW_WANTS + DWEXPR_WANTS_REGISTER},
-    {"no frame base", 0, "91 00", 8, "00", "ff", DWEXPR_LIBDW_WANTS + DWEXPR_WANTS_FRAME_BASE},
-    {"no thread-local storage", 0, "30 9b", 8, "00", "ff", DWEXPR_LIBDW_WANTS + DWEXPR_WANTS_TLS},
-    {"no CFA", 0, "9c", 8, "00", "ff", DWEXPR_LIBDW_WANTS + DWEXPR_WANTS_CFA},
-    {"no entry to call", 0, "99 00000000", 8, "00", "ff", DWEXPR_LIBDW_WANTS + DWEXPR_WANTS_LOCATION},
-    {"no caller", 0, "a3 01 50 9f", 8, "00", "ff", DWEXPR_LIBDW_WANTS + DWEXPR_WANTS_ENTRY_VALUE},
-    {"no caller that passes a parameter", 0, "fa 00000000", 8, "00", "ff", DWEXPR_LIBDW_WANTS + DWEXPR_WANTS_PARAMETER},
-    {"no .debug_addr", 0, "a1 00", 8, "00", "ff", DWEXPR_LIBDW_WANTS + DWEXPR_WANTS_INDEXED},
-    {"no base type", 0, "31 a8 05", 8, "00", "ff", DWEXPR_LIBDW_WANTS + DWEXPR_WANTS_BASE_TYPE},
-    {"no base type of a register", 0, "a5 00 05", 8, "00", "ff", DWEXPR_LIBDW_WANTS + DWEXPR_WANTS_BASE_TYPE},
-    {"no WebAssembly", 0, "ed 00 00", 8, "00", "ff", DWEXPR_LIBDW_WANTS + DWEXPR_WANTS_WASM_LOCAL},
+    {"bits beyond the first byte", "0c 05100000 9d 08 14", 8, {"80"}, {NULL}, 0},
+    {"the last byte of memory", "0c ff1f0000", 8, {"ff"}, {NULL}, 0},
+    {"memory that ends", "0c ff1f0000", 16, {"ff00"}, {"00ff"}, UNREADABLE},
+    {"memory that ends and begins", "0c fe1f0000 93 04 0c fe0f0000 93 04", 64, {"feff000000000001"},
+     {"0000ffffffff0000"}, UNREADABLE},
+    {"literal bytes", "9e 04 aabbccdd", 32, {"aabbccdd", "aabbccdd"}, {NULL}, 0},
+    {"the front of literal bytes", "9e 04 aabbccdd", 8, {NULL, "aa"}, {NULL}, 0},
+    {"bits of literal bytes", "9e 02 a50f 9d 04 04", 4, {"0a", "50"}, {NULL}, 0},
+    {"literal bytes that are too few", "9e 01 aa", 16, {"aa00", "aa00"}, {"00ff", "00ff"}, SMALL},
+    {"a value", "31 9f", 32, {"01000000", "00000001"}, {NULL}, 0},
+    {"the bits of a value from bit 4", "08 a5 9f 9d 04 04", 4, {"0a", "a0"}, {NULL}, 0},
+    {"a value that is too small", "31 9f", 128,
+     {"01000000000000000000000000000000", "00000000000000000000000000000001"},
+     {"0000000000000000ffffffffffffffff", "ffffffffffffffff0000000000000000"}, SMALL},
+    {"bits of a value that end before those of the piece", "08 a5 9f 9d 10 3c", 16, {"0000"}, {"f0ff"}, SMALL},
+    {"an implicit pointer", "a0 10000000 02", 64, {"0000000000000000"}, {"ffffffffffffffff"}, POINTER},
+    {"a struct with an implicit pointer", "50 93 02 a0 10000000 02 93 02", 32, {"88770000"}, {"0000ffff"}, POINTER},
+    {"the first unknown bit", "93 02 a0 10000000 02 93 02", 32, {"00000000"}, {"ffffffff"}, AWAY},
+    {"an empty expression", "", 8, {"00"}, {"ff"}, AWAY},
+    {"a fault", "22", 8, {"00"}, {"ff"}, DWEXPR_NOT_ENOUGH_STACK_ITEMS},
+    {"an endless loop", "2f fdff", 8, {"00"}, {"ff"}, DWEXPR_TOO_MANY_ITERATIONS},
+};
+
+/* Requests that nothing answers here. */
+static const struct {
+    const char *expression;
+    uint32_t request;
+} unanswered[] = {
+    {"08 10 06", DWEXPR_WANTS_MEMORY},
+    {"30 0a 0010 18", DWEXPR_WANTS_MEMORY},
+    {"75 00", DWEXPR_WANTS_REGISTER},
+    {"91 00", DWEXPR_WANTS_FRAME_BASE},
+    {"30 9b", DWEXPR_WANTS_TLS},
+    {"9c", DWEXPR_WANTS_CFA},
+    {"99 00000000", DWEXPR_WANTS_LOCATION},
+    {"a3 01 50 9f", DWEXPR_WANTS_ENTRY_VALUE},
+    {"fa 00000000", DWEXPR_WANTS_PARAMETER},
+    {"a1 00", DWEXPR_WANTS_INDEXED},
+    {"31 a8 05", DWEXPR_WANTS_BASE_TYPE},
+    {"a5 00 05", DWEXPR_WANTS_BASE_TYPE},
+    {"ed 00 00", DWEXPR_WANTS_WASM_LOCAL},
 };
 
 /* Evaluates an expression in a frame, which it frees, and reads bits of the value. Gives back whether there is a value,
@@ -122,19 +112,33 @@ static int read_value(const char *name, dwexpr_libdw_frame *frame, const uint8_t
 static void check_values(void)
 {
     size_t i;
-    for (i = 0; i < COUNT(rows); i++) {
-        int big_endian = rows[i].big_endian;
-        const size_t length = bytes_of(rows[i].expression, bytes);
+    for (i = 0; i < 2 * COUNT(rows); i++) {
+        int order = i % 2;
+        const char *name = rows[i / 2].name, *said = rows[i / 2].bytes[order], *lost = rows[i / 2].unknown[order];
+        const size_t length = bytes_of(rows[i / 2].expression, bytes);
         uint32_t code;
-        const int is_there = read_value(rows[i].name, make_frame(&big_endian), bytes, length,
-                                        encoding_of(8, 4, 5, big_endian), rows[i].bits, &code);
-        check(code == rows[i].code, rows[i].name, dwexpr_libdw_code_name(code));
-        if (is_there) {
-            const size_t size = bytes_of(rows[i].bytes, wanted);
-            check(size == (rows[i].bits + 7) / 8 && !memcmp(got, wanted, size), rows[i].name, "bytes");
-            bytes_of(rows[i].unknown, wanted);
-            check(!memcmp(unknown, wanted, size), rows[i].name, "unknown bits");
+        if (!said)
+            continue;
+        if (read_value(name, make_frame(&order), bytes, length, encoding_of(8, 4, 5, order), rows[i / 2].bits, &code)) {
+            const size_t size = bytes_of(said, wanted);
+            check(size == (rows[i / 2].bits + 7) / 8 && !memcmp(got, wanted, size), name, "bytes");
+            memset(wanted, 0, sizeof wanted);
+            bytes_of(lost ? lost : "", wanted);
+            check(!memcmp(unknown, wanted, size), name, "unknown bits");
         }
+        check(code == rows[i / 2].code, name, dwexpr_libdw_code_name(code));
+    }
+}
+
+static void check_unanswered(void)
+{
+    size_t i;
+    for (i = 0; i < COUNT(unanswered); i++) {
+        int big_endian = 0;
+        const size_t length = bytes_of(unanswered[i].expression, bytes);
+        uint32_t code;
+        read_value("a request", make_frame(&big_endian), bytes, length, LE8, 8, &code);
+        check(code == DWEXPR_LIBDW_WANTS + unanswered[i].request, "a request", unanswered[i].expression);
     }
 }
 
@@ -316,60 +320,59 @@ static const uint8_t block[] = {0x82, 0x00, 0xaa, 0xbb}, type_block[] = {0x01, 0
 
 static const struct {
     const char *name;
-    int address_size, offset_size, version, big_endian;
+    int address_size, big_endian;
     Dwarf_Op operations[3];
     size_t count;
     const char *bytes;
     size_t size; /* of all bytes, if that is given */
 } operations[] = {
-    {"no operation", 8, 4, 5, 0, {{0, 0, 0, 0}}, 0, "", 0},
-    {"an address of 1 byte", 1, 4, 4, 0, {{0x03, 0xfe, 0, 0}}, 1, "03 fe", 0},
-    {"an address of 2 bytes", 2, 4, 4, 0, {{0x03, 0xfedc, 0, 0}}, 1, "03 dcfe", 0},
-    {"an address of 2 bytes", 2, 4, 4, 1, {{0x03, 0xfedc, 0, 0}}, 1, "03 fedc", 0},
-    {"an address of 3 bytes", 3, 4, 4, 1, {{0x03, 0x123456, 0, 0}}, 1, "03 123456", 0},
-    {"an address that doesn't fit", 4, 4, 4, 0, {{0x03, 0x100000000, 0, 0}}, 1, BAD, 0},
-    {"an address of 0 bytes", 0, 4, 4, 0, {{0x03, 0, 0, 0}}, 1, BAD, 0},
-    {"an address of 9 bytes", 9, 4, 4, 0, {{0x03, 0, 0, 0}}, 1, BAD, 0},
-    {"a constant that doesn't fit", 8, 4, 5, 0, {{0x08, 256, 0, 0}}, 1, BAD, 0},
-    {"a negative constant without a sign", 8, 4, 5, 0, {{0x0a, UINT64_MAX, 0, 0}}, 1, BAD, 0},
-    {"a constant below the least", 8, 4, 5, 0, {{0x09, (Dwarf_Word)-129, 0, 0}}, 1, BAD, 0},
-    {"a constant above the most", 8, 4, 5, 0, {{0x09, 128, 0, 0}}, 1, BAD, 0},
-    {"an entry that doesn't fit", 8, 4, 5, 0, {{0x98, 0x10000, 0, 0}}, 1, BAD, 0},
-    {"an offset whose sign is unknown", 8, 4, 5, 0, {{0xa0, 1, 64, 0}}, 1, BAD, 0},
-    {"an offset of two bytes whose sign is unknown", 8, 4, 5, 0, {{0xa0, 1, 0x3f81, 0}}, 1, BAD, 0},
-    {"an offset of one byte whose size is known", 8, 4, 5, 0, {{0xa0, 1, 127, 0}}, 1, "a0 01000000 7f", 6},
-    {"an offset of two bytes whose size is known", 8, 4, 5, 0, {{0xa0, 1, 127, 0}}, 1, "a0 01000000 ff00", 7},
-    {"an offset of a size that it can't have", 8, 4, 5, 0, {{0xa0, 1, 300, 0}}, 1, BAD, 6},
-    {"a number of a longer form whose size is known", 8, 4, 5, 0, {{0x30, 0, 0, 0}, {0x10, 5, 0, 1}}, 2, "30 10 858000",
+    {"no operation", 8, 0, {{0, 0, 0, 0}}, 0, "", 0},
+    {"an address of 1 byte", 1, 0, {{0x03, 0xfe, 0, 0}}, 1, "03 fe", 0},
+    {"an address of 2 bytes", 2, 0, {{0x03, 0xfedc, 0, 0}}, 1, "03 dcfe", 0},
+    {"an address of 2 bytes", 2, 1, {{0x03, 0xfedc, 0, 0}}, 1, "03 fedc", 0},
+    {"an address of 3 bytes", 3, 1, {{0x03, 0x123456, 0, 0}}, 1, "03 123456", 0},
+    {"an address that doesn't fit", 4, 0, {{0x03, 0x100000000, 0, 0}}, 1, BAD, 0},
+    {"an address of 0 bytes", 0, 0, {{0x03, 0, 0, 0}}, 1, BAD, 0},
+    {"an address of 9 bytes", 9, 0, {{0x03, 0, 0, 0}}, 1, BAD, 0},
+    {"a constant that doesn't fit", 8, 0, {{0x08, 256, 0, 0}}, 1, BAD, 0},
+    {"a negative constant without a sign", 8, 0, {{0x0a, UINT64_MAX, 0, 0}}, 1, BAD, 0},
+    {"a constant below the least", 8, 0, {{0x09, (Dwarf_Word)-129, 0, 0}}, 1, BAD, 0},
+    {"a constant above the most", 8, 0, {{0x09, 128, 0, 0}}, 1, BAD, 0},
+    {"an entry that doesn't fit", 8, 0, {{0x98, 0x10000, 0, 0}}, 1, BAD, 0},
+    {"an offset whose sign is unknown", 8, 0, {{0xa0, 1, 64, 0}}, 1, BAD, 0},
+    {"an offset of two bytes whose sign is unknown", 8, 0, {{0xa0, 1, 0x3f81, 0}}, 1, BAD, 0},
+    {"an offset of one byte whose size is known", 8, 0, {{0xa0, 1, 127, 0}}, 1, "a0 01000000 7f", 6},
+    {"an offset of two bytes whose size is known", 8, 0, {{0xa0, 1, 127, 0}}, 1, "a0 01000000 ff00", 7},
+    {"an offset of a size that it can't have", 8, 0, {{0xa0, 1, 300, 0}}, 1, BAD, 6},
+    {"a number of a longer form whose size is known", 8, 0, {{0x30, 0, 0, 0}, {0x10, 5, 0, 1}}, 2, "30 10 858000",
      5},
-    {"a number of a size that it can't have", 8, 4, 5, 0, {{0x10, 300, 0, 0}}, 1, BAD, 2},
-    {"more bytes than it has", 8, 4, 5, 0, {{0x30, 0, 0, 0}}, 1, BAD, 2},
-    {"an offset with a sign", 8, 4, 5, 0, {{0xa0, 1, (Dwarf_Word)-1, 0}}, 1, "a0 01000000 7f", 0},
-    {"an offset with a sign and a size", 8, 4, 5, 0, {{0xa0, 1, (Dwarf_Word)-2, 0}}, 1, "a0 01000000 feff7f", 8},
-    {"an offset of ten bytes", 8, 4, 5, 0, {{0xa0, 1, (Dwarf_Word)-1, 0}}, 1, "a0 01000000 ffffffffffffffffff7f", 15},
-    {"an offset with a size", 8, 4, 5, 0, {{0xa0, 1, 64, 0}, {0x96, 0, 0, 7}}, 2, "a0 01000000 c000 96", 0},
-    {"an offset with a smaller size", 8, 4, 5, 0, {{0xa0, 1, 64, 0}, {0x96, 0, 0, 6}}, 2, "a0 01000000 40 96", 0},
-    {"a LEB128 number that is too long", 8, 4, 5, 0, {{0x10, 5, 0, 0}, {0x9f, 0, 0, 2000}}, 2, BAD, 0},
-    {"a LEB128 number that is too short", 8, 4, 5, 0, {{0x10, 128, 0, 0}, {0x9f, 0, 0, 2}}, 2, BAD, 0},
-    {"two LEB128 numbers, one of which is longer", 8, 4, 5, 0, {{0x92, 17, 5, 0}, {0x9f, 0, 0, 4}}, 2, BAD, 0},
-    {"a block", 8, 4, 5, 0, {{0x9e, 2, (uintptr_t)block, 0}, {0x9f, 0, 0, 5}}, 2, "9e 8200aabb 9f", 0},
-    {"no block", 8, 4, 5, 0, {{0x9e, 2, 0, 0}}, 1, BAD, 0},
-    {"a size that doesn't fit", 8, 4, 5, 0, {{0xa6, 256, 40, 0}}, 1, BAD, 0},
-    {"no block of a type", 8, 4, 5, 0, {{0xa4, 40, 0, 0}}, 1, BAD, 0},
-    {"an entry of another unit that doesn't fit", 8, 4, 5, 0, {{0xa0, 0x100000000, 1, 0}}, 1, BAD, 0},
-    {"a block of a type", 8, 4, 5, 0, {{0xa4, 40, (uintptr_t)type_block, 0}, {0x9f, 0, 0, 5}}, 2, "a4 a800 01cc 9f", 0},
-    {"an operation that begins elsewhere", 8, 4, 5, 0, {{0x30, 0, 0, 0}, {0x9f, 0, 0, 2}}, 2, BAD, 0},
-    {"offsets that count from another", 8, 4, 5, 0, {{0x30, 0, 0, 7}, {0x9f, 0, 0, 8}}, 2, "30 9f", 0},
-    {"an unknown opcode", 8, 4, 5, 0, {{0x01, 0, 0, 0}}, 1, BAD, 0},
-    {"the last opcode", 8, 4, 5, 0, {{0xff, 0, 0, 0}}, 1, BAD, 0},
+    {"a number of a size that it can't have", 8, 0, {{0x10, 300, 0, 0}}, 1, BAD, 2},
+    {"more bytes than it has", 8, 0, {{0x30, 0, 0, 0}}, 1, BAD, 2},
+    {"an offset with a sign", 8, 0, {{0xa0, 1, (Dwarf_Word)-1, 0}}, 1, "a0 01000000 7f", 0},
+    {"an offset with a sign and a size", 8, 0, {{0xa0, 1, (Dwarf_Word)-2, 0}}, 1, "a0 01000000 feff7f", 8},
+    {"an offset of ten bytes", 8, 0, {{0xa0, 1, (Dwarf_Word)-1, 0}}, 1, "a0 01000000 ffffffffffffffffff7f", 15},
+    {"an offset with a size", 8, 0, {{0xa0, 1, 64, 0}, {0x96, 0, 0, 7}}, 2, "a0 01000000 c000 96", 0},
+    {"an offset with a smaller size", 8, 0, {{0xa0, 1, 64, 0}, {0x96, 0, 0, 6}}, 2, "a0 01000000 40 96", 0},
+    {"a LEB128 number that is too long", 8, 0, {{0x10, 5, 0, 0}, {0x9f, 0, 0, 2000}}, 2, BAD, 0},
+    {"a LEB128 number that is too short", 8, 0, {{0x10, 128, 0, 0}, {0x9f, 0, 0, 2}}, 2, BAD, 0},
+    {"two LEB128 numbers, one of which is longer", 8, 0, {{0x92, 17, 5, 0}, {0x9f, 0, 0, 4}}, 2, BAD, 0},
+    {"a block", 8, 0, {{0x9e, 2, (uintptr_t)block, 0}, {0x9f, 0, 0, 5}}, 2, "9e 8200aabb 9f", 0},
+    {"no block", 8, 0, {{0x9e, 2, 0, 0}}, 1, BAD, 0},
+    {"a size that doesn't fit", 8, 0, {{0xa6, 256, 40, 0}}, 1, BAD, 0},
+    {"no block of a type", 8, 0, {{0xa4, 40, 0, 0}}, 1, BAD, 0},
+    {"an entry of another unit that doesn't fit", 8, 0, {{0xa0, 0x100000000, 1, 0}}, 1, BAD, 0},
+    {"a block of a type", 8, 0, {{0xa4, 40, (uintptr_t)type_block, 0}, {0x9f, 0, 0, 5}}, 2, "a4 a800 01cc 9f", 0},
+    {"an operation that begins elsewhere", 8, 0, {{0x30, 0, 0, 0}, {0x9f, 0, 0, 2}}, 2, BAD, 0},
+    {"offsets that count from another", 8, 0, {{0x30, 0, 0, 7}, {0x9f, 0, 0, 8}}, 2, "30 9f", 0},
+    {"an unknown opcode", 8, 0, {{0x01, 0, 0, 0}}, 1, BAD, 0},
+    {"the last opcode", 8, 0, {{0xff, 0, 0, 0}}, 1, BAD, 0},
 };
 
 static void check_operations(void)
 {
     size_t i, length, room;
     for (i = 0; i < COUNT(operations); i++) {
-        const dwexpr_encoding encoding = encoding_of(operations[i].address_size, operations[i].offset_size,
-                                                     operations[i].version, operations[i].big_endian);
+        const dwexpr_encoding encoding = encoding_of(operations[i].address_size, 4, 5, operations[i].big_endian);
         const Dwarf_Op *all = operations[i].operations;
         const size_t count = operations[i].count, size = operations[i].size;
         const uint32_t code = dwexpr_libdw_encode(all, count, size, encoding, got, sizeof got, &length);
@@ -392,6 +395,7 @@ int main(void)
 {
     uint32_t code;
     check_values();
+    check_unanswered();
     check_no_frame();
     check_long_memory();
     check_no_unit();

@@ -6,17 +6,11 @@ procedure Arrays is
    type Color is (Red, Green, Blue);
    for Color use (Red => 1, Green => 5, Blue => 9);
    type By_Color is array (Color) of Integer;
-   subtype Part is Color range Green .. Blue;
-   type By_Part is array (Part) of Short_Integer;
    type Small is range 0 .. 100;
    type Modular is mod 17;
    type Three is mod 8;
-   type Threes is array (0 .. 9) of Three;
-   pragma Pack (Threes);
    type Table is array (1 .. 3, 1 .. 5) of Three;
    pragma Pack (Table);
-   type Spaced is array (1 .. 4) of Short_Short_Integer;
-   for Spaced'Component_Size use 16;
    type Whole is record
       A : Natural;
       B : Small;
@@ -31,13 +25,10 @@ procedure Arrays is
    procedure Show (N : Natural) is
       Packed  : Bits := (1 | 3 | 20 => True, others => False);
       Colors  : By_Color := (1, 2, 3);
-      Parts   : By_Part := (7, 8);
       Number  : Small := 7;
       Wrapped : Modular := 9;
       Held    : Whole := (N, 3, 4, (2 => True, others => False), (4, 5, 6));
-      Many    : Threes := (others => 5);
       Square  : Table := (1 => (1, 2, 3, 4, 5), others => (others => 6));
-      Wide    : Spaced := (1, -2, 3, -4);
       One     : Color := Blue;
       Count   : Positive := 4;
 
@@ -57,12 +48,9 @@ procedure Arrays is
          Local := Held.A;
       end Inner;
    begin
-      Many (3) := 2;
       Packed (7) := True;
       Colors (Green) := 22;
-      Parts (Blue) := 88;
       Square (2, 2) := 1;
-      Wide (2) := 12;
       One := Green;
       Count := Count + N;
       Inner (N + 2);

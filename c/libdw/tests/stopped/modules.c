@@ -1,5 +1,6 @@
 /* Variables and functions of several modules: the library of ../library.c, and a second one that is opened.
- * Its argument says where it stops. */
+ * Its argument says where it stops.
+ * STOP(2) is in the library. */
 #include <dlfcn.h>
 
 #include "../stop.h"

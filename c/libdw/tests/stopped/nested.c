@@ -60,7 +60,7 @@ __attribute__((noinline)) static long parted(long given, long other)
     if (given == 70)
         abort();
     USE(other);
-    __asm__ volatile("" : : : "rdi", "rsi", "rax", "rdx", "rcx", "memory");
+    FORGET;
     STOP(7);
     return at;
 }

@@ -1,5 +1,5 @@
-/* The frames of a signal's handler, of the system's call that it interrupts, of tail calls, and of a function with two
- * names. Its argument says where it stops. */
+/* The frames of a signal's handler, of the system's call that it interrupts, and of tail calls. Its argument says where
+ * it stops. */
 #include <signal.h>
 #include <unistd.h>
 
@@ -40,7 +40,7 @@ __attribute__((noinline)) static long last(long given, long other)
 {
     USE(given);
     USE(other);
-    __asm__ volatile("" : : : "rdi", "rsi", "rax", "rdx", "rcx", "memory");
+    FORGET;
     STOP(3);
     return at;
 }
@@ -64,7 +64,7 @@ __attribute__((noinline)) static long even(long n, long sum)
     USE(n);
     if (n)
         return odd(n - 1, sum + 3);
-    __asm__ volatile("" : : : "rdi", "rsi", "rax", "rdx", "rcx", "memory");
+    FORGET;
     STOP(5);
     return at;
 }
@@ -73,74 +73,6 @@ __attribute__((noinline)) static long odd(long n, long sum)
 {
     USE(sum);
     return even(n - 1, sum + 5);
-}
-
-/* a function with two names, as in libc: the caller calls it by the other one */
-long implementation(long given);
-extern long interface(long given);
-__asm__(".globl interface\n.set interface, implementation\n");
-__attribute__((noinline)) long implementation(long given)
-{
-    USE(given);
-    __asm__ volatile("" : : : "rdi", "rsi", "rax", "rdx", "rcx", "memory");
-    STOP(6);
-    return at;
-}
-
-__attribute__((noinline)) static long by_name(long n)
-{
-    long result = interface(n * 7);
-    USE(result);
-    return result + n;
-}
-
-/* the same for a function that leaves by a tail call */
-__attribute__((noinline)) static long left_for(long given, long other)
-{
-    USE(given);
-    USE(other);
-    __asm__ volatile("" : : : "rdi", "rsi", "rax", "rdx", "rcx", "memory");
-    STOP(7);
-    return at;
-}
-
-/* and of one that leaves by one of two tail calls */
-__attribute__((noinline)) static long left_twice(long given)
-{
-    USE(given);
-    __asm__ volatile("" : : : "rdi", "rsi", "rax", "rdx", "rcx", "memory");
-    STOP(8);
-    return at;
-}
-
-__attribute__((noinline)) static long chooses(long given)
-{
-    if (at & 1)
-        return left_twice(given + 1);
-    USE(given);
-    return left_twice(given * 3);
-}
-
-__attribute__((noinline)) static long by_one_of_two(long n)
-{
-    long result = chooses(n + 30);
-    USE(result);
-    return result + n;
-}
-
-long leaves(long given);
-extern long goes(long given);
-__asm__(".globl goes\n.set goes, leaves\n");
-__attribute__((noinline)) long leaves(long given)
-{
-    return left_for(given + 4, given + 5);
-}
-
-__attribute__((noinline)) static long by_other_name(long n)
-{
-    long result = goes(n * 9);
-    USE(result);
-    return result + n;
 }
 
 /* a call may change rax, and the caller keeps nothing in it */
@@ -166,9 +98,6 @@ int main(int argc, char **argv)
     total += calls(argc);
     total += returns(total);
     total += even(4, argc);
-    total += by_name(argc);
-    total += by_other_name(argc);
-    total += by_one_of_two(argc);
     USE(total);
     return 0;
 }

@@ -1,4 +1,5 @@
---  A record whose size depends on components of its own, as the bounds of an array within it do.
+--  A record whose size depends on components of its own, as the bounds of an array within it do. It stops at one place:
+--  stop(1).
 procedure Variants is
    type Numbers is array (Integer range <>) of Integer;
    type Whole (First, Count : Integer) is record

@@ -1,4 +1,4 @@
-// Virtual bases, whose offsets in an object are in its vtable.
+// Virtual bases, whose offsets in an object are in its vtable. It stops at one place: STOP(1).
 struct shared {
     int common = 11;
 };

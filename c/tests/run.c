@@ -1,4 +1,4 @@
-/* What dwexpr_run and dwexpr_run_in do besides asking callbacks, which rows.c tests: the table of texts that a run fills,
+/* What dwexpr_run and dwexpr_run_in do besides asking callbacks, which made_up.c tests: the table of texts that a run fills,
  * the most operations, and runs within runs. */
 #include <time.h>
 

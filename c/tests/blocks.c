@@ -1,6 +1,6 @@
-/* Checks that each block of a request or a piece is shown where it was read, though the same bytes are elsewhere too: at
- * each place, in each text and after each branch up to 70,000, and then near each power of two. made_up.c has texts that
- * call each other. */
+/* Checks that each block of a request or a piece is shown where it was read, though the same bytes are elsewhere too:
+ * at each place, in each text and after each branch up to 70,000, and then near each power of two. made_up.c has texts
+ * that call each other. */
 #define _DEFAULT_SOURCE
 #include <sys/mman.h>
 

@@ -4,12 +4,12 @@
  *
  * A seed other than 0 makes up other cases. Arguments and results lie right before memory that can't be touched. One
  * evaluation is used for all expressions, and goes on after each answer; it has to write what a new evaluation writes
- * after all answers so far, and what dwexpr_run_in does with callbacks that give them. Each operation is within its text,
- * each block is where it was read, and an evaluation asks no more often than it may count operations.
+ * after all answers so far, and what dwexpr_run_in does with callbacks that give them. Each operation is within its
+ * text, each block is where it was read, and an evaluation asks no more often than it may count operations.
  *
- * With BESIDE, the new evaluation is one of another library: the proved archive, whose calls are named `proved_dwexpr_*`
- * then. Only here two libraries take texts that are lost, arguments that aren't allowed, and too little room for pieces:
- * the Rust crate, which tests/beside_archive compares with the archive, has none of these. */
+ * With BESIDE, the new evaluation is one of another library: the proved archive, whose calls are named
+ * `proved_dwexpr_*` then. Only here two libraries take texts that are lost, arguments that aren't allowed, and too
+ * little room for pieces: the Rust crate, which tests/beside_archive compares with the archive, has none of these. */
 #define _DEFAULT_SOURCE
 #include <sys/mman.h>
 
@@ -156,7 +156,8 @@ static int is_as_anew(uint32_t code, size_t count)
     const int is_same = evaluate_anew(count) == code && code == outcome->code && same_outcome(outcome, &other) &&
                         same_pieces(pieces, other_pieces, room);
     int is_right = outcome->request != DWEXPR_WANTS_ENTRY_VALUE ||
-                   is_block_of(DWEXPR_OP_ENTRY_VALUE, outcome->block_text, outcome->block_offset, outcome->block_length);
+                   is_block_of(DWEXPR_OP_ENTRY_VALUE, outcome->block_text, outcome->block_offset,
+                               outcome->block_length);
     codes[code % COUNT(codes)]++;
     requests[outcome->request % COUNT(requests)]++;
     for (size_t i = 0; i < outcome->pieces && i < room; i++) {
@@ -200,8 +201,8 @@ static void note(void)
     least_size = driven.request == DWEXPR_WANTS_MEMORY && driven.size < least_size ? driven.size : least_size;
 }
 
-/* Answers as before, and refuses then. A callback may write nothing in place of 0, no bytes, the address that was given,
- * and the generic type. */
+/* Answers as before, and refuses then. A callback may write nothing in place of 0, no bytes, the address that was
+ * given, and the generic type. */
 static int give(int is_right, uint64_t *number, uint32_t *value_type, dwexpr_text *text)
 {
     const dwexpr_answer answer = given < takes ? taken[given] : (dwexpr_answer){0, DWEXPR_U8, 99, 0};
@@ -283,8 +284,8 @@ static int is_same_block(dwexpr_text one, dwexpr_text two)
     return one.bytes == two.bytes && one.length == two.length;
 }
 
-/* Whether the call with callbacks leads to what the held evaluation led to. The callbacks give the answers that it took,
- * and refuse to answer a request that it has open. */
+/* Whether the call with callbacks leads to what the held evaluation led to. The callbacks give the answers that it
+ * took, and refuse to answer a request that it has open. */
 static int is_driven(void)
 {
     static uint64_t memory[DWEXPR_EVALUATION_SIZE / 8];

@@ -1,5 +1,5 @@
-/* The names of codes, requests, pieces and opcodes, and operations as lines: names DWEXPR.H FILE [DWARF.H]. The files have
- * the opcodes by name; libdw's dwarf.h has most. */
+/* The names of codes, requests, pieces and opcodes, and operations as lines: names DWEXPR.H FILE [DWARF.H]. The files
+ * have the opcodes by name; libdw's dwarf.h has most. */
 #include "dwexpr_names.h"
 #include "rows.h"
 

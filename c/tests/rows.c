@@ -289,8 +289,8 @@ static void try_row(void)
         free((void *)(uintptr_t)texts[--texts_length].bytes);
 }
 
-/* Reads a row that evaluates, whose words and steps are good, and that is about nothing else. Returns whether it is such
- * a row. */
+/* Reads a row that evaluates, whose words and steps are good, and that is about nothing else. Returns whether it is
+ * such a row. */
 static int read_row(const char *row)
 {
     static const char *const others[] = {"by", "program", "input_from", "output_to", "megabytes", "output_pattern"};
@@ -345,8 +345,8 @@ int main(int argc, char **argv)
     evaluation.memory = malloc(dwexpr_evaluation_size());
     outcome = malloc(sizeof *outcome);
     dwexpr_evaluation_begin(&evaluation);
-    check(dwexpr_evaluation_resume(&evaluation, NULL, 0, (dwexpr_answer){DWEXPR_ANSWER_CFA, 0, 0, 0}, outcome, NULL, 0) ==
-              DWEXPR_MISPLACED,
+    check(dwexpr_evaluation_resume(&evaluation, NULL, 0, (dwexpr_answer){DWEXPR_ANSWER_CFA, 0, 0, 0}, outcome, NULL,
+                                   0) == DWEXPR_MISPLACED,
           "an answer before the start", "the code");
     for (int i = 2; i < argc; i++)
         for (FILE *file = opened(argv[i]); fgets(row, sizeof row, file);)

@@ -1,5 +1,5 @@
-/* What dwexpr_run and dwexpr_run_in do besides asking callbacks, which made_up.c tests: the table of texts that a run fills,
- * the most operations, and runs within runs. */
+/* What dwexpr_run and dwexpr_run_in do besides asking callbacks, which made_up.c tests: the table of texts that a run
+ * fills, the most operations, and runs within runs. */
 #include <time.h>
 
 #include "check.h"
@@ -120,7 +120,8 @@ static void bounds(void)
         const size_t text = numbers[i % 7], offset = numbers[i / 7 % 7], length = numbers[i / 49];
         const dwexpr_outcome of_outcome = {.block_text = text, .block_offset = offset, .block_length = length};
         const dwexpr_piece of_piece = {.block_text = text, .block_offset = offset, .block_length = length};
-        const dwexpr_text got[] = {dwexpr_outcome_block(&of_outcome, table, 2), dwexpr_piece_block(&of_piece, table, 2)};
+        const dwexpr_text got[] = {dwexpr_outcome_block(&of_outcome, table, 2),
+                                   dwexpr_piece_block(&of_piece, table, 2)};
         const int is_there = text == 0 && length && offset <= 3 && length <= 3 - offset;
         for (size_t j = 0; j < COUNT(got); j++)
             check(got[j].bytes == (is_there ? bytes + offset : NULL) && got[j].length == (is_there ? length : 0),

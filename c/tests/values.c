@@ -1,5 +1,5 @@
-/* The calls on values give what evaluations give, whose results tests/rows/values.json has, and refuse all arguments that
- * aren't allowed. */
+/* The calls on values give what evaluations give, whose results tests/rows/values.json has, and refuse all arguments
+ * that aren't allowed. */
 #include "check.h"
 
 enum { ROUNDS = 20000, TYPES = DWEXPR_U64 + 1 };
@@ -96,7 +96,8 @@ static void operations(void)
             literal[3 + i] = (uint8_t)any();
         literal[3 + length] = 0x9f;
         code = evaluate(literal, 4 + (size_t)length, encoding, NULL, other, &wanted);
-        compare(dwexpr_value_parse(other, length ? literal + 3 : NULL, (size_t)length, encoding.big_endian, &got), code, wanted, "bytes");
+        compare(dwexpr_value_parse(other, length ? literal + 3 : NULL, (size_t)length, encoding.big_endian, &got),
+                code, wanted, "bytes");
     }
 }
 

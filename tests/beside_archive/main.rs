@@ -1,7 +1,7 @@
 //! Compares the Rust crate with the archive for C in one process, on made-up cases: `beside_archive COUNT`. Both say
 //! what they decode and evaluate in the lines of the program `dwexpr`, and say an operation's operands too.
 //!
-//! It prints the first difference. The last line is `N passed, M failed`, with a check that everything came up that can.
+//! It prints the first difference. The last line is `N passed, M failed`. One check is that all came up that can.
 
 mod archive;
 mod made_up;

@@ -22,6 +22,9 @@ NUMBERS = {
 REFERENCES = {gdb.TYPE_CODE_REF, gdb.TYPE_CODE_RVALUE_REF}
 # examples/where.c prints no more
 MOST_BYTES = 4096
+# In libc it has a system call's answer. The signals that stop and dump a process change it in a thread that waits in the
+# call.
+ANSWER = "sc_ret"
 
 # ---- what gdb says
 
@@ -70,7 +73,7 @@ def variables(frame, number):
     while block is not None and not block.is_global and not block.is_static:
         for symbol in block:
             is_number = symbol.is_constant and symbol.type.code != gdb.TYPE_CODE_ENUM
-            if symbol.is_variable or symbol.is_argument or is_number:
+            if symbol.name != ANSWER and (symbol.is_variable or symbol.is_argument or is_number):
                 size = symbol.type.strip_typedefs().sizeof
                 try:
                     # by its name in its block, gdb goes to the frame of that function

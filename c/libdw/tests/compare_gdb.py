@@ -188,6 +188,8 @@ with tempfile.TemporaryDirectory() as folder:
         core = pathlib.Path(folder, place)
         process = run(ON_STOPPED, "--core", core, WHERE, "--pid", "PID", "--", PROGRAM, *WORDS, place)
         if not core.exists():
+            print(f"there is no core dump at place {place}")
+            kinds[None] += 1
             continue
         dump = run(WHERE, "--core", core)
         gdb.execute(f"core-file {core}", to_string=True)

@@ -20,15 +20,15 @@ replied_by : (asked : Option Request) (on_answer : OnAnswer) → IsReplied (opti
 replied_by None on_answer = refl
 replied_by (Some request) on_answer = refl
 
-module _ {R O P : Type 0} (text : R → Text) (number : O → ℕ) (on_answer : OnAnswer) where
-  pub result_replied : (replied : EvaluationResult R O P) → IsReplied (ok_reply text number replied) (replied_status (request_in text number replied) on_answer)
+module _ {R O : Type 0} (text : R → Text) (number : O → ℕ) (on_answer : OnAnswer) where
+  pub result_replied : (replied : EvaluationResult R O) → IsReplied (ok_reply text number replied) (replied_status (request_in text number replied) on_answer)
   result_replied replied = replied_by (request_in text number replied) on_answer
 
-  pub result_ends : (replied : EvaluationResult R O P) → IsEndedBy (Ok replied) (replied_status (request_in text number replied) on_answer)
+  pub result_ends : (replied : EvaluationResult R O) → IsEndedBy (Ok replied) (replied_status (request_in text number replied) on_answer)
   result_ends result.Complete = refl
   result_ends _ = tt
 
-  pub result_admits : (replied : EvaluationResult R O P) → Admits replied (replied_status (request_in text number replied) on_answer)
+  pub result_admits : (replied : EvaluationResult R O) → Admits replied (replied_status (request_in text number replied) on_answer)
   result_admits result.Complete = tt
   result_admits _ = refl
 
@@ -39,7 +39,7 @@ waits_by kind None on_answer h = absurd h
 waits_by kind (Some request) on_answer h = tt
 
 -- a request is open unless a fault was met
-pub waits_unless : {R O P : Type 0} (text : R → Text) (number : O → ℕ) (on_answer : OnAnswer) (kind : WaitingKind) (held : EvaluationState R O P)
+pub waits_unless : {R O : Type 0} (text : R → Text) (number : O → ℕ) (on_answer : OnAnswer) (kind : WaitingKind) (held : EvaluationState R O)
     → IsOpenFor kind (status_of text number held on_answer) → ((error : Error) → held ≡ state.Failed error → ⊥) → IsWaiting (status_of text number held on_answer)
 waits_unless text number on_answer kind (state.Waiting request) h other = waits_by kind (request_in text number request) on_answer h
 waits_unless text number on_answer kind (state.Failed error) h other = absurd (other error refl)

@@ -17,9 +17,9 @@ use Rattle.dwarf_eval.specs.declared.op.results.EvaluationResult.TheVariants as 
 
 -- ---- replies
 
-module _ {R O P : Type 0} (text : R → Text) (number : O → ℕ) where
+module _ {R O : Type 0} (text : R → Text) (number : O → ℕ) where
   -- the request of a result, if it isn't completion
-  abbrev pub request_in : EvaluationResult R O P → Option Request
+  abbrev pub request_in : EvaluationResult R O → Option Request
   request_in result.Complete = None
   request_in (result.RequiresMemory address size space type) = Some (RequiresMemory address size space (number type.0))
   request_in (result.RequiresRegister register base_type) = Some (RequiresRegister register.0 (number base_type.0))
@@ -37,11 +37,11 @@ module _ {R O P : Type 0} (text : R → Text) (number : O → ℕ) where
   request_in (result.RequiresBaseType base_type) = Some (RequiresBaseType (number base_type.0))
 
   -- the reply of a result: its request, or completion
-  abbrev pub ok_reply : EvaluationResult R O P → Reply
+  abbrev pub ok_reply : EvaluationResult R O → Reply
   ok_reply replied = option_map_or RequestReply (request_in replied) CompleteReply
 
   -- the reply of a call: that of its result, or its fault
-  abbrev pub reply_of : Result (EvaluationResult R O P) Error → Reply
+  abbrev pub reply_of : Result (EvaluationResult R O) Error → Reply
   reply_of (Ok replied) = ok_reply replied
   reply_of (Err error) = FaultReply (fault_of error)
 
@@ -65,17 +65,17 @@ pub record Follows (old : State) (totals : Refusal → List Input → Total) (re
   pub kept : Keeps old new
   pub spends : Spends 0 old new
 
-module _ {R O P : Type 0} (text : R → Text) (number : O → ℕ) where
+module _ {R O : Type 0} (text : R → Text) (number : O → ℕ) where
   -- `evaluate`: at the start its reply is that of the meaning. After the end it replies the same again, and changes
   -- nothing. It isn't called while a request is open, and nothing runs between calls.
-  abbrev pub Evaluates : State → State → Result (EvaluationResult R O P) Error → Status → Type 0
+  abbrev pub Evaluates : State → State → Result (EvaluationResult R O) Error → Status → Type 0
   Evaluates old new replied (Start initial_value) = Follows old (total old) (reply_of text number replied) new
   Evaluates old new replied (CompleteStatus value) = (replied ≡ Ok result.Complete) × (new ≡ old)
   Evaluates old new replied (FaultStatus error) = (replied ≡ Err error) × (new ≡ old)
   Evaluates old new replied _ = ⊥
 
   -- a resume: it goes on with the input; after a fault it gives that fault, and changes nothing
-  abbrev pub Resumes : Input → State → State → Result (EvaluationResult R O P) Error → Status → Type 0
+  abbrev pub Resumes : Input → State → State → Result (EvaluationResult R O) Error → Status → Type 0
   Resumes input old new replied (RequestStatus request on_answer) =
       Follows old (total_after old input) (reply_of text number replied) new
   Resumes input old new replied (FaultStatus error) = (replied ≡ Err error) × (new ≡ old)

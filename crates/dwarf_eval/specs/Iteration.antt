@@ -12,11 +12,11 @@ use Rattle.dwarf_meaning.specs.Splitting.{items_at}
 use Rattle.dwarf_eval.specs.declared.op.expressions.OperationIter.{OperationIter}
 
 -- the bytes that are left
-abbrev pub unread_of : {R P : Type 0} → OperationIter R P → R
+abbrev pub unread_of : {R : Type 0} → OperationIter R → R
 unread_of iterator = iterator.input
 
 -- its encoding
-abbrev pub encoding_of : {R P : Type 0} → OperationIter R P → Encoding
+abbrev pub encoding_of : {R : Type 0} → OperationIter R → Encoding
 encoding_of iterator = iterator.encoding
 
 -- it returns the operation that is read, and leaves the bytes after it; at the end there is no operation, and after a
@@ -40,13 +40,13 @@ item_of view (Ok x) = Ok (view x)
 item_of view (Err e) = Err (fault_of e)
 
 -- the items that are left: those into which the bytes that are left split
-abbrev pub items_left : {R P : Type 0} → (R → Text) → (offset_bits : ℕ) → OperationIter R P
+abbrev pub items_left : {R : Type 0} → (R → Text) → (offset_bits : ℕ) → OperationIter R
     → List (Result meaning.Operation Fault)
 items_left text offset_bits iterator = items_at (encoding_of iterator) offset_bits (text (unread_of iterator))
 
 -- A step of an iterator: it returns the first item that is left, and moves past the bytes of that item.
-pub record GivesFirst {R P X : Type 0} (text : R → Text) (offset_bits : ℕ) (view : X → meaning.Operation)
-    (old : OperationIter R P) (given : Option (Result X Error)) (new : OperationIter R P) : Type 0 where
+pub record GivesFirst {R X : Type 0} (text : R → Text) (offset_bits : ℕ) (view : X → meaning.Operation)
+    (old : OperationIter R) (given : Option (Result X Error)) (new : OperationIter R) : Type 0 where
   pub items : YieldsFirstBy (item_of view) (items_left text offset_bits) old given new
   pub value : GivesNext view (option_transpose given) (text (unread_of new)).bytes (text (unread_of old)).bytes
       (operation_at (encoding_of old) offset_bits (text (unread_of old)))

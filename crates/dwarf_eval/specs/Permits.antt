@@ -45,13 +45,13 @@ AdmitsBy None s = IsComplete s
 AdmitsBy (Some request) s = IsOpenFor (kind_of_request request) s
 
 -- the precondition of the call that a result permits, whatever its texts and offsets are
-abbrev pub Admits : {R O P : Type 0} → EvaluationResult R O P → rest.Status → Type 0
+abbrev pub Admits : {R O : Type 0} → EvaluationResult R O → rest.Status → Type 0
 Admits replied s = AdmitsBy (request_in (λ reader. record { bytes = []; is_big = false }) (λ offset. 0) replied) s
 
 -- A resume with this answer goes on with it, or gives the fault that was met. Its reply permits the call that it names,
 -- and fewer resumes are left.
-pub record AnswersWith {R O P : Type 0} (text : R → Text) (number : O → ℕ) (answer : Answer) (old new : rest.State)
-    (replied : Result (EvaluationResult R O P) Error) : Type 0 where
+pub record AnswersWith {R O : Type 0} (text : R → Text) (number : O → ℕ) (answer : Answer) (old new : rest.State)
+    (replied : Result (EvaluationResult R O) Error) : Type 0 where
   pub follows : Resumes text number (input_of old answer) old new replied old.status
   pub admits : IfOk replied (λ reply. Admits reply new.status)
   pub fewer : IfOk replied (λ reply. calls_left new < calls_left old)

@@ -3,13 +3,8 @@ use Rattle.std.proofs.Common.{ℕ, suc, ◌≡◌, ◌≤◌, ◌↔◌, Bool, t
 use Rattle.std.specs.Bool.{Decides}
 use Rattle.std.proofs.lemmas.Bool.Decides.{Decides-and}
 use Rattle.std.specs.Cmp.{booleans_Decides, signed_Decides, unsigned_Decides}
-use Rattle.std.specs.declared.clone.Clone as clone
-use Rattle.std.specs.declared.cmp.Eq as eq
 use Rattle.std.specs.declared.cmp.PartialEq as partial_eq
-use Rattle.std.specs.declared.fmt.Debug as debug
 use Rattle.std.specs.Option.{option_eq}
-use Rattle.dwarf_base.specs.declared.offsets.ReaderOffset as reader_offset
-use Rattle.dwarf_base.specs.declared.reading.Reader as reader
 use Rattle.dwarf_base.specs.Equality.{IsEqualityOf}
 use Rattle.dwarf_base.specs.Reads.{Text}
 use Rattle.dwarf_meaning.specs.Operations as meaning
@@ -181,21 +176,18 @@ module _ (O : RattleType) (o : partial_eq.Ghosts O.Denot) (p : Dict)
       decided (numbers _ _) (λ h. cc) (λ h. cc)
 
 -- what the derived test takes
-module _ (R O P : RattleType)
-    (a : reader.Ghosts R.Denot P.Denot) (b : Dict) (e : reader_offset.Ghosts P.Denot) (f : Dict)
-    (h : debug.Ghosts P.Denot) (i : Dict)
-    (j : clone.Ghosts P.Denot) (k : Dict) (l : eq.Ghosts P.Denot) (m : Dict) (n : partial_eq.Ghosts P.Denot) (o : Dict)
+module _ (R O : RattleType)
     (are_readers_equal : partial_eq.Ghosts R.Denot) (p : Dict) (are_offsets_equal : partial_eq.Ghosts O.Denot) (q : Dict) where
-  abbrev are_operations_equal : Operation R.Denot O.Denot P.Denot → Operation R.Denot O.Denot P.Denot → Bool
-  are_operations_equal = (operations.ghosts R O P a b e f h i j k l m n o are_readers_equal p are_offsets_equal q).eq
+  abbrev are_operations_equal : Operation R.Denot O.Denot → Operation R.Denot O.Denot → Bool
+  are_operations_equal = (operations.ghosts R O are_readers_equal p are_offsets_equal q).eq
 
   module _ (text : R.Denot → Text) (number : O.Denot → ℕ)
       (texts : IsEqualityOf text are_readers_equal.eq) (numbers : IsEqualityOf number are_offsets_equal.eq) where
-    abbrev view : Choice (code.the_parts R O P) → meaning.Operation
-    view c = operation_of text number (code.the_make R O P c)
+    abbrev view : Choice (code.the_parts R O) → meaning.Operation
+    view c = operation_of text number (code.the_make R O c)
 
     -- in the order of `Operation`
-    unfoldable lines : Lines (code.the_parts R O P) view
+    unfoldable lines : Lines (code.the_parts R O) view
     lines =
         line (λ x y. decided (both (unsigned_Decides x.0 y.0) (both (numbers x.1.0.0 y.1.0.0) (booleans_Decides x.1.1.0 y.1.1.0))) (λ (h, (t, u)). cc) (λ h. (cc, (cc, cc))))
         ⊳ line (λ x y. decided (unsigned_Decides x.0 y.0) (λ h. cc) (λ h. cc))
@@ -225,16 +217,16 @@ module _ (R O P : RattleType)
         ⊳ line (λ x y. decided (numbers x.0.0 y.0.0) (λ h. cc) (λ h. cc))
         ⊳ tt
 
-    placed : Placed (code.the_parts R O P) view 0
+    placed : Placed (code.the_parts R O) view 0
     placed = assumption
 
-    seen : (x : Operation R.Denot O.Denot P.Denot) → view (code.as_values R O P x) ≡ operation_of text number x
-    seen x = ap (operation_of text number) (code.the_eta R O P x)
+    seen : (x : Operation R.Denot O.Denot) → view (code.as_values R O x) ≡ operation_of text number x
+    seen x = ap (operation_of text number) (code.the_eta R O x)
 
-    pub equal_operations : (x y : Operation R.Denot O.Denot P.Denot)
+    pub equal_operations : (x y : Operation R.Denot O.Denot)
         → IsTrue (are_operations_equal x y) ↔ (operation_of text number x ≡ operation_of text number y)
     unfolding lines
     equal_operations x y =
-        let equal : IsTrue (are_operations_equal x y) ↔ (view (code.as_values R O P x) ≡ view (code.as_values R O P y)) =
-        equal_choices (code.the_parts R O P) view 0 lines placed (code.as_values R O P x) (code.as_values R O P y) in
+        let equal : IsTrue (are_operations_equal x y) ↔ (view (code.as_values R O x) ≡ view (code.as_values R O y)) =
+        equal_choices (code.the_parts R O) view 0 lines placed (code.as_values R O x) (code.as_values R O y) in
         (λ passes. sym (seen x) ∙ (equal.0 passes ∙ seen y), λ e. equal.1 (seen x ∙ (e ∙ sym (seen y))))

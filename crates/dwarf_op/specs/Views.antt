@@ -18,9 +18,9 @@ abbrev pub reference_of : {O : Type 0} → (O → ℕ) → DieReference O → me
 reference_of number (reference.UnitRef offset) = meaning.UnitRef (number offset.0)
 reference_of number (reference.DebugInfoRef offset) = meaning.DebugInfoRef (number offset.0)
 
-module _ {R O P : Type 0} (text : R → Text) (number : O → ℕ) where
+module _ {R O : Type 0} (text : R → Text) (number : O → ℕ) where
   -- maps an operation in the code to the definitions
-  abbrev pub operation_of : Operation R O P → meaning.Operation
+  abbrev pub operation_of : Operation R O → meaning.Operation
   operation_of (operation.Deref size base_type space) = meaning.Deref (number base_type.0) size space
   operation_of operation.Drop = meaning.Drop
   operation_of (operation.Pick index) = meaning.Pick index
@@ -79,7 +79,7 @@ module _ {R O P : Type 0} (text : R → Text) (number : O → ℕ) where
   operation_of (operation.VariableValue offset) = meaning.VariableValue (number offset.0)
 
   -- maps a location in the code to the definitions
-  abbrev pub location_of : Location R O P → locations.Location
+  abbrev pub location_of : Location R O → locations.Location
   location_of location.Empty = locations.Empty
   location_of (location.Register register) = locations.InRegister register.0
   location_of (location.Address address) = locations.AtAddress address
@@ -88,7 +88,7 @@ module _ {R O P : Type 0} (text : R → Text) (number : O → ℕ) where
   location_of (location.ImplicitPointer value byte_offset) = locations.PointsInto (number value.0) byte_offset
 
   -- maps a piece in the code to the definitions
-  abbrev pub piece_of : Piece R O P → locations.Piece
+  abbrev pub piece_of : Piece R O → locations.Piece
   piece_of piece = record {
     size_in_bits = piece.size_in_bits;
     bit_offset = piece.bit_offset;

@@ -7,7 +7,7 @@ use dwarf_value::Value;
 
 /// Where a piece of a variable is, or what it contains (DWARF 5, section 2.6.1).
 #[derive(Clone, Copy, Debug, Default, PartialEq, Eq)]
-pub enum Location<R: Reader, O = <R as Reader>::Offset> {
+pub enum Location<R, O = <R as Reader>::Offset> {
     /// Nowhere: the piece was optimized away. `DW_OP_piece` gives it on an empty stack.
     #[default]
     Empty,
@@ -42,7 +42,7 @@ pub enum Location<R: Reader, O = <R as Reader>::Offset> {
 
 /// A part of a variable, or the whole variable if it has no size.
 #[derive(Clone, Copy, Debug, PartialEq, Eq)]
-pub struct Piece<R: Reader, O = <R as Reader>::Offset> {
+pub struct Piece<R, O = <R as Reader>::Offset> {
     /// Its size in bits. `None` if it is the only piece, and so the whole variable.
     pub size_in_bits: Option<u64>,
     /// The offset of its first bit in its location. In a register or a value, bits are counted from the least
@@ -53,7 +53,7 @@ pub struct Piece<R: Reader, O = <R as Reader>::Offset> {
     pub location: Location<R, O>,
 }
 
-impl<R: Reader, O> Default for Piece<R, O> {
+impl<R, O> Default for Piece<R, O> {
     fn default() -> Self
         ensures { result
             ≡ record { size_in_bits = None; bit_offset = None; location = Location.Empty } }
@@ -66,7 +66,7 @@ impl<R: Reader, O> Default for Piece<R, O> {
     }
 }
 
-impl<R: Reader, O> Location<R, O> {
+impl<R, O> Location<R, O> {
     /// Whether the piece is nowhere.
     pub fn is_empty(&self) -> bool
         ensures { IsTrue result ↔ (self.now ≡ Location.Empty) }

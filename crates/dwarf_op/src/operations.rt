@@ -19,7 +19,7 @@ pub enum DieReference<T = usize> {
 /// The base type at offset 0 is the generic type.
 #[derive(Copy, Debug, PartialEq, Eq)]
 #[repr(u8)]
-pub enum Operation<R: Reader, O = <R as Reader>::Offset> {
+pub enum Operation<R, O = <R as Reader>::Offset> {
     /// Pop an address and push the memory there: `DW_OP_deref`, `DW_OP_deref_size`, `DW_OP_deref_type` and, with an
     /// address space, `DW_OP_xderef`, `DW_OP_xderef_size`, `DW_OP_xderef_type`.
     Deref {
@@ -235,7 +235,7 @@ pub enum Operation<R: Reader, O = <R as Reader>::Offset> {
     },
 }
 
-impl<R: Reader + Copy, O: Copy> Clone for Operation<R, O> {
+impl<R: Copy, O: Copy> Clone for Operation<R, O> {
     // A clone is a copy. Cloning each field would take long to prove.
     ghost is_clone = { λ x y. y ≡ x };
 

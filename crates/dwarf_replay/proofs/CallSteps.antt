@@ -191,15 +191,15 @@ module _ (first : State) (steps : List Step) (given : List Reply) (x new : State
       ∙ ap (λ (i : Input). record { now = settings; first = w.log.first; inputs = w.log.inputs ++ i ∷ [] }) input_is)
       (called_replies first steps given (Resume answer) x new replied (total_after x input) h now (suc w.taken) w.settings w.started counted means_is (λ o. refl) r s))
 
-module _ {R O P : Type 0} (text : R → Text) (number : O → ℕ) (first : State) (steps : List Step) (given : List Reply) (x new : State) where
+module _ {R O : Type 0} (text : R → Text) (number : O → ℕ) (first : State) (steps : List Step) (given : List Reply) (x new : State) where
   -- it replied what it had replied, and changed nothing
-  stays_so : (all : List Step) (status : Status) → x.status ≡ status → (was result : Result (EvaluationResult R O P) Error) → (result ≡ was) × (new ≡ x) → WentBy first all (given ++ reply_of text number was ∷ []) x status → Went first all (given ++ reply_of text number result ∷ []) new
+  stays_so : (all : List Step) (status : Status) → x.status ≡ status → (was result : Result (EvaluationResult R O) Error) → (result ≡ was) × (new ≡ x) → WentBy first all (given ++ reply_of text number was ∷ []) x status → Went first all (given ++ reply_of text number result ∷ []) new
   stays_so all status e was result h w =
       subst (Went first all (given ++ reply_of text number result ∷ [])) (sym h.1)
-      (subst (λ (t : Result (EvaluationResult R O P) Error). Went first all (given ++ reply_of text number t ∷ []) x) (sym h.0)
+      (subst (λ (t : Result (EvaluationResult R O) Error). Went first all (given ++ reply_of text number t ∷ []) x) (sym h.0)
       (subst (WentBy first all (given ++ reply_of text number was ∷ []) x) (sym e) w))
 
-  evaluates : (status : Status) → x.status ≡ status → (result : Result (EvaluationResult R O P) Error) → WentBy first steps given x status → Evaluates text number x new result status → IsClosed status → Went first (steps ++ Evaluate ∷ []) (given ++ reply_of text number result ∷ []) new
+  evaluates : (status : Status) → x.status ≡ status → (result : Result (EvaluationResult R O) Error) → WentBy first steps given x status → Evaluates text number x new result status → IsClosed status → Went first (steps ++ Evaluate ∷ []) (given ++ reply_of text number result ∷ []) new
   evaluates (Start initial_value) e result w h c = starts first steps given x new (reply_of text number result) initial_value e w h
   evaluates (CompleteStatus value) e result w h c = stays_so (steps ++ Evaluate ∷ []) (CompleteStatus value) e _ result h (completes_again first steps given x new value e w)
   evaluates (FaultStatus error) e result w h c =
@@ -208,12 +208,12 @@ module _ {R O P : Type 0} (text : R → Text) (number : O → ℕ) (first : Stat
   evaluates (RequestStatus request on_answer) e result w h c = absurd c
   evaluates Running e result w h c = absurd w
 
-  resumes : (status : Status) → x.status ≡ status → (answer : Answer) (result : Result (EvaluationResult R O P) Error) → WentBy first steps given x status → Resumes text number (input_of x answer) x new result status → IsOpenFor (kind_of_answer answer) status → Went first (steps ++ Resume answer ∷ []) (given ++ reply_of text number result ∷ []) new
+  resumes : (status : Status) → x.status ≡ status → (answer : Answer) (result : Result (EvaluationResult R O) Error) → WentBy first steps given x status → Resumes text number (input_of x answer) x new result status → IsOpenFor (kind_of_answer answer) status → Went first (steps ++ Resume answer ∷ []) (given ++ reply_of text number result ∷ []) new
   resumes (RequestStatus request on_answer) e answer result w h k = goes_on first steps given x new (reply_of text number result) answer request on_answer e k w h
   resumes (FaultStatus error) e answer result w h k = stays_so (steps ++ Resume answer ∷ []) (FaultStatus error) e (Err error) result h (fails_again first steps given x new error (Resume answer) w tt refl refl)
   resumes _ e answer result w h k = absurd k
 
-  pub called_went_on : (step : Step) (result : Result (EvaluationResult R O P) Error) → HasReplied text number step x new result → Went first steps given x → Went first (steps ++ step ∷ []) (given ++ reply_of text number result ∷ []) new
+  pub called_went_on : (step : Step) (result : Result (EvaluationResult R O) Error) → HasReplied text number step x new result → Went first steps given x → Went first (steps ++ step ∷ []) (given ++ reply_of text number result ∷ []) new
   called_went_on Evaluate result h w = evaluates x.status refl result w h.1 h.0
   called_went_on (Resume answer) result h w = resumes x.status refl answer result w h.1 h.0
   called_went_on _ result h w = absurd h

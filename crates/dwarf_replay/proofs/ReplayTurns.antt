@@ -57,7 +57,7 @@ module _ (setup : Setup) (refusal : Refusal) (text : Text) where
         one = ap (λ (f : Option First). replies (outcome_from setup refusal text now.inputs f)) e;
       }
 
-  call_replies : {R O P : Type 0} (view : R → Text) (number : O → ℕ) (step : Step) (log : Log) (x new : State) (given : Result (EvaluationResult R O P) Error) → HasReplied view number step x new given → Allows log (outcome_of setup refusal text log) step → Replies step log
+  call_replies : {R O : Type 0} (view : R → Text) (number : O → ℕ) (step : Step) (log : Log) (x new : State) (given : Result (EvaluationResult R O) Error) → HasReplied view number step x new given → Allows log (outcome_of setup refusal text log) step → Replies step log
   call_replies view number Evaluate log x new given c h = record { reply_is = reply (meaning setup refusal text (unwrap_or log.first log.now) log.inputs); one = refl }
   call_replies view number (Resume answer) log x new given c h = started_replies answer log log.first refl h
   call_replies view number _ log x new given c h = absurd c
@@ -71,23 +71,23 @@ module _ {R : Type 0} (view : R → Text) (all : List (code.Step R)) (index : �
       take-suc (steps_of view all) index (step_of view step) (slice_get_within (steps_of view all) index (step_of view step) next_is)
       ∙ ap (λ (s : Step). take index (steps_of view all) ++ s ∷ []) (get_or_from_slice_get (steps_of view all) index (step_of view step) (step_of view step) next_is)
 
-module _ {R O P : Type 0} (view : R → Text) (number : O → ℕ) (first : State) (all : List (code.Step R)) (index : ℕ) (step : code.Step R) (is_next : slice_get all index ≡ Some step) (given : List (kept_answer.Answer R O P)) (x new : State) (w : Went first (take index (steps_of view all)) (replies_in view number given) x) where
+module _ {R O : Type 0} (view : R → Text) (number : O → ℕ) (first : State) (all : List (code.Step R)) (index : ℕ) (step : code.Step R) (is_next : slice_get all index ≡ Some step) (given : List (kept_answer.Answer R O)) (x new : State) (w : Went first (take index (steps_of view all)) (replies_in view number given) x) where
   -- the step set something
-  pub set_on : (kept : List (kept_answer.Answer R O P)) → kept ≡ given → IsSet (step_of view step) x new → Went first (take (suc index) (steps_of view all)) (replies_in view number kept) new
+  pub set_on : (kept : List (kept_answer.Answer R O)) → kept ≡ given → IsSet (step_of view step) x new → Went first (take (suc index) (steps_of view all)) (replies_in view number kept) new
   set_on kept e h =
       subst (λ (steps : List Step). Went first steps (replies_in view number kept) new) (sym (take_next view all index step is_next))
-      (subst (λ (l : List (kept_answer.Answer R O P)). Went first (take index (steps_of view all) ++ step_of view step ∷ []) (replies_in view number l) new) (sym e)
+      (subst (λ (l : List (kept_answer.Answer R O)). Went first (take index (steps_of view all) ++ step_of view step ∷ []) (replies_in view number l) new) (sym e)
       (set_went_on first (take index (steps_of view all)) (replies_in view number given) (step_of view step) x new h w))
 
   -- the step was done, and gave an answer
-  module _ (answer : kept_answer.Answer R O P) (h : HasReplied view number (step_of view step) x new answer.0) where
+  module _ (answer : kept_answer.Answer R O) (h : HasReplied view number (step_of view step) x new answer.0) where
     pub called_on : Went first (take (suc index) (steps_of view all)) (replies_in view number given ++ reply_in view number answer ∷ []) new
     called_on =
         subst (λ (steps : List Step). Went first steps (replies_in view number given ++ reply_in view number answer ∷ []) new) (sym (take_next view all index step is_next))
         (called_went_on view number first (take index (steps_of view all)) (replies_in view number given) x new (step_of view step) answer.0 h w)
 
     -- which was kept
-    pub kept_on : (kept : List (kept_answer.Answer R O P)) → kept ≡ given ++ answer ∷ [] → Went first (take (suc index) (steps_of view all)) (replies_in view number kept) new
+    pub kept_on : (kept : List (kept_answer.Answer R O)) → kept ≡ given ++ answer ∷ [] → Went first (take (suc index) (steps_of view all)) (replies_in view number kept) new
     kept_on kept e =
         subst (λ (l : List Reply). Went first (take (suc index) (steps_of view all)) l new)
         (sym (ap (replies_in view number) e ∙ map-append (reply_in view number) given (answer ∷ []))) called_on
@@ -115,7 +115,7 @@ module _ {R O P : Type 0} (view : R → Text) (number : O → ℕ) (first : Stat
         }
 
 -- at the end all steps were taken
-pub went_all : {R O P : Type 0} (view : R → Text) (number : O → ℕ) (first : State) (all : List (code.Step R)) (index : ℕ) (given : List (kept_answer.Answer R O P)) (x : State) → length all ≤ index → Went first (take index (steps_of view all)) (replies_in view number given) x → Went first (steps_of view all) (replies_in view number given) x
+pub went_all : {R O : Type 0} (view : R → Text) (number : O → ℕ) (first : State) (all : List (code.Step R)) (index : ℕ) (given : List (kept_answer.Answer R O)) (x : State) → length all ≤ index → Went first (take index (steps_of view all)) (replies_in view number given) x → Went first (steps_of view all) (replies_in view number given) x
 went_all view number first all index given x h w =
     let lengths = length-map all (step_of view) in
     let past : length (steps_of view all) ≤ index = omega (arith, lengths, h) in

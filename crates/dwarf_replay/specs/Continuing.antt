@@ -16,13 +16,13 @@ use Rattle.dwarf_replay.specs.declared.steps.Step.{Step}
 
 -- the steps that were done: all steps; the steps before the one that isn't allowed; or the steps up to the one whose
 -- reply had no room
-abbrev pub done_steps : {R O P : Type 0} → (R → Text) → List (Step R) → Replayed R O P → List meaning.Step
+abbrev pub done_steps : {R O : Type 0} → (R → Text) → List (Step R) → Replayed R O → List meaning.Step
 done_steps text steps replayed.Done = steps_of text steps
 done_steps text steps (replayed.Misplaced index) = take index (steps_of text steps)
 done_steps text steps (replayed.NoRoom index answer) = take (suc index) (steps_of text steps)
 
 -- the replies to these steps: those in the list, and the one that had no room
-abbrev pub done_replies : {R O P : Type 0} → (R → Text) → (O → ℕ) → List (Answer R O P) → Replayed R O P → List Reply
+abbrev pub done_replies : {R O : Type 0} → (R → Text) → (O → ℕ) → List (Answer R O) → Replayed R O → List Reply
 done_replies text number given replayed.Done = replies_in text number given
 done_replies text number given (replayed.Misplaced index) = replies_in text number given
 done_replies text number given (replayed.NoRoom index answer) =

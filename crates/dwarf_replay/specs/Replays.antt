@@ -21,13 +21,13 @@ use Rattle.dwarf_replay.specs.declared.steps.Replayed.TheVariants as replayed
 abbrev pub steps_of : {R : Type 0} → (R → Text) → List (Step R) → List meaning.Step
 steps_of text steps = map (step_of text) steps
 
-module _ {R O P : Type 0} (text : R → Text) (number : O → ℕ) where
+module _ {R O : Type 0} (text : R → Text) (number : O → ℕ) where
   -- the reply in an item of the list
-  abbrev pub reply_in : Answer R O P → Reply
+  abbrev pub reply_in : Answer R O → Reply
   reply_in answer = reply_of text number answer.0
 
   -- the replies in the list
-  abbrev pub replies_in : List (Answer R O P) → List Reply
+  abbrev pub replies_in : List (Answer R O) → List Reply
   replies_in given = map reply_in given
 
 -- the log before any step, with the settings of a state
@@ -87,9 +87,9 @@ pub record OverflowsAt (index : ℕ) (answer : Reply) (limit : Option ℕ) (old 
   pub inside : (step : meaning.Step) × (slice_get steps index ≡ Some step)
   pub full : MayRefuse limit (length replies)
 
-module _ {R O P : Type 0} (text : R → Text) (number : O → ℕ) where
+module _ {R O : Type 0} (text : R → Text) (number : O → ℕ) where
   -- what holds by the end of a replay: all steps were done, one isn't allowed, or a reply had no room
-  abbrev pub Replays : Option ℕ → State → List (Step R) → List (Answer R O P) → State → Replayed R O P → Type 0
+  abbrev pub Replays : Option ℕ → State → List (Step R) → List (Answer R O) → State → Replayed R O → Type 0
   Replays limit old steps given new replayed.Done =
       DoesAll old (steps_of text steps) (replies_in text number given) new
   Replays limit old steps given new (replayed.Misplaced index) =

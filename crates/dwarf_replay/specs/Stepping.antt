@@ -50,9 +50,9 @@ IsSet (ObjectAddress address) old new = new ≡ with_object (Some address) old
 IsSet (MaxIterations maximum) old new = new ≡ with_maximum maximum old
 IsSet _ old new = ⊥
 
-module _ {R O P : Type 0} (text : R → Text) (number : O → ℕ) where
+module _ {R O : Type 0} (text : R → Text) (number : O → ℕ) where
   -- the step was a call, with this result
-  abbrev pub HasReplied : meaning.Step → State → State → Result (EvaluationResult R O P) Error → Type 0
+  abbrev pub HasReplied : meaning.Step → State → State → Result (EvaluationResult R O) Error → Type 0
   HasReplied Evaluate old new replied = IsClosed old.status × Evaluates text number old new replied old.status
   HasReplied (Resume answer) old new replied =
       IsOpenFor (kind_of_answer answer) old.status
@@ -60,7 +60,7 @@ module _ {R O P : Type 0} (text : R → Text) (number : O → ℕ) where
   HasReplied _ old new replied = ⊥
 
   -- the outcome of the step
-  abbrev pub IsStepped : meaning.Step → State → State → Stepped R O P → Type 0
+  abbrev pub IsStepped : meaning.Step → State → State → Stepped R O → Type 0
   IsStepped step old new stepped.Misplaced = (new ≡ old) × (MayTake step old.status → ⊥)
   IsStepped step old new stepped.Set = IsSet step old new
   IsStepped step old new (stepped.Answered answer) = HasReplied step old new answer.0

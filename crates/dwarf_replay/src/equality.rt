@@ -6,18 +6,17 @@ ghost use Rattle.dwarf_replay.specs.StepEquality.{outcome_of_step, end_of_replay
 ghost use Rattle.dwarf_replay.specs.Stepping.{step_of};
 
 use crate::steps::{Answer, Replayed, Step, Stepped};
-use dwarf_base::Reader;
 
 /// Steps are equal exactly if contracts can't tell them apart, provided that this holds of readers. It does nothing;
 /// its contract states the law.
-pub fn step_equality_laws<R: Reader + Eq>()
+pub fn step_equality_laws<R: Eq>()
     ensures { (text : R → Text) → IsEqualityOf text R.PartialEq.eq
         → IsEqualityOf (step_of text) ⟦<Step<R> as PartialEq>⟧.eq }
 {}
 
 /// Results of calls, steps and replays are equal exactly if contracts can't tell them apart, provided that this holds
 /// of readers and offsets. It does nothing; its contract states the laws.
-pub fn answer_equality_laws<R: Reader + Eq, O: Eq>()
+pub fn answer_equality_laws<R: Eq, O: Eq>()
     ensures answer { (text : R → Text) (number : O → ℕ) → IsEqualityOf text R.PartialEq.eq
         → IsEqualityOf number O.PartialEq.eq
         → IsEqualityOf

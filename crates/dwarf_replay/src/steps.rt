@@ -45,9 +45,9 @@ pub enum Step<R> {
 
 /// The result of one call of an evaluation.
 #[derive(Clone, Copy, Debug, PartialEq, Eq)]
-pub struct Answer<R: Reader, O = <R as Reader>::Offset>(pub Result<EvaluationResult<R, O>>);
+pub struct Answer<R, O = <R as Reader>::Offset>(pub Result<EvaluationResult<R, O>>);
 
-impl<R: Reader, O> Default for Answer<R, O> {
+impl<R, O> Default for Answer<R, O> {
     /// `Complete`.
     fn default() -> Self
         ensures { result.0 ≡ Ok EvaluationResult.Complete }
@@ -58,7 +58,7 @@ impl<R: Reader, O> Default for Answer<R, O> {
 
 /// The outcome of a step.
 #[derive(Clone, Copy, Debug, PartialEq, Eq)]
-pub enum Stepped<R: Reader, O = <R as Reader>::Offset> {
+pub enum Stepped<R, O = <R as Reader>::Offset> {
     /// The step isn't allowed, and nothing was done.
     Misplaced,
     /// The step was a setting, which is now in force.
@@ -69,7 +69,7 @@ pub enum Stepped<R: Reader, O = <R as Reader>::Offset> {
 
 /// How a replay ended.
 #[derive(Clone, Copy, Debug, PartialEq, Eq)]
-pub enum Replayed<R: Reader, O = <R as Reader>::Offset> {
+pub enum Replayed<R, O = <R as Reader>::Offset> {
     /// All steps were done.
     Done,
     /// The step at this index, from 0, isn't allowed. All steps before it were done, and nothing of it was.

@@ -78,8 +78,8 @@ is_call meaning.Evaluate outcome answer e = tt
 is_call (meaning.Resume a) outcome answer e = tt
 is_call _ outcome answer e = absurd (cc)
 
-evaluates_to : {R O P : Type 0} (text : R → Text) (number : O → ℕ) (limit : Option ℕ) (old new : State) (steps : List (Step R))
-    (given : List (Answer R O P)) (ended : Replayed R O P) → Replays text number limit old steps given new ended
+evaluates_to : {R O : Type 0} (text : R → Text) (number : O → ℕ) (limit : Option ℕ) (old new : State) (steps : List (Step R))
+    (given : List (Answer R O)) (ended : Replayed R O) → Replays text number limit old steps given new ended
     → EvaluatesSteps old.setup old.text (log_at old) (steps_of text steps) (after_replies (replies_in text number given) (ending_of new ended))
 evaluates_to text number limit old new steps given replayed.Done w =
     let all = steps_of text steps in
@@ -130,16 +130,16 @@ evaluates_to text number limit old new steps given (replayed.NoRoom index answer
     }
 
 -- the same of an evaluation that is fresh
-pub evaluates_fresh : {R O P : Type 0} (text : R → Text) (number : O → ℕ) (limit : Option ℕ) (setup : Setup) (whole : Text) (old new : State)
-    (steps : List (Step R)) (given : List (Answer R O P)) (ended : Replayed R O P) → old ≡ fresh_state setup whole
+pub evaluates_fresh : {R O : Type 0} (text : R → Text) (number : O → ℕ) (limit : Option ℕ) (setup : Setup) (whole : Text) (old new : State)
+    (steps : List (Step R)) (given : List (Answer R O)) (ended : Replayed R O) → old ≡ fresh_state setup whole
     → Replays text number limit old steps given new ended
     → EvaluatesSteps setup whole empty_log (steps_of text steps) (after_replies (replies_in text number given) (ending_of new ended))
 evaluates_fresh text number limit setup whole old new steps given ended e w =
     subst (λ x. EvaluatesSteps x.setup x.text (log_at x) (steps_of text steps) (after_replies (replies_in text number given) (ending_of new ended))) e
     (evaluates_to text number limit old new steps given ended w)
 
-pub has_line : {R O P : Type 0} (text : R → Text) (number : O → ℕ) (limit : Option ℕ) (old new : State) (steps : List (Step R))
-    (given : List (Answer R O P)) (ended : Replayed R O P) → length steps < 2 ^ 63 → Replays text number limit old steps given new ended
+pub has_line : {R O : Type 0} (text : R → Text) (number : O → ℕ) (limit : Option ℕ) (old new : State) (steps : List (Step R))
+    (given : List (Answer R O)) (ended : Replayed R O) → length steps < 2 ^ 63 → Replays text number limit old steps given new ended
     → HasLine ended
 has_line text number limit old new steps given (replayed.Misplaced index) few w =
     let inside = slice_get_within (steps_of text steps) index w.step w.is_next in

@@ -32,21 +32,21 @@ module _ (x new : State) where
   set_keeps (MaxIterations maximum) h = ap (λ (z : State). z.setup) h
   set_keeps _ h = absurd h
 
-  module _ (result : Result (EvaluationResult Placed ℕ ℕ) Error) where
+  module _ (result : Result (EvaluationResult Placed ℕ) Error) where
     -- the status is that of the reply
     pub record Replied : Type 0 where
       pub setup : new.setup ≡ x.setup
       pub status : IsReplied (reply_of text_of_placed (λ x. x) result) new.status
 
     -- it was replied before
-    again : (status : Status) (before : Result (EvaluationResult Placed ℕ ℕ) Error) → x.status ≡ status → result ≡ before → new ≡ x → IsReplied (reply_of text_of_placed (λ x. x) before) status → Replied
+    again : (status : Status) (before : Result (EvaluationResult Placed ℕ) Error) → x.status ≡ status → result ≡ before → new ≡ x → IsReplied (reply_of text_of_placed (λ x. x) before) status → Replied
     again status before e t n h =
         let stays : new.status ≡ status = ap (λ (z : State). z.status) n ∙ e in
         record {
           setup = same_keeps n;
           status =
               subst (λ (s : Status). IsReplied (reply_of text_of_placed (λ x. x) result) s) (sym stays)
-              (subst (λ (r : Result (EvaluationResult Placed ℕ ℕ) Error). IsReplied (reply_of text_of_placed (λ x. x) r) status) (sym t) h);
+              (subst (λ (r : Result (EvaluationResult Placed ℕ) Error). IsReplied (reply_of text_of_placed (λ x. x) r) status) (sym t) h);
         }
 
     evaluated : (status : Status) → x.status ≡ status → IsClosed status → Evaluates text_of_placed (λ x. x) x new result status → Replied

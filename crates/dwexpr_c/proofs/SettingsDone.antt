@@ -31,7 +31,7 @@ module _ (first : State) (limits : first.setup.limits ≡ capacities) where
       subst (λ (z : State). HasDone first (steps ++ step ∷ []) z) (sym (comes.1 (λ z. both_ways (has == 0) one (eq-eqb has 0 z))))
       (set_more first limits steps x changed done step set))
 
-  pub starts : (settings : DwexprSettings) (limited x y new : State) (result : Result (EvaluationResult Placed ℕ ℕ) Error)
+  pub starts : (settings : DwexprSettings) (limited x y new : State) (result : Result (EvaluationResult Placed ℕ) Error)
       → first.status ≡ Start None → limited ≡ with_maximum settings.max_iterations first
       → Comes settings.has_object_address limited x (with_object (Some settings.object_address) limited)
       → Comes settings.has_initial_value x y (with_status (Start (Some settings.initial_value)) x) → x.status ≡ Start None

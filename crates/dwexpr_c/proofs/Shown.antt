@@ -71,6 +71,6 @@ module _ (texts : List DwexprText) (first : State) (given : IsGiven texts first.
 
 -- ---- an answer that was taken
 
-pub taken : (texts : List DwexprText) (x new : State) (out : DwexprOutcome) (old places : List DwexprPiece) (result : Result (EvaluationResult Placed ℕ ℕ) Error) (said : Result Answer ℕ) → IsOkAnd said (λ answer. HasReplied text_of_placed (λ x. x) (Resume answer) x new result) → ShowsCall texts (outcome_at new) out old places → IsOkAnd said (λ answer. Takes texts answer x new out old places)
+pub taken : (texts : List DwexprText) (x new : State) (out : DwexprOutcome) (old places : List DwexprPiece) (result : Result (EvaluationResult Placed ℕ) Error) (said : Result Answer ℕ) → IsOkAnd said (λ answer. HasReplied text_of_placed (λ x. x) (Resume answer) x new result) → ShowsCall texts (outcome_at new) out old places → IsOkAnd said (λ answer. Takes texts answer x new out old places)
 taken texts x new out old places result (Ok answer) h shown = record { result = result; called = h; shown = shown }
 taken texts x new out old places result (Err code) h shown = absurd h

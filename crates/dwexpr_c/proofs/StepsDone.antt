@@ -149,7 +149,7 @@ module _ (first : State) (limits : first.setup.limits ≡ capacities) (steps : L
   went : Went first steps done.replies x
   went = went_back first steps done.replies x done.log done.are_done done.stands done.setup done.spends done.settings done.leaves
 
-  pub called_more : (step : Step) (result : Result (EvaluationResult Placed ℕ ℕ) Error) → HasReplied text_of_placed (λ x. x) step x new result → HasDone first (steps ++ step ∷ []) new
+  pub called_more : (step : Step) (result : Result (EvaluationResult Placed ℕ) Error) → HasReplied text_of_placed (λ x. x) step x new result → HasDone first (steps ++ step ∷ []) new
   called_more step result h =
       has_done first (steps ++ step ∷ []) (done.replies ++ reply_of text_of_placed (λ x. x) result ∷ []) new limits
       ((replied_by x new result step h).setup ∙ done.setup)

@@ -66,7 +66,7 @@ pub record Refuses (said : Result Answer ℕ) (before after : State) (out : Dwex
 -- the evaluation went on with the answer, and its new outcome is shown
 pub record Takes (texts : List DwexprText) (answer : Answer) (before after : State) (out : DwexprOutcome)
     (old new : List DwexprPiece) : Type 0 where
-  pub result : Result (EvaluationResult Placed ℕ ℕ) Error
+  pub result : Result (EvaluationResult Placed ℕ) Error
   pub called : HasReplied text_of_placed (λ x. x) (Resume answer) before after result
   pub shown : ShowsCall texts (outcome_at after) out old new
 

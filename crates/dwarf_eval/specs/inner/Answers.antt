@@ -42,7 +42,7 @@ abbrev pub IsAtRest : rest.State → Type 0
 IsAtRest x = IsAtRestBy x x.status
 
 -- after the end the result is completion; after a fault it is that fault
-abbrev pub IsEndedBy : {R O P : Type 0} → Result (EvaluationResult R O P) Error → rest.Status → Type 0
+abbrev pub IsEndedBy : {R O : Type 0} → Result (EvaluationResult R O) Error → rest.Status → Type 0
 IsEndedBy replied (CompleteStatus value) = replied ≡ Ok result.Complete
 IsEndedBy replied (FaultStatus error) = replied ≡ Err error
 IsEndedBy replied _ = Unit {0}

@@ -45,7 +45,7 @@ replied_status None on_answer = CompleteStatus None
 replied_status (Some request) on_answer = RequestStatus request on_answer
 
 -- maps a state of the code to a status of the definitions
-abbrev pub status_of : {R O P : Type 0} → (R → Text) → (O → ℕ) → EvaluationState R O P → requests.OnAnswer → Status
+abbrev pub status_of : {R O : Type 0} → (R → Text) → (O → ℕ) → EvaluationState R O → requests.OnAnswer → Status
 status_of text number (state.Start initial_value) on_answer = Start initial_value
 status_of text number state.Running on_answer = Running
 status_of text number (state.Waiting request) on_answer = replied_status (request_in text number request) on_answer
@@ -70,8 +70,8 @@ abbrev pub callers_of : {R : Type 0} → (R → Text) → List (R × R) → List
 callers_of text readers = reverse (map (caller_of text) readers)
 
 -- the store: the code's lists, with the top of the stack first
-abbrev pub store_of : {R O P : Type 0} → (R → Text) → (O → ℕ) → List Value → List (Piece R O P) → ℕ → Option ℕ → ℕ
-    → LastOperation → Location R O P → Store
+abbrev pub store_of : {R O : Type 0} → (R → Text) → (O → ℕ) → List Value → List (Piece R O) → ℕ → Option ℕ → ℕ
+    → LastOperation → Location R O → Store
 store_of text number values pieces count object_address maximum last location = record {
   values = reverse values;
   pieces = map (piece_of text number) pieces;

@@ -12,7 +12,7 @@ use dwarf_op::Operation;
 
 /// The bytes of an expression (DWARF 5, section 2.5).
 #[derive(Clone, Copy, Debug, PartialEq, Eq, Hash)]
-pub struct Expression<R: Reader>(pub R);
+pub struct Expression<R>(pub R);
 
 impl<R: Reader + Copy> Expression<R> {
     /// Its operations, in order.
@@ -30,7 +30,7 @@ impl<R: Reader + Copy> Expression<R> {
 
 /// An iterator over the operations of an expression. A malformed operation is the last.
 #[derive(Clone, Copy, Debug)]
-pub struct OperationIter<R: Reader> {
+pub struct OperationIter<R> {
     input: R,
     encoding: Encoding,
 }

@@ -4,7 +4,7 @@ use dwarf_op::DieReference;
 
 /// The reply of an evaluation: completion, or a request that the caller has to answer before the evaluation goes on.
 #[derive(Clone, Copy, Debug, PartialEq, Eq)]
-pub enum EvaluationResult<R: Reader, O = <R as Reader>::Offset> {
+pub enum EvaluationResult<R, O = <R as Reader>::Offset> {
     /// The evaluation is complete: its pieces and its value can be read.
     Complete,
     /// A value from memory is wanted; go on with `resume_with_memory`.

@@ -36,7 +36,7 @@ pub(crate) enum OnAnswer<R> {
 
 /// The state of an evaluation.
 #[derive(Drop)]
-pub(crate) enum EvaluationState<R: Reader, O = <R as Reader>::Offset> {
+pub(crate) enum EvaluationState<R, O = <R as Reader>::Offset> {
     /// Nothing was evaluated yet. It has the initial value, if one is set.
     Start(Option<u64>),
     /// It runs; never between two calls.

@@ -42,13 +42,13 @@ state_ending x (FaultStatus error) = record { text = []; status = 1 }
 state_ending x _ = record { text = []; status = 0 }
 
 -- the ending after the replies
-abbrev pub ending_of : {R O P : Type 0} → State → Replayed R O P → Ending
+abbrev pub ending_of : {R O : Type 0} → State → Replayed R O → Ending
 ending_of x replayed.Done = state_ending x x.status
 ending_of x (replayed.Misplaced index) = misplaced_step index
 ending_of x (replayed.NoRoom index answer) = no_memory
 
 -- the line number of a step fits in 64 bits
-abbrev pub HasLine : {R O P : Type 0} → Replayed R O P → Type 0
+abbrev pub HasLine : {R O : Type 0} → Replayed R O → Type 0
 HasLine replayed.Done = Unit {0}
 HasLine (replayed.Misplaced index) = index < 2 ^ 64 - 1
 HasLine (replayed.NoRoom index answer) = Unit {0}

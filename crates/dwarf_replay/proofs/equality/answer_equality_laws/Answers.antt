@@ -1,11 +1,6 @@
 use Rattle.std.proofs.Common.{ℕ, ◌≡◌, Bool, refl, nat_eq, rules}
 use Rattle.std.specs.Cmp.{unsigned_Decides}
-use Rattle.std.specs.declared.clone.Clone as clone
-use Rattle.std.specs.declared.cmp.Eq as eq
 use Rattle.std.specs.declared.cmp.PartialEq as partial_eq
-use Rattle.std.specs.declared.fmt.Debug as debug
-use Rattle.dwarf_base.specs.declared.offsets.ReaderOffset as reader_offset
-use Rattle.dwarf_base.specs.declared.reading.Reader as reader
 use Rattle.dwarf_base.specs.Equality.{IsEqualityOf}
 use Rattle.dwarf_base.specs.Reads.{Text}
 use Rattle.dwarf_op.proofs.EqualOperations.{both_of}
@@ -19,20 +14,17 @@ use denote.RattleType.{RattleType}
 use mir.Syntax.{Dict}
 use Rattle.dwarf_replay.proofs.equality.answer_equality_laws.Goals as goal
 
-module _ (R O P : RattleType)
-    (a : reader.Ghosts R.Denot P.Denot) (b : Dict) (e : reader_offset.Ghosts P.Denot) (f : Dict)
-    (h : debug.Ghosts P.Denot) (i : Dict)
-    (j : clone.Ghosts P.Denot) (k : Dict) (l : eq.Ghosts P.Denot) (m : Dict) (n : partial_eq.Ghosts P.Denot) (o : Dict)
+module _ (R O : RattleType)
     (are_readers_equal : partial_eq.Ghosts R.Denot) (p : Dict) (are_offsets_equal : partial_eq.Ghosts O.Denot) (q : Dict)
     (text : R.Denot → Text) (number : O.Denot → ℕ)
     (texts : IsEqualityOf text are_readers_equal.eq) (numbers : IsEqualityOf number are_offsets_equal.eq) where
-  abbrev are_answers_equal : Answer R.Denot O.Denot P.Denot → Answer R.Denot O.Denot P.Denot → Bool
-  are_answers_equal = (answers.ghosts R O P a b e f h i j k l m n o are_readers_equal p are_offsets_equal q).eq
+  abbrev are_answers_equal : Answer R.Denot O.Denot → Answer R.Denot O.Denot → Bool
+  are_answers_equal = (answers.ghosts R O are_readers_equal p are_offsets_equal q).eq
 
-  abbrev are_ends_equal : Replayed R.Denot O.Denot P.Denot → Replayed R.Denot O.Denot P.Denot → Bool
-  are_ends_equal = (ends.ghosts R O P a b e f h i j k l m n o are_readers_equal p are_offsets_equal q).eq
+  abbrev are_ends_equal : Replayed R.Denot O.Denot → Replayed R.Denot O.Denot → Bool
+  are_ends_equal = (ends.ghosts R O are_readers_equal p are_offsets_equal q).eq
 
-  equal_answers : IsEqualityOf (λ (x : Answer R.Denot O.Denot P.Denot). reply_or_error text number x.0) are_answers_equal
+  equal_answers : IsEqualityOf (λ (x : Answer R.Denot O.Denot). reply_or_error text number x.0) are_answers_equal
   equal_answers = search (rules, texts, numbers)
 
   equal_ends : IsEqualityOf (end_of_replay text number) are_ends_equal
@@ -59,9 +51,5 @@ module _ (R O P : RattleType)
 
 pub returns-clause-replayed : goal.returns-clause-replayed
 returns-clause-replayed g c =
-    let offset = g.R.Offset in
-    equal_ends g.row.R g.row.O g.row.R-Offset
-    g.R.Reader g.R.Reader-dict
-    offset.ReaderOffset offset.ReaderOffset-dict offset.Debug offset.Debug-dict offset.Clone offset.Clone-dict
-    offset.Eq offset.Eq-dict offset.PartialEq offset.PartialEq-dict
+    equal_ends g.row.R g.row.O
     g.R.PartialEq g.R.PartialEq-dict g.O.PartialEq g.O.PartialEq-dict

@@ -23,7 +23,7 @@ refused (Ok answer) step status e h = (refl, subst (λ (s : Step). MayTake s sta
 refused (Err code) step status e h = absurd e
 
 -- a resume is no setting
-not_taken : (said : Result Answer ℕ) (step : Step) (old new : State) (done : Stepped Placed ℕ ℕ) → IsOkAnd said (λ answer. step ≡ Resume answer) → IsStepped text_of_placed (λ x. x) step old new done
+not_taken : (said : Result Answer ℕ) (step : Step) (old new : State) (done : Stepped Placed ℕ) → IsOkAnd said (λ answer. step ≡ Resume answer) → IsStepped text_of_placed (λ x. x) step old new done
     → (done ≡ stepped.Misplaced) ⊎ (done ≡ stepped.Set) → IsRefused said codes.MISPLACED old.status × (new ≡ old)
 not_taken said step old new stepped.Misplaced e h i = (refused said step old.status e h.1, h.0)
 not_taken (Ok answer) step old new stepped.Set e h i = absurd (subst (λ (s : Step). IsSet s old new) e h)

@@ -7,4 +7,4 @@ use Rattle.dwexpr_c.proofs.pieces.show_piece.Goals as goal
 
 pub returns-in-Bytes-clause-none : goal.returns-in-Bytes-clause-none
 returns-in-Bytes-clause-none c e =
-    subst (λ (location : Location Placed ℕ ℕ). HoldsNowhere c.args.texts.now (location_of text_of_placed (λ x. x) location)) (sym c.in-Bytes.is) (c.show_bytes.ensures.none e)
+    subst (λ (location : Location Placed ℕ). HoldsNowhere c.args.texts.now (location_of text_of_placed (λ x. x) location)) (sym c.in-Bytes.is) (c.show_bytes.ensures.none e)

@@ -17,28 +17,28 @@ pub returns-in-Nop : goal.returns-in-Nop
 unfolding act
 returns-in-Nop g c =
     let x = c.args.self.now in
-    subst (λ (op : Operation _ _ _). Performs (act_of x (operation_of g.R.Reader.text g.R.Offset.ReaderOffset.number op)) x c.mark.new.self) (sym c.in-Nop.is)
+    subst (λ (op : Operation _ _). Performs (act_of x (operation_of g.R.Reader.text g.R.Offset.ReaderOffset.number op)) x c.mark.new.self) (sym c.in-Nop.is)
     (performs_none x.store.values x c.mark.new.self c.requires.runs c.mark.ensures)
 
 pub returns-in-UnsignedConstant : goal.returns-in-UnsignedConstant
 unfolding act
 returns-in-UnsignedConstant g c =
     let x = c.args.self.now in
-    subst (λ (op : Operation _ _ _). Performs (act_of x (operation_of g.R.Reader.text g.R.Offset.ReaderOffset.number op)) x c.push_plain.new.self) (sym c.in-UnsignedConstant.is)
+    subst (λ (op : Operation _ _). Performs (act_of x (operation_of g.R.Reader.text g.R.Offset.ReaderOffset.number op)) x c.push_plain.new.self) (sym c.in-UnsignedConstant.is)
     (performs_more (Generic c.in-UnsignedConstant.value) x c.push_plain.new.self c.requires.runs c.push_plain.ensures)
 
 pub returns-in-Register : goal.returns-in-Register
 unfolding act
 returns-in-Register g c =
     let x = c.args.self.now in
-    subst (λ (op : Operation _ _ _). Performs (act_of x (operation_of g.R.Reader.text g.R.Offset.ReaderOffset.number op)) x c.locate.new.self) (sym c.in-Register.is)
+    subst (λ (op : Operation _ _). Performs (act_of x (operation_of g.R.Reader.text g.R.Offset.ReaderOffset.number op)) x c.locate.new.self) (sym c.in-Register.is)
     (performs_located x.store.values _ x c.locate.new.self c.requires.runs c.locate.ensures)
 
 pub returns-in-ImplicitValue : goal.returns-in-ImplicitValue
 unfolding act
 returns-in-ImplicitValue g c =
     let x = c.args.self.now in
-    subst (λ (op : Operation _ _ _). Performs (act_of x (operation_of g.R.Reader.text g.R.Offset.ReaderOffset.number op)) x c.locate-in-ImplicitValue.new.self) (sym c.in-ImplicitValue.is)
+    subst (λ (op : Operation _ _). Performs (act_of x (operation_of g.R.Reader.text g.R.Offset.ReaderOffset.number op)) x c.locate-in-ImplicitValue.new.self) (sym c.in-ImplicitValue.is)
     (performs_located x.store.values _ x c.locate-in-ImplicitValue.new.self c.requires.runs c.locate-in-ImplicitValue.ensures)
 
 pub returns-in-ImplicitPointer : goal.returns-in-ImplicitPointer
@@ -47,7 +47,7 @@ returns-in-ImplicitPointer g c =
     let x = c.args.self.now in
     let new = c.locate-in-ImplicitPointer.new.self in
     let fits : SFits w64 c.in-ImplicitPointer.byte_offset = search rules in
-    subst (λ (op : Operation _ _ _). Performs (act_of x (operation_of g.R.Reader.text g.R.Offset.ReaderOffset.number op)) x new) (sym c.in-ImplicitPointer.is)
+    subst (λ (op : Operation _ _). Performs (act_of x (operation_of g.R.Reader.text g.R.Offset.ReaderOffset.number op)) x new) (sym c.in-ImplicitPointer.is)
     (subst (λ (offset : ℤ). Performs (Locates x.store.values (PointsInto (g.R.Offset.ReaderOffset.number c.in-ImplicitPointer.value.0) offset)) x new) (to_z-of_z w64 c.in-ImplicitPointer.byte_offset fits)
     (performs_located x.store.values _ x new c.requires.runs c.locate-in-ImplicitPointer.ensures))
 
@@ -57,7 +57,7 @@ returns-in-SignedConstant g c =
     let x = c.args.self.now in
     let new = c.push_plain-in-SignedConstant.new.self in
     let fits : SFits w64 c.in-SignedConstant.value = search rules in
-    subst (λ (op : Operation _ _ _). Performs (act_of x (operation_of g.R.Reader.text g.R.Offset.ReaderOffset.number op)) x new) (sym c.in-SignedConstant.is)
+    subst (λ (op : Operation _ _). Performs (act_of x (operation_of g.R.Reader.text g.R.Offset.ReaderOffset.number op)) x new) (sym c.in-SignedConstant.is)
     (performs_as _ _ x new (ap (λ n. push x.store.values (Generic n)) (sym (passed-residue c.in-SignedConstant.value c.cast_unsigned.result fits c.cast_unsigned.ensures)))
     (performs_more (Generic c.cast_unsigned.result) x new c.requires.runs c.push_plain-in-SignedConstant.ensures))
 
@@ -65,12 +65,12 @@ pub returns-in-Uninitialized : goal.returns-in-Uninitialized
 unfolding act
 returns-in-Uninitialized g c =
     let x = c.args.self.now in
-    subst (λ (op : Operation _ _ _). Performs (act_of x (operation_of g.R.Reader.text g.R.Offset.ReaderOffset.number op)) x c.fail.new.self) (sym c.in-Uninitialized.is)
+    subst (λ (op : Operation _ _). Performs (act_of x (operation_of g.R.Reader.text g.R.Offset.ReaderOffset.number op)) x c.fail.new.self) (sym c.in-Uninitialized.is)
     (performs_refuses _ error.UnsupportedEvaluation x x c.fail.new.self refl (stays_here x) c.fail.ensures)
 
 pub returns-in-VariableValue : goal.returns-in-VariableValue
 unfolding act
 returns-in-VariableValue g c =
     let x = c.args.self.now in
-    subst (λ (op : Operation _ _ _). Performs (act_of x (operation_of g.R.Reader.text g.R.Offset.ReaderOffset.number op)) x c.fail-in-VariableValue.new.self) (sym c.in-VariableValue.is)
+    subst (λ (op : Operation _ _). Performs (act_of x (operation_of g.R.Reader.text g.R.Offset.ReaderOffset.number op)) x c.fail-in-VariableValue.new.self) (sym c.in-VariableValue.is)
     (performs_refuses _ error.UnsupportedEvaluation x x c.fail-in-VariableValue.new.self refl (stays_here x) c.fail-in-VariableValue.ensures)

@@ -289,6 +289,15 @@ static void try_row(void)
         free((void *)(uintptr_t)texts[--texts_length].bytes);
 }
 
+/* Cuts the target of a branch to the width of an offset, at which it wraps. */
+static void cut_target(void)
+{
+    static const char before[] = "BadBranchTarget ";
+    char *const at = strstr(output, before);
+    if (at)
+        sprintf(at + strlen(before), "%zu\n", (size_t)number_in(at + strlen(before)));
+}
+
 /* Reads a row that evaluates, whose words and steps are good, and that is about nothing else. Returns whether it is
  * such a row. */
 static int read_row(const char *row)
@@ -301,6 +310,7 @@ static int read_row(const char *row)
         return 0;
     read_text(field(row, "input"), steps);
     read_text(field(row, "output"), output);
+    cut_target();
     read_text(field(row, "name"), name);
     return strncmp(output, "bad ", strlen("bad ")) != 0;
 }
@@ -354,7 +364,7 @@ int main(int argc, char **argv)
                 try_row();
                 count++;
             }
-    check(count > 1700 && beyond_limits < 20, "rows", "there are many");
+    check(count > 1700 && beyond_limits < (sizeof(size_t) == 4 ? 40 : 20), "rows", "there are many");
     encoding = LE8;
     limits();
     return finish();

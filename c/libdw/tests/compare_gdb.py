@@ -41,7 +41,7 @@ def parts(value, place, size):
                 yield from parts(value[field], place + field.bitpos, field.bitsize)
     elif kind.code in NUMBERS | REFERENCES:
         # not if it is optimized out, or a synthetic pointer
-        number = re.match("@?(0x[0-9a-f]+)", value.format_string(format="x"))
+        number = re.match("@?(0x[0-9a-f]+)", value.format_string(format="x", raw=True))
         is_long = kind.code == gdb.TYPE_CODE_FLT and kind.sizeof > 8
         yield place, size or (80 if is_long else 8 * kind.sizeof), number and int(number[1], 16)
     elif not value.is_optimized_out:

@@ -144,7 +144,8 @@ void dwexpr_libdw_read_sets(const dwexpr_libdw_target *target, pid_t thread, str
     for (i = 0; i < count; i++)
         take_sets(target, notes_of(target->core, i), thread, sets);
     for (set = GENERAL; set < SETS && !target->core; set++) {
-        struct iovec part = {bytes, (size_t)(sets->traced + sizeof sets->traced - bytes)};
+        /* the kernel wants room for whole items: the largest, a segment, has 16 bytes */
+        struct iovec part = {bytes, (size_t)(sets->traced + sizeof sets->traced - bytes) / 16 * 16};
         if (set == VECTOR)
             part.iov_len = read_proc(target, "auxv", bytes, part.iov_len);
         else if (ptrace(PTRACE_GETREGSET, thread, (void *)(uintptr_t)notes[set].type, &part))

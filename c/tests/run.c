@@ -22,7 +22,8 @@ static void operations(void)
 {
     static const dwexpr_callbacks none;
     static uint8_t nops[DWEXPR_RUN_OPERATIONS + 1];
-    static const uint8_t address[] = {0x03, 5, 0, 0, 0, 0, 0, 0, 0}, cfa[] = {0x9c};
+    static const uint8_t address[] = {0x03, 5, 0, 0, 0, 0, 0, 0, 0}, cfa[] = {0x9c}, typed[] = {0xa5, 0, 42};
+    int refusal = 0;
     memset(nops, 0x96, sizeof nops);
     nops[DWEXPR_RUN_OPERATIONS - 1] = 0x31;
     check(DWEXPR_RUN_OPERATIONS == 100000, "operations", "100,000 of them");
@@ -30,6 +31,10 @@ static void operations(void)
     check(run(nops, sizeof nops, LE8, &none) == DWEXPR_TOO_MANY_ITERATIONS, "operations", "one more");
     check(run(address, sizeof address, LE8, &none) == 0 && outcome.value == 5, "no callback", "an address stays");
     check(run(cfa, sizeof cfa, LE8, &none) == DWEXPR_REFUSED, "no callback", "no place for the refusal");
+    check(dwexpr_run((dwexpr_text){typed, sizeof typed}, LE8, &none, NULL, &refusal, &texts, &outcome, &piece, 1) ==
+                  DWEXPR_REFUSED &&
+              refusal == -1,
+          "no callback", "no type of a register");
     check(run(cfa, sizeof cfa, encoding_of(9, 4, 5, 0), &none) == DWEXPR_BAD_ENCODING, "a bad encoding", "the code");
     check(texts.length == 1 && items[0].bytes == cfa && items[0].length == sizeof cfa, "a bad encoding", "the texts");
 }

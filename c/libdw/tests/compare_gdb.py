@@ -167,7 +167,7 @@ def kind_of(level, function, name, size, theirs, text):
     if text == "unknown: an entry value" and function == "even":
         return "on entry of a function that calls itself by tail calls, where gdb takes what the first one was given"
     if text == "unknown: an entry value" and function == "library_last":
-        return "on entry by a tail call to another module's function, refused here alone"
+        return "on entry by a tail call of a function that two modules export, refused here alone"
     if (bits ^ ours) & known or lost & ~unknown or unknown & known:
         return None
     return "equal, in part optimized out" if lost else "equal"

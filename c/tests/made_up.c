@@ -150,19 +150,21 @@ static int is_block_of(uint32_t kind, size_t text, size_t offset, size_t length)
     return 0;
 }
 
-/* Whether the last call led to what a new evaluation leads to, with blocks where they were read. */
+/* Whether the last call led to what a new evaluation leads to, with blocks where they were read. If their text is lost,
+ * the same bytes may be found elsewhere. */
 static int is_as_anew(uint32_t code, size_t count)
 {
+    const int is_lost = count && steps[count - 1].texts < TEXTS;
     const int is_same = evaluate_anew(count) == code && code == outcome->code && same_outcome(outcome, &other) &&
                         same_pieces(pieces, other_pieces, room);
-    int is_right = outcome->request != DWEXPR_WANTS_ENTRY_VALUE ||
+    int is_right = is_lost || outcome->request != DWEXPR_WANTS_ENTRY_VALUE ||
                    is_block_of(DWEXPR_OP_ENTRY_VALUE, outcome->block_text, outcome->block_offset,
                                outcome->block_length);
     codes[code % COUNT(codes)]++;
     requests[outcome->request % COUNT(requests)]++;
     for (size_t i = 0; i < outcome->pieces && i < room; i++) {
         places[pieces[i].kind % COUNT(places)]++;
-        is_right &= pieces[i].kind != DWEXPR_HOLDS_BYTES ||
+        is_right &= is_lost || pieces[i].kind != DWEXPR_HOLDS_BYTES ||
                     is_block_of(DWEXPR_OP_IMPLICIT_VALUE, pieces[i].block_text, pieces[i].block_offset,
                                 pieces[i].block_length);
     }

@@ -150,6 +150,19 @@ static int is_block_of(uint32_t kind, size_t text, size_t offset, size_t length)
     return 0;
 }
 
+/* Whether these bytes are a block of an operation of this kind, in any text. */
+static int is_block_anywhere(uint32_t kind, dwexpr_text block)
+{
+    dwexpr_operation found;
+    for (size_t text = 0; text < TEXTS; text++)
+        for (size_t at = 0; at < texts[text].length; at++)
+            if (dwexpr_decode(texts[text].bytes, texts[text].length, encoding, at, &found) == DWEXPR_OK &&
+                found.kind == kind && found.block_length == block.length &&
+                (!block.length || !memcmp(texts[text].bytes + found.block_offset, block.bytes, block.length)))
+                return 1;
+    return 0;
+}
+
 /* Whether the last call led to what a new evaluation leads to, with blocks where they were read. If their text is lost,
  * the same bytes may be found elsewhere. */
 static int is_as_anew(uint32_t code, size_t count)
@@ -157,16 +170,19 @@ static int is_as_anew(uint32_t code, size_t count)
     const int is_lost = count && steps[count - 1].texts < TEXTS;
     const int is_same = evaluate_anew(count) == code && code == outcome->code && same_outcome(outcome, &other) &&
                         same_pieces(pieces, other_pieces, room);
-    int is_right = is_lost || outcome->request != DWEXPR_WANTS_ENTRY_VALUE ||
+    int is_right = outcome->request != DWEXPR_WANTS_ENTRY_VALUE ||
                    is_block_of(DWEXPR_OP_ENTRY_VALUE, outcome->block_text, outcome->block_offset,
-                               outcome->block_length);
+                               outcome->block_length) ||
+                   (is_lost && is_block_anywhere(DWEXPR_OP_ENTRY_VALUE, dwexpr_outcome_block(outcome, texts, TEXTS)));
     codes[code % COUNT(codes)]++;
     requests[outcome->request % COUNT(requests)]++;
     for (size_t i = 0; i < outcome->pieces && i < room; i++) {
         places[pieces[i].kind % COUNT(places)]++;
-        is_right &= is_lost || pieces[i].kind != DWEXPR_HOLDS_BYTES ||
+        is_right &= pieces[i].kind != DWEXPR_HOLDS_BYTES ||
                     is_block_of(DWEXPR_OP_IMPLICIT_VALUE, pieces[i].block_text, pieces[i].block_offset,
-                                pieces[i].block_length);
+                                pieces[i].block_length) ||
+                    (is_lost &&
+                     is_block_anywhere(DWEXPR_OP_IMPLICIT_VALUE, dwexpr_piece_block(&pieces[i], texts, TEXTS)));
     }
     return is_same && is_right;
 }

@@ -43,8 +43,8 @@ def main():
     named = (TESTS / "untaken").read_text().splitlines()
     named = collections.Counter(line for line in named if line and not line.startswith("#"))
     print(f"{len(places)} of {len(counts)} lines aren't taken, or have a branch that isn't")
-    print(*(f"tests take what is named: {line}" for line in (named - found).elements()), sep="\n")
     faults = [f"no test takes, and it isn't named: {line}" for line in (found - named).elements()]
+    faults += [f"tests take what is named: {line}" for line in (named - found).elements()]
     if sum(named.values()) * 100 > MOST_NAMED * len(counts):
         faults.append("many lines are named")
     print(*faults, f"{len(counts)} passed, {len(faults)} failed", sep="\n")

@@ -68,7 +68,7 @@ execute_process(COMMAND gcc -m32 -fsyntax-only stopped/pieces.c WORKING_DIRECTOR
   RESULT_VARIABLE no_headers ERROR_QUIET)
 if(no_headers)
   message(STATUS "left out: tests of pieces-32 over libdw: gcc has no headers for i386")
-else()
+elseif(NOT CMAKE_C_FLAGS MATCHES "coverage") # whose count would depend on these headers
   # gdb 13 takes registers on entry of an inlined function on i386 as they are now
   dwexpr_program(pieces-32 gcc stopped/pieces.c -O0 -m32)
 endif()

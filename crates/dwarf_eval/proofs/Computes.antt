@@ -1,11 +1,8 @@
 -- Calls on one value and on two: what they pop and push.
-use Rattle.std.proofs.Common.{ℕ, ◌≡◌, List, Option, Result, Ok, Err, Some, ap, ◌∙◌, refl, sym}
+use Rattle.std.proofs.Common.{ℕ, ◌≡◌, List, Result, Ok, Err, Some, ap, ◌∙◌, sym}
 use Rattle.dwarf_base.specs.declared.errors.Error.{Error}
 use Rattle.dwarf_value.specs.declared.types.Value.{Value}
-use Rattle.dwarf_meaning.specs.Acts.{FaultAct, act, on_result, push, unary, binary}
-use Rattle.dwarf_meaning.specs.Operations.{Operation}
-use Rattle.dwarf_meaning.specs.Operations as operation
-use Rattle.dwarf_eval.specs.inner.Operators.{IsBinary, IsUnary, binary_by, unary_by}
+use Rattle.dwarf_meaning.specs.Acts.{FaultAct, on_result, push, unary, binary}
 use Rattle.dwarf_meaning.specs.Stores.{Plain, address_bits, push_value}
 use Rattle.dwarf_meaning.specs.Rest.{State, Running, FaultStatus}
 use Rattle.dwarf_eval.specs.inner.StateChanges.{Pops, HasTriedChange, PushesComputed, Performs, with_values}
@@ -49,15 +46,3 @@ module _ (F : ℕ → Value → Value → Result Value Error) (old mid : State) 
   pub binary_computes : (new : State) (r : Result Value Error) → old.status ≡ Running → r ≡ F width x y → PushesComputed r mid new → Performs (binary (F (address_bits old.setup)) old.store.values) old new
   binary_computes new (Ok v) runs e h = binary_pushes new v runs e h
   binary_computes new (Err error) runs e h = binary_refuses error new e h
-
--- ---- an operator is one of these calls
-
-pub act-unary : (bits : ℕ) (object : Option ℕ) (op : Operation) (values : List Value) → IsUnary op → act bits object op values ≡ unary (unary_by op bits) values
-unfolding act
-act-unary bits object (operation.Unary operator) values h = refl
-act-unary bits object _ values h = absurd h
-
-pub act-binary : (bits : ℕ) (object : Option ℕ) (op : Operation) (values : List Value) → IsBinary op → act bits object op values ≡ binary (binary_by op bits) values
-unfolding act
-act-binary bits object (operation.Binary operator) values h = refl
-act-binary bits object _ values h = absurd h

@@ -6,13 +6,11 @@ pub mod Computes
 pub mod Totals
 pub mod Reaching
 pub mod Turning
-pub mod Performing
 pub mod Finishing
 pub mod Holding
 pub mod AnswerUses
 pub mod Replying
 pub mod Resuming
-pub mod Placing
 pub mod Loads
 pub mod Spending
 pub mod Following

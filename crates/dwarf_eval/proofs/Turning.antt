@@ -20,7 +20,7 @@ use Rattle.dwarf_meaning.proofs.Effects.{act_is}
 use Rattle.dwarf_meaning.proofs.Turns.{run_turn, below_most, waits_little}
 use Rattle.dwarf_meaning.specs.Bounds.{endings, faults_in}
 use Rattle.dwarf_meaning.specs.Inputs.{Keeps, with_status}
-use Rattle.dwarf_eval.specs.inner.StateChanges.{Stays, total, CountsOne, ReadsOperation, act_of, do_act_at, LeadsToPlace, LeadsToRequest, LeadsToFault, LeadsBy, Performs, read_to, with_store, ComesToStateBy, is_free, IsReady, Turns, effort, effort_by, before_pushes}
+use Rattle.dwarf_eval.specs.inner.StateChanges.{Stays, total, CountsOne, ReadsOperation, act_of, do_act_at, LeadsToPlace, LeadsToRequest, LeadsToFault, LeadsBy, Performs, read_to, with_store, ComesToStateBy, is_free, Turns, effort, effort_by, before_pushes}
 use Rattle.dwarf_eval.proofs.Loads.{EndsNoMore, done_ends, free_given, piece_due, request_waits, IsLighter, kept_in, done_lighter}
 use Rattle.dwarf_eval.proofs.Spending.{nears_by, counted_spends, fallen_spends}
 use Rattle.dwarf_eval.proofs.Staying.{stays_status}
@@ -98,6 +98,12 @@ beyond_op x place = read_to place (with_store (count_one x.store) x)
 
 counts_and_reads : (x : State) (place : ℕ) → ReadsOn x (beyond_op x place)
 counts_and_reads x place = record { setup = refl; settings = refl; callers = refl; items = refl; pieces = refl; count = omega arith; decodings = omega arith; each = omega arith; one = omega arith }
+
+-- the next operation is there, and will be counted
+pub record IsReady (x : State) : Type 0 where
+  pub runs : x.status ≡ Running
+  pub inside : x.place < length x.text.bytes
+  pub free : is_free x.store.last ≡ true
 
 module _ (x : State) (ready : IsReady x) where
   ready_total : (r : Refusal) (inputs : List Input) → total x r inputs ≡ total_of_course x.store.count x.setup x.callers (turn_counted (run x.setup) x.setup x.text x.place (length x.callers) (with_refusal r x.store) inputs)

@@ -1,4 +1,3 @@
 pub mod Answers
 pub mod Machine
-pub mod Operators
 pub mod StateChanges

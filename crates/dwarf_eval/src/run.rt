@@ -4,7 +4,6 @@ mod answers;
 pub(crate) mod machine;
 mod operate;
 mod operations;
-mod operators;
 pub(crate) mod states;
 mod ticks;
 mod turns;

@@ -52,11 +52,6 @@ status_of text number (state.Waiting request) on_answer = replied_status (reques
 status_of text number (state.Complete value) on_answer = CompleteStatus value
 status_of text number (state.Failed error) on_answer = FaultStatus error
 
--- the rest of a text, or all of it
-abbrev pub left_of : {R : Type 0} → Option R → R → R
-left_of None whole = whole
-left_of (Some rest) whole = rest
-
 -- the place in a text at which this rest of it begins
 abbrev pub place_of : (whole left : Text) → ℕ
 place_of whole left = length whole.bytes - length left.bytes

@@ -1,11 +1,11 @@
 -- What the functions inside an evaluation do to its state. Only contracts of private functions cite this file.
-use Rattle.std.specs.Prelude.{ℕ, zero, suc, ◌+◌, ◌-◌, ◌*◌, ◌<◌, ◌≤◌, ◌≡◌, ◌&&◌, nat_lt, Bool, true, false, List, [], ◌∷◌, Option, Some, None, Result, Ok, Err, length}
+use Rattle.std.specs.Prelude.{ℕ, zero, suc, ◌+◌, ◌-◌, ◌*◌, ◌<◌, ◌≤◌, ◌≡◌, Bool, true, false, List, [], ◌∷◌, Option, Some, None, Result, Ok, Err, length}
 use Rattle.dwarf_base.specs.declared.errors.Error.{Error}
 use Rattle.dwarf_base.specs.declared.errors.Error.TheVariants.{BadBranchTarget, InvalidExpressionTerminator, NotEnoughStackItems, TooManyIterations}
 use Rattle.dwarf_base.specs.Faults.{Fault, fault_of}
 use Rattle.dwarf_base.specs.Reads.{Text}
 use Rattle.dwarf_value.specs.declared.types.Value.{Value}
-use Rattle.dwarf_value.specs.Values.{to_u64_of}
+use Rattle.dwarf_value.specs.Values.{UnaryOperator, BinaryOperator, to_u64_of, unary_of, binary_of, width_of}
 use Rattle.dwarf_meaning.specs.Operations.{Operation}
 use Rattle.dwarf_meaning.specs.Operations as operation
 use Rattle.dwarf_meaning.specs.Locations.{Location, Piece, sized_piece}
@@ -131,10 +131,6 @@ Jumps place old new true = (place ≤ length old.text.bytes) × (new ≡ with_pl
 Jumps place old new false =
     (length old.text.bytes < place) × (new ≡ with_status (FaultStatus (BadBranchTarget place)) old)
 
--- the state at the place before this rest of its text
-abbrev pub at_rest : (left : List ℕ) → State → State
-at_rest left x = with_place (length x.text.bytes - length left) x
-
 -- the state at this place, after one more operation was decoded
 abbrev pub read_to : ℕ → State → State
 read_to place x = record x { place = place; decodings = x.decodings + 1 }
@@ -151,11 +147,15 @@ pub record ReadsOperation (op : Operation) (old new : State) : Type 0 where
 abbrev pub act_of : State → Operation → Act
 act_of x op = act (address_bits x.setup) x.store.settings.object_address op x.store.values
 
--- the operation takes no branch
-abbrev pub IsNoBranch : Operation → Type 0
-IsNoBranch (operation.Bra target) = ⊥
-IsNoBranch (operation.Skip target) = ⊥
-IsNoBranch _ = Unit {0}
+-- what a function on one value gives is what the operator gives
+abbrev pub ComputesUnary : (Value → ℕ → Result Value Error → Type 0) → UnaryOperator → Type 0
+ComputesUnary gives operator =
+    (x : Value) (mask : ℕ) (r : Result Value Error) → gives x mask r → r ≡ unary_of operator (width_of mask) x
+
+-- what a function on two values gives is what the operator gives
+abbrev pub ComputesBinary : (Value → Value → ℕ → Result Value Error → Type 0) → BinaryOperator → Type 0
+ComputesBinary gives operator =
+    (x y : Value) (mask : ℕ) (r : Result Value Error) → gives x y mask r → r ≡ binary_of operator (width_of mask) x y
 
 -- what an operation of this state does to a store
 abbrev pub do_act_at : Act → State → Store → Next
@@ -252,12 +252,6 @@ abbrev pub is_free : Last → Bool
 is_free (Located location) = false
 is_free _ = true
 
--- the next operation is there, and will be counted
-pub record IsReady (x : State) : Type 0 where
-  pub runs : x.status ≡ Running
-  pub inside : x.place < length x.text.bytes
-  pub free : is_free x.store.last ≡ true
-
 -- the run is back in the innermost caller, if there is one
 abbrev pub GoesBack : Bool → State → State → Type 0
 GoesBack true old new =
@@ -309,10 +303,6 @@ pub record Turns (old new : State) : Type 0 where
 abbrev pub is_running : Status → Bool
 is_running Running = true
 is_running _ = false
-
--- whether the next operation will be counted
-abbrev pub goes_on : State → Bool
-goes_on x = is_running x.status && is_free x.store.last && nat_lt x.place (length x.text.bytes)
 
 -- ---- answers
 

@@ -1,7 +1,6 @@
 //! The state of an evaluation and its smallest steps: changes of the lists and the count, and reads of the text.
 
 ghost use Rattle.std.specs.Prelude.{◌≡◌, ◌<◌, ◌≤◌, ◌*◌, [], Some, Err, map, length, slice_get, false, true, OnOk, IfOk, IfErr};
-ghost use Rattle.dwarf_base.specs.Reads.{IsRestOf};
 ghost use Rattle.dwarf_base.specs.Faults.{fault_of};
 ghost use Rattle.dwarf_value.specs.Values.{IsAddressMask, width_of};
 ghost use Rattle.dwarf_meaning.specs.Locations as meant;
@@ -14,7 +13,7 @@ ghost use Rattle.dwarf_op.specs.Views.{operation_of, location_of, piece_of};
 ghost use Rattle.dwarf_meaning.specs.Inputs.{fresh_state, with_status};
 ghost use Rattle.dwarf_eval.specs.Evaluation.{request_in};
 ghost use Rattle.dwarf_eval.specs.inner.Machine.{last_of, on_answer_of, replied_status, status_of};
-ghost use Rattle.dwarf_eval.specs.inner.StateChanges.{Asks, CountsOne, GoesBack, Jumps, Pops, ReadsOperation, TriesChange, TriesToEnter, TriesToPop, at_rest, is_free, is_running, read_to, with_last, with_place};
+ghost use Rattle.dwarf_eval.specs.inner.StateChanges.{Asks, CountsOne, GoesBack, Jumps, Pops, ReadsOperation, TriesChange, TriesToEnter, TriesToPop, is_free, is_running, read_to, with_last};
 
 use crate::op::EvaluationResult;
 use crate::run::states::{EvaluationState, LastOperation, OnAnswer};
@@ -35,8 +34,8 @@ pub(crate) struct Machine<R: Reader + Copy, S: EvaluationStorage<R>> {
     pub(crate) object_address: Option<u64>,
     pub(crate) max_iterations: u32,
     iteration: u32,
-    // The unread bytes of the text that runs, or `None` while a method has them in a local variable.
-    rest: Option<R>,
+    // The unread bytes of the text that runs.
+    rest: R,
     // All bytes of that text.
     whole: R,
     last: LastOperation,
@@ -57,21 +56,21 @@ impl<R: Reader + Copy, S: EvaluationStorage<R>> Model for Machine<R, S> {
     ghost Value = { State };
 
     ghost use Rattle.dwarf_meaning.specs.Stores.{setup_of};
-    ghost use Rattle.dwarf_eval.specs.inner.Machine.{on_answer_of, status_of, store_of, left_of, place_of, callers_of, IsSound};
+    ghost use Rattle.dwarf_eval.specs.inner.Machine.{on_answer_of, status_of, store_of, place_of, callers_of, IsSound};
 
     ghost view = { λ e. record {
       status = status_of R.text R.Offset.number e.state (on_answer_of R.text e.on_answer);
       setup = setup_of e.encoding R.Offset.BITS (S.Stack.limit e.stack)
           (S.ExpressionStack.limit e.expression_stack) (S.Result.limit e.pieces);
       text = R.text e.whole;
-      place = place_of (R.text e.whole) (R.text (left_of e.rest e.whole));
+      place = place_of (R.text e.whole) (R.text e.rest);
       callers = callers_of R.text (S.ExpressionStack.items e.expression_stack);
       store = store_of R.text R.Offset.number (S.Stack.items e.stack) (S.Result.items e.pieces)
           e.iteration e.object_address e.max_iterations e.last e.location;
       decodings = e.decodings.count;
     } };
 
-    ghost invariant = { λ e. IsSound R.text e.encoding e.addr_mask e.whole (left_of e.rest e.whole)
+    ghost invariant = { λ e. IsSound R.text e.encoding e.addr_mask e.whole e.rest
         (S.ExpressionStack.items e.expression_stack) };
 }
 
@@ -273,10 +272,7 @@ impl<R: Reader + Copy, S: EvaluationStorage<R>> Machine<R, S> {
         ensures ends { result ≡ true → self.now.place ≡ length self.now.text.bytes }
         ensures inside { result ≡ false → self.now.place < length self.now.text.bytes }
     {
-        match &self.rest {
-            Some(rest) => rest.is_empty(),
-            None => self.whole.is_empty(),
-        }
+        self.rest.is_empty()
     }
 
     /// Whether there are pieces.
@@ -308,78 +304,36 @@ impl<R: Reader + Copy, S: EvaluationStorage<R>> Machine<R, S> {
     #[inline(always)]
     pub(crate) fn place(&self) -> R::Offset
         ensures value { R.Offset.number result ≡ self.now.place }
-    {
-        match &self.rest {
-            Some(rest) => rest.offset_from(&self.whole),
-            None => R::Offset::from_u8(0),
-        }
-    }
-
-    /// The place at which this rest of the text begins.
-    #[inline(always)]
-    pub(crate) fn place_of(&self, rest: &R) -> R::Offset
-        requires { IsRestOf (R.text rest.now) self.now.text }
-        ensures value { R.Offset.number result ≡ (at_rest (R.text rest.now).bytes self.now).place }
         ensures bits { self.now.setup.offset_bits ≡ R.Offset.BITS }
     {
-        rest.offset_from(&self.whole)
+        self.rest.offset_from(&self.whole)
     }
 
-    /// Takes the unread bytes into a local variable. Until `go_to` puts them back, contracts see the text at its start.
+    /// Decodes the next operation. Nothing else in an evaluation decodes, so `decodings` counts all that it decodes.
     #[inline(always)]
-    pub(crate) fn take_rest(&mut self) -> R
-        ensures rest { IsRestOf (R.text result) self.old.text }
-        ensures here { at_rest (R.text result).bytes self.old ≡ self.old }
-        ensures alone { self.new ≡ with_place 0 self.old }
-    {
-        match self.rest.take() {
-            Some(rest) => rest,
-            None => copy_of(&self.whole),
-        }
-    }
-
-    /// Puts the unread bytes back.
-    #[inline(always)]
-    pub(crate) fn go_to(&mut self, rest: R)
-        requires { IsRestOf (R.text rest) self.old.text }
-        ensures { self.new ≡ at_rest (R.text rest).bytes self.old }
-    {
-        self.rest = Some(rest);
-    }
-
-    /// Decodes the next operation of the unread bytes. Nothing else in an evaluation decodes, so `decodings` counts all
-    /// that it decodes.
-    #[inline(always)]
-    pub(crate) fn decode(&mut self, rest: &mut R) -> Result<Operation<R>>
-        requires { IsRestOf (R.text rest.old) self.old.text }
+    pub(crate) fn decode(&mut self) -> Result<Operation<R>>
         ensures ok { IfOk result
-            (λ operation. ReadsOperation (operation_of R.text R.Offset.number operation)
-            (at_rest (R.text rest.old).bytes self.old) (at_rest (R.text rest.new).bytes self.new)) }
-        ensures beyond { OnOk result (0 < (at_rest (R.text rest.new).bytes self.new).place) }
+            (λ operation. ReadsOperation (operation_of R.text R.Offset.number operation) self.old self.new) }
+        ensures beyond { OnOk result (0 < self.new.place) }
         ensures err { IfErr result
-            (λ e. read self.old.setup self.old.text (at_rest (R.text rest.old).bytes self.old).place
-            ≡ Err (fault_of e)) }
-        ensures alone { self.new ≡ read_to self.old.place self.old }
-        ensures rest { IsRestOf (R.text rest.new) self.new.text }
+            (λ e. read self.old.setup self.old.text self.old.place ≡ Err (fault_of e)) }
+        ensures alone { self.new ≡ read_to self.new.place self.old }
     {
         self.decodings.tick();
-        Operation::parse(rest, self.encoding)
+        Operation::parse(&mut self.rest, self.encoding)
     }
 
     /// Goes to a place of the text. If there is no such place, fails with `BadBranchTarget` and returns `false`.
     #[inline(always)]
-    pub(crate) fn jump(&mut self, place: R::Offset, rest: &mut R) -> bool
-        requires { IsRestOf (R.text rest.old) self.old.text }
-        ensures jumps { Jumps (R.Offset.number place) (at_rest (R.text rest.old).bytes self.old)
-            (at_rest (R.text rest.new).bytes self.new) result }
-        ensures rest { IsRestOf (R.text rest.new) self.new.text }
+    pub(crate) fn jump(&mut self, place: R::Offset) -> bool
+        ensures { Jumps (R.Offset.number place) self.old self.new result }
     {
         let mut target = copy_of(&self.whole);
         let Ok(()) = target.skip(place) else {
             self.fail(Error::BadBranchTarget(place.into_u64()));
             return false;
         };
-        *rest = target;
+        self.rest = target;
         true
     }
 
@@ -388,15 +342,12 @@ impl<R: Reader + Copy, S: EvaluationStorage<R>> Machine<R, S> {
     pub(crate) fn push_caller(&mut self, callee: R) -> bool
         ensures { TriesToEnter (R.text callee) self.old self.new result }
     {
-        let rest = self.take_rest();
-        let whole = mem::replace(&mut self.whole, copy_of(&callee));
+        let rest = mem::replace(&mut self.rest, copy_of(&callee));
+        let whole = mem::replace(&mut self.whole, callee);
         match self.expression_stack.push((rest, whole)) {
-            Ok(()) => {
-                self.rest = Some(callee);
-                true
-            }
+            Ok(()) => true,
             Err((rest, whole)) => {
-                self.rest = Some(rest);
+                self.rest = rest;
                 self.whole = whole;
                 self.fail(Error::StackFull);
                 false
@@ -411,7 +362,7 @@ impl<R: Reader + Copy, S: EvaluationStorage<R>> Machine<R, S> {
         let Some(caller) = self.expression_stack.pop() else {
             return false;
         };
-        self.rest = Some(caller.0);
+        self.rest = caller.0;
         self.whole = caller.1;
         true
     }
@@ -451,7 +402,7 @@ impl<R: Reader + Copy, S: EvaluationStorage<R>> Machine<R, S> {
         self.object_address = None;
         self.max_iterations = u32::MAX;
         self.iteration = 0;
-        self.rest = Some(copy_of(&bytecode));
+        self.rest = copy_of(&bytecode);
         self.whole = bytecode;
         self.last = LastOperation::Nothing;
         // In Rust these may hold a reader of the text before.
@@ -484,7 +435,7 @@ impl<R: Reader + Copy, S: EvaluationStorage<R>> Machine<R, S> {
             object_address: None,
             max_iterations: u32::MAX,
             iteration: 0,
-            rest: Some(copy_of(&bytecode)),
+            rest: copy_of(&bytecode),
             whole: bytecode,
             last: LastOperation::Nothing,
             location: Location::Empty,

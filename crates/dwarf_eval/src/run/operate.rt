@@ -1,17 +1,13 @@
-ghost use Rattle.std.specs.Prelude.{◌≡◌};
-ghost use Rattle.dwarf_base.specs.Reads.{IsRestOf};
+ghost use Rattle.std.specs.Prelude.{◌≡◌, ℕ};
 ghost use Rattle.dwarf_meaning.specs.Acts.{Branches};
 ghost use Rattle.dwarf_meaning.specs.Operations as meaning;
 ghost use Rattle.dwarf_meaning.specs.Rest.{Running};
 ghost use Rattle.dwarf_meaning.specs.Stores.{address_bits};
-ghost use Rattle.dwarf_op.specs.Views.{operation_of};
-ghost use Rattle.dwarf_value.specs.Values.{from_u64_of, to_u64_of, type_of, binary_of, Plus};
-ghost use Rattle.dwarf_eval.specs.inner.Operators.{IsBinary, IsUnary};
-ghost use Rattle.dwarf_eval.specs.inner.StateChanges.{Performs, PushesComputed, PushesPlain, TriesToPopNumber, act_of, at_rest};
+ghost use Rattle.dwarf_value.specs.Values.{IsAddressMask, UnaryOperator, BinaryOperator, from_u64_of, to_u64_of, type_of, binary_of, Plus};
+ghost use Rattle.dwarf_eval.specs.inner.StateChanges.{ComputesBinary, ComputesUnary, Performs, PushesComputed, PushesPlain, TriesToPopNumber, act_of};
 
 use crate::op::EvaluationResult;
 use crate::run::machine::Machine;
-use crate::run::operators::{binary, unary};
 use crate::run::states::{LastOperation, OnAnswer};
 use crate::store::EvaluationStorage;
 use dwarf_base::{Error, Reader, ReaderOffset, Result, UnitOffset};
@@ -41,25 +37,30 @@ impl<R: Reader + Copy, S: EvaluationStorage<R>> Machine<R, S> {
 
     /// Replaces the top by what the operator gives.
     #[inline(never)]
-    pub(crate) fn compute_unary(&mut self, operator: Operation<R>)
+    pub(crate) fn compute_unary<F: FnOnce(Value, u64) -> Result<Value>>(&mut self, operator: F)
         requires runs { self.old.status ≡ Running }
-        requires unary { IsUnary (operation_of R.text R.Offset.number operator) }
-        ensures { Performs (act_of self.old (operation_of R.text R.Offset.number operator)) self.old self.new }
+        requires may { (x : Value) (mask : ℕ) → IsAddressMask mask → F.pre operator x mask }
+        ensures { (meant : UnaryOperator) → ComputesUnary (F.post operator) meant
+            → Performs (act_of self.old (meaning.Unary meant)) self.old self.new }
     {
         let Some(value) = self.pop() else { return };
-        self.push_computed(unary(operator, value, self.addr_mask()))
+        self.push_computed(operator(value, self.addr_mask()))
     }
 
     /// Replaces the two values on top by what the operator gives.
     #[inline(never)]
-    pub(crate) fn compute_binary(&mut self, operator: Operation<R>)
+    pub(crate) fn compute_binary<F: FnOnce(Value, Value, u64) -> Result<Value>>(
+        &mut self,
+        operator: F,
+    )
         requires runs { self.old.status ≡ Running }
-        requires binary { IsBinary (operation_of R.text R.Offset.number operator) }
-        ensures { Performs (act_of self.old (operation_of R.text R.Offset.number operator)) self.old self.new }
+        requires may { (x y : Value) (mask : ℕ) → IsAddressMask mask → F.pre operator x y mask }
+        ensures { (meant : BinaryOperator) → ComputesBinary (F.post operator) meant
+            → Performs (act_of self.old (meaning.Binary meant)) self.old self.new }
     {
         let Some(right) = self.pop() else { return };
         let Some(left) = self.pop() else { return };
-        self.push_computed(binary(operator, left, right, self.addr_mask()))
+        self.push_computed(operator(left, right, self.addr_mask()))
     }
 
     /// A value plus a constant, which is wrapped to the value's type.
@@ -168,26 +169,20 @@ impl<R: Reader + Copy, S: EvaluationStorage<R>> Machine<R, S> {
 
     /// Goes on at this offset from the end of the operation.
     #[inline(always)]
-    pub(crate) fn take_branch(&mut self, target: i16, rest: &mut R)
-        requires runs { self.old.status ≡ Running }
-        requires rest { IsRestOf (R.text rest.old) self.old.text }
-        ensures performs { Performs (Branches self.old.store.values target)
-            (at_rest (R.text rest.old).bytes self.old) (at_rest (R.text rest.new).bytes self.new) }
-        ensures rest { IsRestOf (R.text rest.new) self.new.text }
+    pub(crate) fn take_branch(&mut self, target: i16)
+        requires { self.old.status ≡ Running }
+        ensures { Performs (Branches self.old.store.values target) self.old self.new }
     {
         self.mark(LastOperation::Plain);
-        let place = self.place_of(rest);
-        self.jump(place.wrapping_add(R::Offset::from_i16(target)), rest);
+        let place = self.place();
+        self.jump(place.wrapping_add(R::Offset::from_i16(target)));
     }
 
     /// Branches if the top isn't zero.
     #[inline(always)]
-    pub(crate) fn branch_if(&mut self, target: i16, rest: &mut R)
-        requires runs { self.old.status ≡ Running }
-        requires rest { IsRestOf (R.text rest.old) self.old.text }
-        ensures performs { Performs (act_of self.old (meaning.Bra target))
-            (at_rest (R.text rest.old).bytes self.old) (at_rest (R.text rest.new).bytes self.new) }
-        ensures rest { IsRestOf (R.text rest.new) self.new.text }
+    pub(crate) fn branch_if(&mut self, target: i16)
+        requires { self.old.status ≡ Running }
+        ensures { Performs (act_of self.old (meaning.Bra target)) self.old self.new }
     {
         let Some(number) = self.pop_number() else {
             return;
@@ -196,7 +191,7 @@ impl<R: Reader + Copy, S: EvaluationStorage<R>> Machine<R, S> {
             self.mark(LastOperation::Plain);
             return;
         }
-        self.take_branch(target, rest)
+        self.take_branch(target)
     }
 
     /// Pops the top as a location: the variable has this value, and no place in memory.

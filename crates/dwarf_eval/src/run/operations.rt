@@ -1,9 +1,8 @@
 //! What each operation does.
 
 ghost use Rattle.std.specs.Prelude.{◌≡◌};
-ghost use Rattle.dwarf_base.specs.Reads.{IsRestOf};
 ghost use Rattle.dwarf_meaning.specs.Rest.{Running};
-ghost use Rattle.dwarf_eval.specs.inner.StateChanges.{IsNoBranch, Performs, act_of, at_rest};
+ghost use Rattle.dwarf_eval.specs.inner.StateChanges.{Performs, act_of};
 ghost use Rattle.dwarf_op.specs.Views.{operation_of};
 
 use crate::op::EvaluationResult::{
@@ -20,30 +19,11 @@ use dwarf_op::{Location, Operation};
 use dwarf_value::Value;
 
 impl<R: Reader + Copy, S: EvaluationStorage<R>> Machine<R, S> {
-    /// Performs an operation; `rest` has the bytes after it.
-    #[inline(always)]
-    #[tactic(auto, using(crate::proofs::Placing::left_there))]
-    pub(crate) fn operate(&mut self, operation: Operation<R>, rest: &mut R)
-        requires runs { self.old.status ≡ Running }
-        requires rest { IsRestOf (R.text rest.old) self.old.text }
-        ensures performs { Performs
-            (act_of self.old (operation_of R.text R.Offset.number operation))
-            (at_rest (R.text rest.old).bytes self.old) (at_rest (R.text rest.new).bytes self.new) }
-        ensures rest { IsRestOf (R.text rest.new) self.new.text }
-    {
-        match operation {
-            Operation::Bra { target } => self.branch_if(target, rest),
-            Operation::Skip { target } => self.take_branch(target, rest),
-            _ => self.operate_in_place(operation),
-        }
-    }
-
-    /// Performs an operation that is no branch.
+    /// Performs an operation.
     #[inline(always)]
     #[tactic(auto, unfolding(dwarf_meaning::specs::Acts::act))]
-    fn operate_in_place(&mut self, operation: Operation<R>)
-        requires runs { self.old.status ≡ Running }
-        requires still { IsNoBranch (operation_of R.text R.Offset.number operation) }
+    pub(crate) fn operate(&mut self, operation: Operation<R>)
+        requires { self.old.status ≡ Running }
         ensures { Performs
             (act_of self.old (operation_of R.text R.Offset.number operation)) self.old self.new }
     {
@@ -57,9 +37,29 @@ impl<R: Reader + Copy, S: EvaluationStorage<R>> Machine<R, S> {
             Operation::Pick { index } => self.pick(index),
             Operation::Swap => self.swap(),
             Operation::Rot => self.rotate(),
-            Operation::Abs | Operation::Neg | Operation::Not => self.compute_unary(operation),
+            Operation::Abs => self.compute_unary(Value::abs),
+            Operation::Neg => self.compute_unary(Value::neg),
+            Operation::Not => self.compute_unary(Value::not),
+            Operation::And => self.compute_binary(Value::and),
+            Operation::Div => self.compute_binary(Value::div),
+            Operation::Minus => self.compute_binary(Value::sub),
+            Operation::Mod => self.compute_binary(Value::rem),
+            Operation::Mul => self.compute_binary(Value::mul),
+            Operation::Or => self.compute_binary(Value::or),
+            Operation::Plus => self.compute_binary(Value::add),
+            Operation::Shl => self.compute_binary(Value::shl),
+            Operation::Shr => self.compute_binary(Value::shr),
+            Operation::Shra => self.compute_binary(Value::shra),
+            Operation::Xor => self.compute_binary(Value::xor),
+            Operation::Eq => self.compute_binary(Value::eq),
+            Operation::Ge => self.compute_binary(Value::ge),
+            Operation::Gt => self.compute_binary(Value::gt),
+            Operation::Le => self.compute_binary(Value::le),
+            Operation::Lt => self.compute_binary(Value::lt),
+            Operation::Ne => self.compute_binary(Value::ne),
             Operation::PlusConstant { value } => self.add_constant(value),
-            Operation::Bra { .. } | Operation::Skip { .. } => unreachable!(),
+            Operation::Bra { target } => self.branch_if(target),
+            Operation::Skip { target } => self.take_branch(target),
             Operation::UnsignedConstant { value } => self.push_plain(Value::Generic(value)),
             Operation::SignedConstant { value } => {
                 self.push_plain(Value::Generic(value.cast_unsigned()))
@@ -132,8 +132,6 @@ impl<R: Reader + Copy, S: EvaluationStorage<R>> Machine<R, S> {
             }
             Operation::WasmStack { index } => self.ask(RequiresWasmStack { index }, OnAnswer::Push),
             Operation::VariableValue { offset: _ } => { self.fail(Error::UnsupportedEvaluation) }
-            // An operator on two values.
-            _ => self.compute_binary(operation),
         }
     }
 }

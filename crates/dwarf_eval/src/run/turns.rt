@@ -1,14 +1,13 @@
 //! The loop of a run: operations, the pieces after locations, and the ends of texts.
 
 ghost use Rattle.std.specs.Prelude.{◌≡◌, ◌<◌, length, false};
-ghost use Rattle.dwarf_base.specs.Reads.{IsRestOf};
 ghost use Rattle.dwarf_meaning.specs.Meaning.{finish, whole_piece};
 ghost use Rattle.dwarf_eval.specs.inner.Answers.{IsAtRestBy};
 ghost use Rattle.dwarf_meaning.specs.Rest.{Running, Start};
 ghost use Rattle.dwarf_meaning.specs.RunLaws.{waits_of};
 ghost use Rattle.dwarf_meaning.specs.Stores.{Located};
 ghost use Rattle.dwarf_op.specs.Views.{operation_of, location_of};
-ghost use Rattle.dwarf_eval.specs.inner.StateChanges.{Closes, ComesToState, CompletesWith, EndsLocated, IsReady, RunsOn, Turns, at_rest, goes_on, is_free, total};
+ghost use Rattle.dwarf_eval.specs.inner.StateChanges.{Closes, ComesToState, CompletesWith, EndsLocated, RunsOn, Turns, is_free, total};
 
 use crate::run::machine::Machine;
 use crate::run::states::LastOperation;
@@ -18,34 +17,22 @@ use dwarf_op::{Location, Operation, Piece};
 use dwarf_value::Value;
 
 impl<R: Reader + Copy, S: EvaluationStorage<R>> Machine<R, S> {
-    /// Whether the operation at the start of `rest` is to be performed next.
+    /// Performs the next operation. After a location it has to be a piece, which isn't counted.
     #[inline(always)]
-    fn goes_on(&self, rest: &R) -> bool
-        requires { IsRestOf (R.text rest.now) self.now.text }
-        ensures { result ≡ goes_on (at_rest (R.text rest.now).bytes self.now) }
-    {
-        self.is_running() && self.is_free() && !rest.is_empty()
-    }
-
-    /// Performs operations until something else comes next. The unread bytes are in a local variable, so that the
-    /// compiler can keep them in registers.
-    #[inline(always)]
-    fn run_operations(&mut self)
-        requires { IsReady self.old }
+    fn turn(&mut self)
+        requires runs { self.old.status ≡ Running }
+        requires inside { self.old.place < length self.old.text.bytes }
         ensures { Turns self.old self.new }
     {
-        let mut rest = self.take_rest();
-        let mut goes_on = true;
-        while goes_on {
-            if self.count() {
-                match self.decode(&mut rest) {
-                    Ok(operation) => self.operate(operation, &mut rest),
-                    Err(error) => self.fail(error),
-                }
-            }
-            goes_on = self.goes_on(&rest);
+        let is_free = self.is_free();
+        if is_free && !self.count() {
+            return;
         }
-        self.go_to(rest);
+        match self.decode() {
+            Ok(operation) if is_free => self.operate(operation),
+            Ok(operation) => self.add_piece_of_location(operation),
+            Err(error) => self.fail(error),
+        }
     }
 
     /// Adds the piece of the location. `operation` follows the location, and has to be a piece; else it fails with
@@ -72,23 +59,6 @@ impl<R: Reader + Copy, S: EvaluationStorage<R>> Machine<R, S> {
             bit_offset,
             location,
         });
-    }
-
-    /// Reads the piece that follows a location.
-    #[inline(never)]
-    fn read_piece_of_location(&mut self)
-        requires runs { self.old.status ≡ Running }
-        requires inside { self.old.place < length self.old.text.bytes }
-        requires waits { is_free self.old.store.last ≡ false }
-        ensures { Turns self.old self.new }
-    {
-        let mut rest = self.take_rest();
-        let operation = self.decode(&mut rest);
-        self.go_to(rest);
-        match operation {
-            Ok(operation) => self.add_piece_of_location(operation),
-            Err(error) => self.fail(error),
-        }
     }
 
     /// Adds a piece that is the whole variable, and completes the evaluation.
@@ -143,10 +113,8 @@ impl<R: Reader + Copy, S: EvaluationStorage<R>> Machine<R, S> {
                 if !self.pop_caller() {
                     self.finish();
                 }
-            } else if self.is_free() {
-                self.run_operations();
             } else {
-                self.read_piece_of_location();
+                self.turn();
             }
         }
     }

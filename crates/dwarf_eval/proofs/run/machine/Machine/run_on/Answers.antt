@@ -29,13 +29,9 @@ loop-self-preserved-else-not-pop_caller g c = λ from totals came.
     let turn = back_turned x (runs_in x.status runs) (c.is_at_end.ensures.ends c.if-is_at_end.true) c.pop_caller.new.self (subst (λ (b : Bool). GoesBack b x c.pop_caller.new.self) c.if-not-pop_caller.false c.pop_caller.ensures) in
     comes_more from totals x c.pop_caller.new.self runs (c.loop-self.invariant from totals came) turn.comes
 
-pub loop-self-preserved-then-is_free : goal.loop-self-preserved-then-is_free
-loop-self-preserved-then-is_free g c = λ from totals came.
-    comes_more from totals c.loop-self.self c.run_operations.new.self (sym c.is_running.ensures ∙ c.loop-self-test.true) (c.loop-self.invariant from totals came) c.run_operations.ensures.comes
-
 pub loop-self-preserved : goal.loop-self-preserved
 loop-self-preserved g c = λ from totals came.
-    comes_more from totals c.loop-self.self c.read_piece_of_location.new.self (sym c.is_running.ensures ∙ c.loop-self-test.true) (c.loop-self.invariant from totals came) c.read_piece_of_location.ensures.comes
+    comes_more from totals c.loop-self.self c.turn.new.self (sym c.is_running.ensures ∙ c.loop-self-test.true) (c.loop-self.invariant from totals came) c.turn.ensures.comes
 
 pub returns : goal.returns
 returns g c = λ from totals came.

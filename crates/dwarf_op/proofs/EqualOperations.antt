@@ -14,6 +14,7 @@ use Rattle.dwarf_op.specs.contracts.operations.OperationPartialEq.TheImpl as ope
 use Rattle.dwarf_op.specs.declared.operations.DieReference.{DieReference}
 use Rattle.dwarf_op.specs.declared.operations.DieReference.TheVariants as reference
 use Rattle.dwarf_op.specs.declared.operations.Operation.{Operation}
+use Rattle.dwarf_op.specs.Names.{number_of}
 use Rattle.dwarf_op.specs.Views.{operation_of, reference_of}
 use denote.Enum.Compared.{Each, by}
 use denote.Enum.Declared.{Choice}
@@ -21,7 +22,6 @@ use denote.RattleType.{RattleType}
 use denote.Struct.Field.{Field}
 use denote.Struct.Values.{Values}
 use mir.Syntax.{Dict}
-use Rattle.dwarf_value.specs.Values.{Abs, Neg, Not, Plus, Minus, Mul, Div, Mod, And, Or, Xor, Shl, Shr, Shra, Eq, Ne, Lt, Le, Gt, Ge}
 
 infixr 40 ◌⊳◌
 -- ---- tests
@@ -44,66 +44,7 @@ options None (Some n) = (λ h. cc, λ h. cc)
 options (Some m) None = (λ h. cc, λ h. cc)
 options (Some m) (Some n) = decided (unsigned_Decides m n) (λ h. cc) (λ h. cc)
 
--- ---- which operation it is
-
-abbrev place : meaning.Operation → ℕ
-place (meaning.Deref base_type size space) = 0
-place meaning.Drop = 1
-place (meaning.Pick index) = 2
-place meaning.Swap = 3
-place meaning.Rot = 4
-place (meaning.Unary Abs) = 5
-place (meaning.Binary And) = 6
-place (meaning.Binary Div) = 7
-place (meaning.Binary Minus) = 8
-place (meaning.Binary Mod) = 9
-place (meaning.Binary Mul) = 10
-place (meaning.Unary Neg) = 11
-place (meaning.Unary Not) = 12
-place (meaning.Binary Or) = 13
-place (meaning.Binary Plus) = 14
-place (meaning.PlusConstant value) = 15
-place (meaning.Binary Shl) = 16
-place (meaning.Binary Shr) = 17
-place (meaning.Binary Shra) = 18
-place (meaning.Binary Xor) = 19
-place (meaning.Bra target) = 20
-place (meaning.Binary Eq) = 21
-place (meaning.Binary Ge) = 22
-place (meaning.Binary Gt) = 23
-place (meaning.Binary Le) = 24
-place (meaning.Binary Lt) = 25
-place (meaning.Binary Ne) = 26
-place (meaning.Skip target) = 27
-place (meaning.UnsignedConstant value) = 28
-place (meaning.SignedConstant value) = 29
-place (meaning.Register register) = 30
-place (meaning.RegisterOffset register offset base_type) = 31
-place (meaning.FrameOffset offset) = 32
-place meaning.Nop = 33
-place meaning.PushObjectAddress = 34
-place (meaning.Call offset) = 35
-place meaning.TLS = 36
-place meaning.CallFrameCFA = 37
-place (meaning.Piece size_in_bits bit_offset) = 38
-place (meaning.ImplicitValue bytes) = 39
-place meaning.StackValue = 40
-place (meaning.ImplicitPointer value byte_offset) = 41
-place (meaning.EntryValue expression) = 42
-place (meaning.ParameterRef offset) = 43
-place (meaning.Address address) = 44
-place (meaning.AddressIndex index) = 45
-place (meaning.ConstantIndex index) = 46
-place (meaning.TypedLiteral base_type value) = 47
-place (meaning.Convert base_type) = 48
-place (meaning.Reinterpret base_type) = 49
-place meaning.Uninitialized = 50
-place (meaning.WasmLocal index) = 51
-place (meaning.WasmGlobal index) = 52
-place (meaning.WasmStack index) = 53
-place (meaning.VariableValue offset) = 54
-
--- ---- variants, by their places
+-- ---- variants, by their numbers
 
 never : {A : Type 0} → (A → ⊥) → IsTrue false ↔ A
 never refused = (λ passes. absurd (let wrong : false ≡ true = passes in cc), λ a. absurd (refused a))
@@ -131,34 +72,34 @@ tests [] view lines = tt
 tests ([] ∷ Fss) view lines = ((λ x y. true), tests Fss (λ c. view (inr c)) lines)
 tests ((F ∷ Fs) ∷ Fss) view lines = (lines.0.test, tests Fss (λ c. view (inr c)) lines.1)
 
--- what is seen of each variant stands at its place, from n on
-abbrev Placed : (Fss : List (List Field)) → (Choice Fss → meaning.Operation) → ℕ → Type 0
-Placed [] view n = Unit {0}
-Placed (Fs ∷ Fss) view n = ((x : Values Fs) → place (view (inl x)) ≡ n) × Placed Fss (λ c. view (inr c)) (suc n)
+-- what is seen of each variant has its number, from n on
+abbrev Numbered : (Fss : List (List Field)) → (Choice Fss → meaning.Operation) → ℕ → Type 0
+Numbered [] view n = Unit {0}
+Numbered (Fs ∷ Fss) view n = ((x : Values Fs) → number_of (view (inl x)) ≡ n) × Numbered Fss (λ c. view (inr c)) (suc n)
 
-further : (Fss : List (List Field)) (view : Choice Fss → meaning.Operation) (n : ℕ) → Placed Fss view n → (c : Choice Fss) → n ≤ place (view c)
-further [] view n placed c = absurd c
-further (Fs ∷ Fss) view n placed (inl x) = let here = placed.0 x in omega (arith, here)
-further (Fs ∷ Fss) view n placed (inr c) =
-    let above = further Fss (λ d. view (inr d)) (suc n) placed.1 c in omega (arith, above)
+further : (Fss : List (List Field)) (view : Choice Fss → meaning.Operation) (n : ℕ) → Numbered Fss view n → (c : Choice Fss) → n ≤ number_of (view c)
+further [] view n numbered c = absurd c
+further (Fs ∷ Fss) view n numbered (inl x) = let here = numbered.0 x in omega (arith, here)
+further (Fs ∷ Fss) view n numbered (inr c) =
+    let above = further Fss (λ d. view (inr d)) (suc n) numbered.1 c in omega (arith, above)
 
 -- a variant is seen as another than all that are further on
 distinct : (Fs : List Field) (Fss : List (List Field)) (view : Choice (Fs ∷ Fss) → meaning.Operation) (n : ℕ)
-    → Placed (Fs ∷ Fss) view n → (x : Values Fs) (c : Choice Fss) → place (view (inl x)) ≡ place (view (inr c)) → ⊥
-distinct Fs Fss view n placed x c equal =
-    let here = placed.0 x in
-    let above = further Fss (λ d. view (inr d)) (suc n) placed.1 c in omega (arith, here, above, equal)
+    → Numbered (Fs ∷ Fss) view n → (x : Values Fs) (c : Choice Fss) → number_of (view (inl x)) ≡ number_of (view (inr c)) → ⊥
+distinct Fs Fss view n numbered x c equal =
+    let here = numbered.0 x in
+    let above = further Fss (λ d. view (inr d)) (suc n) numbered.1 c in omega (arith, here, above, equal)
 
 -- so two values are equal exactly if they are seen as the same
-equal_choices : (Fss : List (List Field)) (view : Choice Fss → meaning.Operation) (n : ℕ) (lines : Lines Fss view) → Placed Fss view n → (c d : Choice Fss)
+equal_choices : (Fss : List (List Field)) (view : Choice Fss → meaning.Operation) (n : ℕ) (lines : Lines Fss view) → Numbered Fss view n → (c d : Choice Fss)
     → IsTrue (by false false Fss (tests Fss view lines) c d) ↔ (view c ≡ view d)
-equal_choices [] view n lines placed c d = absurd c
-equal_choices ([] ∷ Fss) view n lines placed (inl x) (inl y) = same
-equal_choices ([] ∷ Fss) view n lines placed (inr c) (inr d) = equal_choices Fss (λ e. view (inr e)) (suc n) lines placed.1 c d
-equal_choices ((F ∷ Fs) ∷ Fss) view n lines placed (inl x) (inl y) = lines.0.decides x y
-equal_choices ((F ∷ Fs) ∷ Fss) view n lines placed (inr c) (inr d) = equal_choices Fss (λ e. view (inr e)) (suc n) lines.1 placed.1 c d
-equal_choices (Fs ∷ Fss) view n lines placed (inl x) (inr d) = never (λ e. distinct Fs Fss view n placed x d (ap place e))
-equal_choices (Fs ∷ Fss) view n lines placed (inr c) (inl y) = never (λ e. distinct Fs Fss view n placed y c (ap place (sym e)))
+equal_choices [] view n lines numbered c d = absurd c
+equal_choices ([] ∷ Fss) view n lines numbered (inl x) (inl y) = same
+equal_choices ([] ∷ Fss) view n lines numbered (inr c) (inr d) = equal_choices Fss (λ e. view (inr e)) (suc n) lines numbered.1 c d
+equal_choices ((F ∷ Fs) ∷ Fss) view n lines numbered (inl x) (inl y) = lines.0.decides x y
+equal_choices ((F ∷ Fs) ∷ Fss) view n lines numbered (inr c) (inr d) = equal_choices Fss (λ e. view (inr e)) (suc n) lines.1 numbered.1 c d
+equal_choices (Fs ∷ Fss) view n lines numbered (inl x) (inr d) = never (λ e. distinct Fs Fss view n numbered x d (ap number_of e))
+equal_choices (Fs ∷ Fss) view n lines numbered (inr c) (inl y) = never (λ e. distinct Fs Fss view n numbered y c (ap number_of (sym e)))
 
 module _ (O : RattleType) (o : partial_eq.Ghosts O.Denot) (p : Dict)
     (number : O.Denot → ℕ) (numbers : IsEqualityOf number o.eq) where
@@ -217,8 +158,8 @@ module _ (R O : RattleType)
         ⊳ line (λ x y. decided (numbers x.0.0 y.0.0) (λ h. cc) (λ h. cc))
         ⊳ tt
 
-    placed : Placed (code.the_parts R O) view 0
-    placed = assumption
+    numbered : Numbered (code.the_parts R O) view 1
+    numbered = assumption
 
     seen : (x : Operation R.Denot O.Denot) → view (code.as_values R O x) ≡ operation_of text number x
     seen x = ap (operation_of text number) (code.the_eta R O x)
@@ -228,5 +169,5 @@ module _ (R O : RattleType)
     unfolding lines
     equal_operations x y =
         let equal : IsTrue (are_operations_equal x y) ↔ (view (code.as_values R O x) ≡ view (code.as_values R O y)) =
-        equal_choices (code.the_parts R O) view 0 lines placed (code.as_values R O x) (code.as_values R O y) in
+        equal_choices (code.the_parts R O) view 1 lines numbered (code.as_values R O x) (code.as_values R O y) in
         (λ passes. sym (seen x) ∙ (equal.0 passes ∙ seen y), λ e. equal.1 (seen x ∙ (e ∙ sym (seen y))))

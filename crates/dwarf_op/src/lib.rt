@@ -4,6 +4,7 @@
 mod decoding;
 mod equality;
 mod locations;
+mod names;
 mod operands;
 mod operations;
 

@@ -13,6 +13,7 @@ use Rattle.dwarf_meaning.specs.Opcodes.{Row, Makes, Unsigned, Signed, Block, Inv
 use Rattle.dwarf_meaning.specs.Decoding.{operation_at}
 use Rattle.dwarf_meaning.specs.Spelling.{SpellsOperands, Spells}
 use Rattle.dwarf_meaning.specs.Spelling as spelling
+use Rattle.dwarf_op.specs.Names.{number_of}
 use Rattle.dwarf_meaning.proofs.DecodingFacts.{operation_begins}
 use Rattle.dwexpr_c.specs.CallerTexts.{IsAt}
 use Rattle.dwexpr_c.specs.CodedOperations.{Decodes, IsBlockAt, with_block, block_in, operands_of}
@@ -106,7 +107,7 @@ module _ (encoding : Encoding) (bits : ℕ) (big : Bool) (bytes : List ℕ) (off
 
   module _ (opcode : ℕ) where
     -- the place that is shown of an operation's block
-    placed_by : (op : Operation) (rest : List ℕ) (block : Option (List ℕ)) → offset < length bytes → operation_at encoding bits left ≡ Ok (op, rest) → block_in op ≡ block → (shown : DwexprOperation) → shown ≡ record (with_block (offset + (length left.bytes - length rest)) block (operands_of op)) { offset = offset; opcode = opcode; size = length left.bytes - length rest } → IfSome block (λ block. slice_range bytes shown.block_offset (shown.block_offset + shown.block_length) ≡ block)
+    placed_by : (op : Operation) (rest : List ℕ) (block : Option (List ℕ)) → offset < length bytes → operation_at encoding bits left ≡ Ok (op, rest) → block_in op ≡ block → (shown : DwexprOperation) → shown ≡ record (with_block (offset + (length left.bytes - length rest)) block (operands_of op)) { offset = offset; opcode = opcode; size = length left.bytes - length rest; kind = number_of op } → IfSome block (λ block. slice_range bytes shown.block_offset (shown.block_offset + shown.block_length) ≡ block)
     placed_by op rest None inside read e shown is = tt
     placed_by op rest (Some block) inside read e shown is =
         let at = block_at op rest block read e in

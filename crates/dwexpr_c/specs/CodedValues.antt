@@ -9,8 +9,8 @@ use Rattle.dwarf_value.specs.declared.types.ValueType.TheVariants as value_type
 use Rattle.dwexpr_c.specs.declared.values.DwexprValue.{DwexprValue}
 use Rattle.dwarf_base.specs.Faults.{Fault}
 use Rattle.dwexpr_c.specs.Codes.{code_of_fault}
-use Rattle.dwexpr_c.specs.CodedOperations.{binary_kind, unary_kind}
-use Rattle.dwexpr_c.specs.declared.kinds.TheConstants as kinds
+use Rattle.dwarf_meaning.specs.Operations.{Unary, Binary, Convert, Reinterpret}
+use Rattle.dwarf_op.specs.Names.{number_of}
 use Rattle.dwexpr_c.specs.declared.faults.TheConstants as codes
 use Rattle.dwexpr_c.specs.declared.types.TheConstants as types
 
@@ -77,13 +77,13 @@ Answers (Some (Ok value)) code shown = (code ≡ 0) × (shown ≡ shown_value va
 abbrev pub value_in : DwexprValue → Option Value
 value_in numbers = value_coded numbers.value_type numbers.content
 
--- ---- operations, by the codes of their kinds
+-- ---- operations, by their kinds, which are their numbers
 
 -- an operation on one value: that of the operator with this kind
 abbrev pub unary_coded : (operation w : ℕ) → Value → Computed
 unary_coded operation w x =
     option_map (λ operator. unary_of operator w x)
-    (find (λ operator. operation == unary_kind operator) (Abs ∷ Neg ∷ Not ∷ []))
+    (find (λ operator. operation == number_of (Unary operator)) (Abs ∷ Neg ∷ Not ∷ []))
 
 -- the same, if there is a value
 abbrev pub unary_in : (operation w : ℕ) → Option Value → Computed
@@ -94,7 +94,7 @@ unary_in operation w (Some x) = unary_coded operation w x
 abbrev pub binary_coded : (operation w : ℕ) → Value → Value → Computed
 binary_coded operation w x y =
     option_map (λ operator. binary_of operator w x y)
-    (find (λ operator. operation == binary_kind operator)
+    (find (λ operator. operation == number_of (Binary operator))
     (And ∷ Div ∷ Minus ∷ Mod ∷ Mul ∷ Or ∷ Plus ∷ Shl ∷ Shr
     ∷ Shra ∷ Xor ∷ Eq ∷ Ge ∷ Gt ∷ Le ∷ Lt ∷ Ne ∷ []))
 
@@ -107,8 +107,8 @@ binary_in operation w (Some x) (Some y) = binary_coded operation w x y
 -- a value converted to another type, by its number or by its bits
 abbrev pub conversion_of : (operation w : ℕ) → ValueType → Value → Computed
 conversion_of operation w t x =
-    if operation == kinds.CONVERT then Some (convert_of w t x)
-    else if operation == kinds.REINTERPRET then Some (reinterpret_of w t x)
+    if operation == number_of (Convert 0) then Some (convert_of w t x)
+    else if operation == number_of (Reinterpret 0) then Some (reinterpret_of w t x)
     else None
 
 -- the same, if there are a type and a value

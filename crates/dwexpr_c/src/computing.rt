@@ -8,12 +8,16 @@ ghost use Rattle.dwexpr_c.specs.CodedValues.{type_code, type_coded};
 
 use crate::encodings::order_of;
 use crate::faults::{BAD_VALUE, OK, numbers_of};
-use crate::kinds;
+use crate::operations::Bytes;
 use crate::values::{
     DwexprValue, NO_VALUE, code_of_type, numbers_of_value, type_of_code, value_of,
 };
-use dwarf_base::{DwAte, EndianSlice, Result, RunTimeEndian};
+use dwarf_base::{DwAte, EndianSlice, Result, RunTimeEndian, UnitOffset};
+use dwarf_op::Operation;
 use dwarf_value::{Value, ValueType, is_addr_mask};
+
+/// An operation on values. C names it by its number.
+type Operator = Operation<Bytes<'static>>;
 
 /// The value that these numbers stand for, if they stand for one.
 fn value_in(numbers: DwexprValue) -> Option<Value>
@@ -40,9 +44,9 @@ fn unary(operation: u32, value: Value, addr_mask: u64) -> Option<Result<Value>>
     ensures { result ≡ calls.unary_coded operation (width_of addr_mask) value }
 {
     Some(match operation {
-        kinds::ABS => value.abs(addr_mask),
-        kinds::NEG => value.neg(addr_mask),
-        kinds::NOT => value.not(addr_mask),
+        _ if operation == Operator::Abs.number() => value.abs(addr_mask),
+        _ if operation == Operator::Neg.number() => value.neg(addr_mask),
+        _ if operation == Operator::Not.number() => value.not(addr_mask),
         _ => return None,
     })
 }
@@ -52,23 +56,23 @@ fn binary(operation: u32, left: Value, right: Value, addr_mask: u64) -> Option<R
     ensures { result ≡ calls.binary_coded operation (width_of addr_mask) left right }
 {
     Some(match operation {
-        kinds::AND => left.and(right, addr_mask),
-        kinds::DIV => left.div(right, addr_mask),
-        kinds::MINUS => left.sub(right, addr_mask),
-        kinds::MOD => left.rem(right, addr_mask),
-        kinds::MUL => left.mul(right, addr_mask),
-        kinds::OR => left.or(right, addr_mask),
-        kinds::PLUS => left.add(right, addr_mask),
-        kinds::SHL => left.shl(right, addr_mask),
-        kinds::SHR => left.shr(right, addr_mask),
-        kinds::SHRA => left.shra(right, addr_mask),
-        kinds::XOR => left.xor(right, addr_mask),
-        kinds::EQ => left.eq(right, addr_mask),
-        kinds::GE => left.ge(right, addr_mask),
-        kinds::GT => left.gt(right, addr_mask),
-        kinds::LE => left.le(right, addr_mask),
-        kinds::LT => left.lt(right, addr_mask),
-        kinds::NE => left.ne(right, addr_mask),
+        _ if operation == Operator::And.number() => left.and(right, addr_mask),
+        _ if operation == Operator::Div.number() => left.div(right, addr_mask),
+        _ if operation == Operator::Minus.number() => left.sub(right, addr_mask),
+        _ if operation == Operator::Mod.number() => left.rem(right, addr_mask),
+        _ if operation == Operator::Mul.number() => left.mul(right, addr_mask),
+        _ if operation == Operator::Or.number() => left.or(right, addr_mask),
+        _ if operation == Operator::Plus.number() => left.add(right, addr_mask),
+        _ if operation == Operator::Shl.number() => left.shl(right, addr_mask),
+        _ if operation == Operator::Shr.number() => left.shr(right, addr_mask),
+        _ if operation == Operator::Shra.number() => left.shra(right, addr_mask),
+        _ if operation == Operator::Xor.number() => left.xor(right, addr_mask),
+        _ if operation == Operator::Eq.number() => left.eq(right, addr_mask),
+        _ if operation == Operator::Ge.number() => left.ge(right, addr_mask),
+        _ if operation == Operator::Gt.number() => left.gt(right, addr_mask),
+        _ if operation == Operator::Le.number() => left.le(right, addr_mask),
+        _ if operation == Operator::Lt.number() => left.lt(right, addr_mask),
+        _ if operation == Operator::Ne.number() => left.ne(right, addr_mask),
         _ => return None,
     })
 }
@@ -82,9 +86,15 @@ fn conversion(
     requires { IsAddressMask addr_mask }
     ensures { result ≡ calls.conversion_of operation (width_of addr_mask) value_type value }
 {
+    // Their numbers are the same for each type.
+    let base_type = UnitOffset(0);
     Some(match operation {
-        kinds::CONVERT => value.convert(value_type, addr_mask),
-        kinds::REINTERPRET => value.reinterpret(value_type, addr_mask),
+        _ if operation == Operator::Convert { base_type }.number() => value.convert(
+            value_type, addr_mask,
+        ),
+        _ if operation == Operator::Reinterpret { base_type }.number() => value.reinterpret(
+            value_type, addr_mask,
+        ),
         _ => return None,
     })
 }

@@ -13,7 +13,6 @@ mod evaluating;
 mod faults;
 mod held;
 mod holding;
-mod kinds;
 mod operations;
 mod outcomes;
 mod piece_kinds;

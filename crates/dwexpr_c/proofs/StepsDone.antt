@@ -28,7 +28,7 @@ use Rattle.dwexpr_c.specs.Outcomes.{answer_coded}
 use Rattle.dwexpr_c.specs.CallerTexts.{text_of_placed}
 use Rattle.dwexpr_c.specs.Held.{HasCapacities, HasDone}
 use Rattle.dwexpr_c.specs.declared.answers.DwexprAnswer.{DwexprAnswer}
-use Rattle.dwexpr_c.specs.declared.held.Held.{Held}
+use Rattle.dwexpr_c.specs.declared.memory.Held.{Held}
 use Rattle.dwexpr_c.specs.declared.outcomes.DwexprOutcome.{DwexprOutcome}
 use Rattle.dwexpr_c.specs.declared.pieces.DwexprPiece.{DwexprPiece}
 use Rattle.dwexpr_c.specs.declared.places.Placed.{Placed}

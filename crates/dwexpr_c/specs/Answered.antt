@@ -15,7 +15,7 @@ use Rattle.dwexpr_c.specs.Held.{HasDone}
 use Rattle.dwexpr_c.specs.Outcomes.{answer_coded, ended_outcome}
 use Rattle.dwexpr_c.specs.declared.answers.DwexprAnswer.{DwexprAnswer}
 use Rattle.dwexpr_c.specs.declared.faults.TheConstants as codes
-use Rattle.dwexpr_c.specs.declared.held.Held.{Held}
+use Rattle.dwexpr_c.specs.declared.memory.Held.{Held}
 use Rattle.dwexpr_c.specs.declared.outcomes.DwexprOutcome.{DwexprOutcome}
 use Rattle.dwexpr_c.specs.declared.pieces.DwexprPiece.{DwexprPiece}
 use Rattle.dwexpr_c.specs.declared.places.Placed.{Placed}

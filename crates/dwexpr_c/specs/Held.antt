@@ -13,7 +13,7 @@ use Rattle.dwarf_meaning.specs.Steps.{Log, Reply, Step}
 use Rattle.dwarf_replay.specs.Continuing.{Leaves, initial_items}
 use Rattle.dwarf_replay.specs.Replays.{AreDoneFrom, StandsAt}
 use Rattle.dwexpr_c.specs.Evaluated.{capacities, limited_setup, outcome_by}
-use Rattle.dwexpr_c.specs.declared.held.Held.{Held}
+use Rattle.dwexpr_c.specs.declared.memory.Held.{Held}
 
 -- the lists have the limits that the header names
 abbrev pub HasCapacities : State → Type 0

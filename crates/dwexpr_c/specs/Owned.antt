@@ -5,7 +5,7 @@ use Rattle.std.specs.Ptr.{Ptr, lies_at, room_at}
 use base.Fml.{Fml}
 use denote.RattleType.{RattleType}
 use denote.Signature.{static_lft}
-use Rattle.dwexpr_c.specs.contracts.held.Held.{the_row}
+use Rattle.dwexpr_c.specs.contracts.memory.Held.{the_row}
 
 -- an evaluation of texts that stay until the program ends
 abbrev pub held_row : RattleType

@@ -3,7 +3,7 @@ use Rattle.dwarf_meaning.specs.Inputs.{fresh_state}
 use Rattle.dwarf_meaning.specs.Refusals.{Limits}
 use Rattle.dwarf_meaning.specs.Stores.{setup_of}
 use Rattle.dwexpr_c.specs.CallerTexts.{text_of_placed}
-use Rattle.dwexpr_c.proofs.starting.restart.Goals as goal
+use Rattle.dwexpr_c.proofs.evaluations.restart.Goals as goal
 
 pub returns-clause-fresh : goal.returns-clause-fresh
 returns-clause-fresh c =

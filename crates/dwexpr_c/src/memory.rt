@@ -1,7 +1,7 @@
 //! An evaluation in the caller's memory.
 
 ghost use Rattle.std.specs.Prelude.{◌≡◌, Option, None, Some};
-ghost use Rattle.dwexpr_c.specs.declared.held.Held.{Held};
+ghost use Rattle.dwexpr_c.specs.declared.memory.Held.{Held};
 ghost use Rattle.dwexpr_c.specs.Held.{IsUnstarted};
 
 use crate::places::Placed;
@@ -78,7 +78,7 @@ impl DwexprEvaluation {
     ghost use Rattle.std.specs.Borrow.{Lends, sem};
     ghost use Rattle.dwexpr_c.specs.Held.{IsBegun};
     ghost use Rattle.dwexpr_c.specs.Owned.{held_row};
-    ghost use Rattle.dwexpr_c.specs.contracts.held.DwexprEvaluation.{the_row};
+    ghost use Rattle.dwexpr_c.specs.contracts.memory.DwexprEvaluation.{the_row};
 
     /// The evaluation.
     pub(crate) fn get(&mut self) -> &mut Held<'static>

@@ -1,5 +1,5 @@
 use Rattle.dwexpr_c.proofs.Shown.{evaluates}
-use Rattle.dwexpr_c.proofs.evaluating.evaluate.Goals as goal
+use Rattle.dwexpr_c.proofs.evaluations.evaluate.Goals as goal
 
 pub returns-clause-evaluates : goal.returns-clause-evaluates
 returns-clause-evaluates g c =

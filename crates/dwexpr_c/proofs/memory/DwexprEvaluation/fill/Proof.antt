@@ -27,13 +27,13 @@ use denote.Steps.{nothing, opens, closes, peeks, heard}
 use denote.Triple.Walked.{Stays, walk_of, says, stay_dropped, stay_ref, Goes-ref, ends_at}
 use Rattle.std.proofs.VecSteps.Shapes.{after}
 use Rattle.dwexpr_c.specs.Owned.{held_row, owned_at}
-use Rattle.dwexpr_c.specs.contracts.held.DwexprEvaluation as handle
-use Rattle.dwexpr_c.specs.contracts.held.Held.{the_row}
-use Rattle.dwexpr_c.specs.contracts.held.DwexprEvaluation.fill as f
-use Rattle.dwexpr_c.proofs.held.DwexprEvaluation.TheLaws.{lowers}
-use Rattle.dwexpr_c.proofs.held.Held.TheLaws.{the_row_laws}
-use Rattle.dwexpr_c.proofs.held.DwexprEvaluation.fill.Statement.{statement}
-use Rattle.dwexpr_c.proofs.held.DwexprEvaluation.fill.Code as code
+use Rattle.dwexpr_c.specs.contracts.memory.DwexprEvaluation as handle
+use Rattle.dwexpr_c.specs.contracts.memory.Held.{the_row}
+use Rattle.dwexpr_c.specs.contracts.memory.DwexprEvaluation.fill as f
+use Rattle.dwexpr_c.proofs.memory.DwexprEvaluation.TheLaws.{lowers}
+use Rattle.dwexpr_c.proofs.memory.Held.TheLaws.{the_row_laws}
+use Rattle.dwexpr_c.proofs.memory.DwexprEvaluation.fill.Statement.{statement}
+use Rattle.dwexpr_c.proofs.memory.DwexprEvaluation.fill.Code as code
 
 abbrev R : RattleType
 R = handle.the_row

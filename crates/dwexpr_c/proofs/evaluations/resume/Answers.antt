@@ -4,7 +4,7 @@ use Rattle.dwarf_meaning.specs.Stores.{Setup}
 use Rattle.dwexpr_c.specs.Outcomes.{answer_coded}
 use Rattle.dwexpr_c.proofs.KeptSetups.{replied_said}
 use Rattle.dwexpr_c.proofs.Shown.{taken}
-use Rattle.dwexpr_c.proofs.holding.resume.Goals as goal
+use Rattle.dwexpr_c.proofs.evaluations.resume.Goals as goal
 
 pub show_reply-requires : goal.show_reply-requires
 show_reply-requires c κs =

@@ -30,16 +30,16 @@ use denote.Struct.Owning.{shape}
 use denote.Struct.Struct.{within}
 use denote.Triple.Walked.{Stays, walk_of, says, stay_dropped, Goes-spent_ref, ends_at}
 use Rattle.std.proofs.VecSteps.Shapes.{after}
-use Rattle.dwexpr_c.specs.declared.held.DwexprEvaluation.{DwexprEvaluation}
-use Rattle.dwexpr_c.specs.contracts.held.DwexprEvaluation as handle
+use Rattle.dwexpr_c.specs.declared.memory.DwexprEvaluation.{DwexprEvaluation}
+use Rattle.dwexpr_c.specs.contracts.memory.DwexprEvaluation as handle
 use contract.Monad.{fact}
 use denote.Steps.{heard}
 use Rattle.dwexpr_c.specs.Held.{IsBegun}
 use Rattle.dwexpr_c.specs.Owned.{held_row, owned_at}
-use Rattle.dwexpr_c.specs.contracts.held.DwexprEvaluation.get as f
-use Rattle.dwexpr_c.proofs.held.DwexprEvaluation.TheLaws.{lowers}
-use Rattle.dwexpr_c.proofs.held.DwexprEvaluation.get.Statement.{statement}
-use Rattle.dwexpr_c.proofs.held.DwexprEvaluation.get.Code as code
+use Rattle.dwexpr_c.specs.contracts.memory.DwexprEvaluation.get as f
+use Rattle.dwexpr_c.proofs.memory.DwexprEvaluation.TheLaws.{lowers}
+use Rattle.dwexpr_c.proofs.memory.DwexprEvaluation.get.Statement.{statement}
+use Rattle.dwexpr_c.proofs.memory.DwexprEvaluation.get.Code as code
 
 abbrev R : RattleType
 R = handle.the_row

@@ -2,7 +2,7 @@ use Rattle.std.proofs.Common.{rules, subst}
 use Rattle.dwexpr_c.specs.Answered.{GoesOn}
 use Rattle.dwexpr_c.specs.Held.{IsBegun}
 use Rattle.dwexpr_c.proofs.StepsDone.{goes_on}
-use Rattle.dwexpr_c.proofs.holding.dwexpr_evaluation_resume.Goals as goal
+use Rattle.dwexpr_c.proofs.evaluations.dwexpr_evaluation_resume.Goals as goal
 
 pub returns-clause-goes_on : goal.returns-clause-goes_on
 returns-clause-goes_on c =

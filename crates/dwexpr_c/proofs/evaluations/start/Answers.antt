@@ -3,8 +3,8 @@ use Rattle.dwarf_meaning.specs.Inputs.{with_object, with_status}
 use Rattle.dwarf_meaning.specs.Rest.{Start, State, Status}
 use Rattle.dwarf_eval.specs.Evaluation.{IsClosed}
 use Rattle.dwexpr_c.proofs.SettingsDone.{Comes, starts}
-use Rattle.dwexpr_c.proofs.evaluating.start.Goals as goal
-use Rattle.dwexpr_c.proofs.evaluating.start.Goals.{then-settings-ne0, else-settings-ne0, then-settings-ne0-2, else-settings-ne0-2}
+use Rattle.dwexpr_c.proofs.evaluations.start.Goals as goal
+use Rattle.dwexpr_c.proofs.evaluations.start.Goals.{then-settings-ne0, else-settings-ne0, then-settings-ne0-2, else-settings-ne0-2}
 
 pub returns-clause-done : goal.returns-clause-done
 returns-clause-done g c =

@@ -16,10 +16,11 @@ use Rattle.dwarf_meaning.specs.Splitting.{ends, faults, goes_on}
 use Rattle.dwarf_meaning.proofs.DecodingFacts.{operation_begins}
 use Rattle.dwarf_meaning.proofs.OperationReads.{reads_operation}
 use Rattle.dwarf_meaning.proofs.Splittings.{splits_once}
+use Rattle.dwarf_op.specs.Names.{name_of}
 use Rattle.dwexpr.specs.Endings.{Ending}
 use Rattle.dwexpr.specs.inner.Outputs.{WritesEnding}
 use Rattle.dwexpr.specs.Lines.{fault_words}
-use Rattle.dwexpr.specs.Listing.{ListsOperations, listing, operation_name}
+use Rattle.dwexpr.specs.Listing.{ListsOperations, listing}
 use Rattle.dwexpr.specs.Writing.{AppendsFront, bytes_word, line}
 use Rattle.dwexpr.proofs.Printing.{begun, ends_beyond, ends_refused}
 
@@ -68,7 +69,7 @@ module _ (encoding : Encoding) (whole left : Text) (a b c : Option (List ℕ)) (
       (record more { text = before.printed ++ more.text }, before.lists more h, ends_beyond a b c before.printed more r before.written k)
 
   module _ (op : Operation) (rest : Text) (read : operation_at encoding 64 left ≡ Ok (op, rest.bytes)) (order : rest.is_big ≡ left.is_big)
-      (spelled name : List ℕ) (e : spelled ≡ take (length whole.bytes - length rest.bytes - place) (drop place whole.bytes)) (f : name ≡ operation_name op) where
+      (spelled name : List ℕ) (e : spelled ≡ take (length whole.bytes - length rest.bytes - place) (drop place whole.bytes)) (f : name ≡ name_of op) where
     abbrev pub first : List ℕ
     first = line (decimal place) (bytes_word spelled ∷ name ∷ [])
 

@@ -1,5 +1,5 @@
 -- Operations as a caller in C sees them: a kind, and numbers for the operands (DWARF 5, sections 2.5 and 2.6).
-use Rattle.std.specs.Prelude.{ℕ, ℤ, pos, Bool, true, false, List, Option, Some, None, ◌+◌, ◌-◌, ◌≡◌, Result, Ok, Err, IfOk, IfSome, length, slice_range}
+use Rattle.std.specs.Prelude.{ℕ, pos, Bool, true, false, List, Option, Some, None, ◌+◌, ◌-◌, ◌≡◌, Result, Ok, Err, IfOk, IfSome, length, slice_range}
 use Rattle.dwarf_meaning.specs.Operations as op
 use Rattle.dwexpr_c.specs.declared.operations.DwexprOperation.{DwexprOperation}
 use Rattle.dwarf_base.specs.Faults.{Fault}

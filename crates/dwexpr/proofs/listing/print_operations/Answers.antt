@@ -13,13 +13,13 @@ pub loop-left-preserved : goal.loop-left-preserved
 loop-left-preserved g c =
     let read = c.in-Ok.ensures.reads in
     one_listed c.args.context.encoding _ (slice_text c.loop-left.left) _ _ _ c.loop-left.invariant _ (slice_text c.parse.new.bytes) read.value read.order _ _
-    (rw (c.len.ensures, c.len-in-Ok.ensures) at c.new-spelling.ensures.bytes) c.name_of.ensures read.rest (rw c.len.ensures at c.in_ok-put_numbered_line-in-Ok.ensures)
+    (rw (c.len.ensures, c.len-in-Ok.ensures) at c.new-spelling.ensures.bytes) c.name.ensures read.rest (rw c.len.ensures at c.in_ok-put_numbered_line-in-Ok.ensures)
 
 pub returns-in_err-put_numbered_line-in-Ok : goal.returns-in_err-put_numbered_line-in-Ok
 returns-in_err-put_numbered_line-in-Ok g c =
     let read = c.in-Ok.ensures.reads in
     line_refused c.args.context.encoding _ (slice_text c.loop-left.left) _ _ _ c.loop-left.invariant _ (slice_text c.parse.new.bytes) read.value read.order _ _
-    (rw (c.len.ensures, c.len-in-Ok.ensures) at c.new-spelling.ensures.bytes) c.name_of.ensures _
+    (rw (c.len.ensures, c.len-in-Ok.ensures) at c.new-spelling.ensures.bytes) c.name.ensures _
     (rw c.len.ensures at c.in_err-put_numbered_line-in-Ok.ensures) c.from_residual.ensures
 
 pub returns-in_err-print_fault_at-in-Err : goal.returns-in_err-print_fault_at-in-Err

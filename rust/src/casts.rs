@@ -37,4 +37,4 @@ macro_rules! casts {
     )+};
 }
 
-casts! { u8 i8; u16 i16; u32 i32; u64 i64; u128 i128; usize isize; }
+casts! { u8 i8; u16 i16; u32 i32; u64 i64; usize isize; }

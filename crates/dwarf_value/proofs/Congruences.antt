@@ -1,5 +1,5 @@
 -- Integers that differ by a multiple of a number, and their residues.
-use Rattle.std.proofs.Common.{◌≡◌, ℕ, ◌+◌, ◌-◌, ◌*◌, ◌/◌, ◌%◌, ◌^◌, ◌<◌, ◌≤◌, ℤ, pos, negsuc, ◌+ℤ◌, ◌*ℤ◌, neg_ℤ, sym, ap, ◌∙◌, subst, refl, arith}
+use Rattle.std.proofs.Common.{◌≡◌, ℕ, ◌+◌, ◌-◌, ◌*◌, ◌/◌, ◌%◌, ◌^◌, ◌<◌, ◌≤◌, ℤ, pos, negsuc, ◌+ℤ◌, ◌-ℤ◌, ◌*ℤ◌, neg_ℤ, sym, ap, ◌∙◌, subst, refl, arith, Bool, true, false, if◌then◌else◌, nat_lt}
 use Rattle.std.proofs.lemmas.Int.{ints}
 use Rattle.std.proofs.lemmas.Nat.{pow_pos, mod_below, pow-add, mod-mul-add}
 use borrow.Author.Differences.{up, down, product_is}
@@ -10,7 +10,7 @@ use Rattle.dwarf_base.specs.Reads.{is_fixed_size}
 use Rattle.dwarf_value.specs.declared.types.Value.TheVariants.{Generic}
 use Rattle.dwarf_value.specs.declared.types.ValueType.{ValueType}
 use Rattle.dwarf_value.specs.declared.types.ValueType.TheVariants as kind
-use Rattle.dwarf_value.specs.Values.{value_of, bit_size_of}
+use Rattle.dwarf_value.specs.Values.{word_integer, value_of, bit_size_of}
 use Rattle.dwarf_value.proofs.MaskBits.{width_of-le, all_bits_mask, all_bits_width}
 
 -- they are equal once multiples of m are added to both
@@ -42,6 +42,16 @@ Congruent-mul m a b c p =
 pub Congruent-mul_left : (m : ℕ) (a b c : ℤ) → Congruent m a b → Congruent m (c *ℤ a) (c *ℤ b)
 Congruent-mul_left m a b c p =
     subst (λ t. Congruent m (c *ℤ a) t) (*ℤ_comm b c) (subst (λ t. Congruent m t (b *ℤ c)) (*ℤ_comm a c) (Congruent-mul m a b c p))
+
+-- a word's integer and its bits
+pub Congruent-bits : (signed : Bool) (k n : ℕ) → Congruent (2 ^ k) (word_integer signed k n) (pos n)
+unfolding word_integer
+Congruent-bits true k n = by_test (nat_lt n (2 ^ (k - 1)))
+  where
+    by_test : (b : Bool) → Congruent (2 ^ k) (if b then pos n else pos n -ℤ pos (2 ^ k)) (pos n)
+    by_test true = record { left = 0; right = 0; same = refl }
+    by_test false = record { left = 1; right = 0; same = omega (arith, ints) }
+Congruent-bits false k n = record { left = 0; right = 0; same = refl }
 
 -- modulo a divisor
 coarser : (m j : ℕ) (a b : ℤ) → Congruent (j * m) a b → Congruent m a b
@@ -94,30 +104,55 @@ byte_size-fixed t = refl
 pub ruleset byte_sizes = (byte_size-fixed, bit_size_of-le, all_bits_mask, all_bits_width)
 
 -- the lowest 64 bits of the integer are enough
-pub value_of-low : (g : ℕ) (t : ValueType) (z : ℤ) → g ≤ 64 → value_of g t (pos (residue 64 z)) ≡ value_of g t z
-value_of-low g t z h = same_value g t _ _ (Congruent-lower _ 64 _ _ (bit_size_of-le g t h) (Congruent-residue 64 z))
+value_of-bits : (g : ℕ) (t : ValueType) (n : ℕ) (z : ℤ) → g ≤ 64 → Congruent (2 ^ 64) (pos n) z → value_of g t (pos n) ≡ value_of g t z
+value_of-bits g t n z h c = same_value g t _ _ (Congruent-lower _ 64 _ _ (bit_size_of-le g t h) c)
 
--- the product of residues
-pub residue-mul : (x y : ℤ) → residue 64 x * residue 64 y % 2 ^ 64 ≡ residue 64 (x *ℤ y)
-residue-mul x y =
-    let a = residue 64 x in let b = residue 64 y in
-    let first : Congruent (2 ^ 64) (pos a *ℤ pos b) (x *ℤ pos b) = Congruent-mul (2 ^ 64) (pos a) x (pos b) (Congruent-residue 64 x) in
-    let second : Congruent (2 ^ 64) (x *ℤ pos b) (x *ℤ y) = Congruent-mul_left (2 ^ 64) (pos b) y x (Congruent-residue 64 y) in
-    residue-Congruent 64 (pos (a * b)) _ (Congruent-trans _ _ _ _ first second)
+pub value_of-low : (g : ℕ) (t : ValueType) (z : ℤ) → g ≤ 64 → value_of g t (pos (residue 64 z)) ≡ value_of g t z
+value_of-low g t z h = value_of-bits g t (residue 64 z) z h (Congruent-residue 64 z)
 
 pub ruleset low_bits_only = (value_of-low, width_of-le, all_bits_mask, all_bits_width)
 
-pub value_of-product : (g : ℕ) (t : ValueType) (x y : ℤ) → g ≤ 64 → value_of g t (pos (residue 64 x * residue 64 y % 2 ^ 64)) ≡ value_of g t (x *ℤ y)
-value_of-product g t x y h = ap (λ r. value_of g t (pos r)) (residue-mul x y) ∙ value_of-low g t (x *ℤ y) h
+-- a number that is congruent to the integer, cut to 64 bits
+value_of-wrapped : (g : ℕ) (t : ValueType) (n : ℕ) (z : ℤ) → g ≤ 64 → Congruent (2 ^ 64) (pos n) z → value_of g t (pos (n % 2 ^ 64)) ≡ value_of g t z
+value_of-wrapped g t n z h c = value_of-bits g t (n % 2 ^ 64) z h (Congruent-trans _ _ _ _ (Congruent-residue 64 (pos n)) c)
 
-pub ruleset products = (value_of-product, width_of-le)
+module _ (g : ℕ) (t : ValueType) (x y : ℤ) (within : g ≤ 64) where
+  pub value_of-sum : value_of g t (pos ((residue 64 x + residue 64 y) % 2 ^ 64)) ≡ value_of g t (x +ℤ y)
+  value_of-sum =
+      let a = residue 64 x in let b = residue 64 y in
+      value_of-wrapped g t (a + b) (x +ℤ y) within (Congruent-add (2 ^ 64) (pos a) x (pos b) y (Congruent-residue 64 x) (Congruent-residue 64 y))
 
--- a residue shifted to the left
-residue-shifted : (x : ℤ) (n : ℕ) → residue 64 x * 2 ^ n % 2 ^ 64 ≡ residue 64 (x *ℤ pos (2 ^ n))
-residue-shifted x n =
-    residue-Congruent 64 (pos (residue 64 x * 2 ^ n)) (x *ℤ pos (2 ^ n)) (Congruent-mul (2 ^ 64) (pos (residue 64 x)) x (pos (2 ^ n)) (Congruent-residue 64 x))
+  pub value_of-difference : value_of g t (pos ((residue 64 x + (2 ^ 64 - residue 64 y)) % 2 ^ 64)) ≡ value_of g t (x -ℤ y)
+  value_of-difference =
+      let p = Congruent-residue 64 x in let q = Congruent-residue 64 y in let b = residue_below 64 y in
+      value_of-wrapped g t (residue 64 x + (2 ^ 64 - residue 64 y)) (x -ℤ y) within
+      (record { left = p.left + q.right; right = p.right + q.left + 1; same = omega (arith, ints, p.same, q.same) })
+
+  pub value_of-product : value_of g t (pos (residue 64 x * residue 64 y % 2 ^ 64)) ≡ value_of g t (x *ℤ y)
+  value_of-product =
+      let a = residue 64 x in let b = residue 64 y in
+      value_of-wrapped g t (a * b) (x *ℤ y) within
+      (Congruent-trans (2 ^ 64) (pos a *ℤ pos b) (x *ℤ pos b) _ (Congruent-mul _ _ _ _ (Congruent-residue 64 x)) (Congruent-mul_left _ _ _ _ (Congruent-residue 64 y)))
+
+pub ruleset wrapped = (value_of-sum, value_of-difference, value_of-product, width_of-le)
+
+-- the bits of a negated integer, and their complement
+module _ (g : ℕ) (t : ValueType) (x : ℤ) (within : g ≤ 64) where
+  pub value_of-negated : (n : ℕ) → (n + residue 64 x) % 2 ^ 64 ≡ 0 → value_of g t (pos n) ≡ value_of g t (neg_ℤ x)
+  value_of-negated n e =
+      let p = Congruent-residue 64 x in
+      value_of-bits g t n (neg_ℤ x) within (record { left = p.right; right = p.left + (n + residue 64 x) / 2 ^ 64; same = omega (arith, ints, p.same, e) })
+
+  pub value_of-complement : value_of g t (pos (2 ^ 64 - 1 - residue 64 x)) ≡ value_of g t (neg_ℤ x -ℤ pos 1)
+  value_of-complement =
+      let p = Congruent-residue 64 x in let b = residue_below 64 x in
+      value_of-bits g t (2 ^ 64 - 1 - residue 64 x) (neg_ℤ x -ℤ pos 1) within (record { left = p.right; right = p.left + 1; same = omega (arith, ints, p.same) })
+
+pub ruleset negated = (value_of-negated, value_of-complement)
 
 pub value_of-shifted : (t : ValueType) (x : ℤ) (n : ℕ) → value_of 64 t (pos (residue 64 x * 2 ^ n % 2 ^ 64)) ≡ value_of 64 t (x *ℤ pos (2 ^ n))
-value_of-shifted t x n = ap (λ r. value_of 64 t (pos r)) (residue-shifted x n) ∙ value_of-low 64 t (x *ℤ pos (2 ^ n)) (omega arith)
+value_of-shifted t x n =
+    value_of-wrapped 64 t (residue 64 x * 2 ^ n) (x *ℤ pos (2 ^ n)) (omega arith)
+    (Congruent-mul (2 ^ 64) (pos (residue 64 x)) x (pos (2 ^ n)) (Congruent-residue 64 x))
 
 pub ruleset left_shifts = (value_of-shifted, bit_size_of-le, width_of-le)

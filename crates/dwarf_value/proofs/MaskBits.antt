@@ -57,10 +57,8 @@ pub not-IsAddressMask-zero : IsAddressMask 0 → ⊥
 not-IsAddressMask-zero m = let p = pow_below 0 (width_of 0) m.some_bit in omega (arith, m.low_ones)
 
 -- the lowest bits, by the mask of this many ones
-pub and-address_mask : (n mask : ℕ) → IsAddressMask mask → bit_and n mask ≡ n % 2 ^ width_of mask
-and-address_mask n mask is_mask = ap (bit_and n) is_mask.low_ones ∙ and_mask n (width_of mask)
-
-pub ruleset low_bits_by_mask = (and-address_mask)
+pub and_address_mask : (n mask : ℕ) → IsAddressMask mask → bit_and n mask ≡ n % 2 ^ width_of mask
+and_address_mask n mask is_mask = ap (bit_and n) is_mask.low_ones ∙ and_mask n (width_of mask)
 
 -- all 64 bits
 pub all_bits_mask : IsAddressMask 18446744073709551615

@@ -1,5 +1,5 @@
 -- The laws of values.
-use Rattle.std.proofs.Common.{eq-eqb, ◌≡◌, ◌≢◌, ℕ, ◌+◌, ◌-◌, ◌*◌, ◌%◌, ◌^◌, ◌<◌, ◌≤◌, ℤ, pos, negsuc, neg_ℤ, ◌-ℤ◌, ◌≤ℤ◌, ◌<ℤ◌, Bool, true, false, if◌then◌else◌, refl, sym, ap, ◌∙◌, subst, arith, nat_lt, nat_le, ◌+ℤ◌, ◌*ℤ◌, Ok, inl, inr}
+use Rattle.std.proofs.Common.{eq-eqb, ◌≡◌, ◌≢◌, ℕ, ◌-◌, ◌*◌, ◌%◌, ◌^◌, ◌<◌, ◌≤◌, ℤ, pos, negsuc, neg_ℤ, ◌-ℤ◌, ◌≤ℤ◌, ◌<ℤ◌, Bool, true, false, refl, sym, ap, ◌∙◌, subst, arith, nat_lt, nat_le, ◌+ℤ◌, ◌*ℤ◌, Ok, inl, inr}
 use Rattle.std.proofs.lemmas.Int.{ints, quot-rem}
 use Rattle.std.proofs.lemmas.Bool.Decides.{nat_tests}
 use native.Mathlib.Nat.{mod-eq_of_lt}
@@ -10,7 +10,7 @@ use Rattle.dwarf_value.specs.declared.types.ValueType.{ValueType}
 use Rattle.dwarf_value.specs.declared.types.ValueType.TheVariants as kind
 use Rattle.dwarf_value.specs.Values.{shape_of, type_of, bit_size_of, word_integer, integer_of, unsigned_integer, value_of, Agree, is_same, is_signed, signed_integer, to_u64_of, from_u64_of, reinterpret_of}
 use Rattle.dwarf_value.specs.Laws.{InRange, IsWidth, Trichotomy, Opposites, QuotientAndRemainder, NegateTwice, NegateTwiceGeneric, ReinterpretTwice, AgreeingResults, values, errors, AgreementIsKept}
-use Rattle.dwarf_value.proofs.Congruences.{Congruent, Congruent-sym, Congruent-residue, residue-lower, Congruent-trans, Congruent-add, Congruent-neg, Congruent-mul, Congruent-lower, bit_size_of-le, same_value}
+use Rattle.dwarf_value.proofs.Congruences.{Congruent, Congruent-bits, Congruent-sym, Congruent-residue, residue-lower, Congruent-trans, Congruent-add, Congruent-neg, Congruent-mul, Congruent-lower, bit_size_of-le, same_value}
 use Rattle.dwarf_value.proofs.Agreements.{Agree-refl, Agree-trans, Agree-Generic, Agree-residues, to_u64_of-Agree, convert_of-Agree, add_of_constant-Agree, unary_of-Agree, binary_of-Agree}
 use Rattle.std.specs.Prelude.{int_lt, int_le, ◌==◌}
 use Rattle.std.specs.Ordering.{int_eq}
@@ -28,19 +28,8 @@ unfolding type_of value_of
 type_of-value_of g kind.Generic z = refl
 type_of-value_of g t z = refl
 
-Congruent-signed : (k : ℕ) (z : ℤ) → Congruent (2 ^ k) (signed_of k (residue k z)) z
-Congruent-signed k z = by_test (nat_lt (residue k z) (2 ^ (k - 1)))
-  where
-    by_test : (b : Bool) → Congruent (2 ^ k) (if b then pos (residue k z) else pos (residue k z) -ℤ pos (2 ^ k)) z
-    by_test true = Congruent-residue k z
-    by_test false =
-        let c = Congruent-residue k z in
-        record { left = c.left + 1; right = c.right; same = omega (arith, ints, c.same) }
-
 Congruent-word : (signed : Bool) (k : ℕ) (z : ℤ) → Congruent (2 ^ k) (word_integer signed k (residue k z)) z
-unfolding word_integer
-Congruent-word true k z = Congruent-signed k z
-Congruent-word false k z = Congruent-residue k z
+Congruent-word signed k z = Congruent-trans _ _ _ _ (Congruent-bits signed k (residue k z)) (Congruent-residue k z)
 
 pub integer_of-value_of : (signed : Bool) (g w : ℕ) (t : ValueType) (z : ℤ) → w ≤ g → Congruent (2 ^ bit_size_of w t) (integer_of signed w (value_of g t z)) z
 unfolding word_integer integer_of value_of bit_size_of

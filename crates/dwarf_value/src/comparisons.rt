@@ -15,7 +15,7 @@ impl Value {
         ensures { result ≡ binary_of Eq (width_of addr_mask) self rhs }
     {
         let (_, x, y) = self.operands(rhs, addr_mask, true)?;
-        Ok(Value::Generic(u64::from(x == y)))
+        Ok(Value::Generic(u64::from(x.sort_key() == y.sort_key())))
     }
 
     /// Whether it is at least `rhs`, as the generic 1 or 0 (`DW_OP_ge`). Generic values are signed integers here.
@@ -28,7 +28,7 @@ impl Value {
         ensures { result ≡ binary_of Ge (width_of addr_mask) self rhs }
     {
         let (_, x, y) = self.operands(rhs, addr_mask, true)?;
-        Ok(Value::Generic(u64::from(x >= y)))
+        Ok(Value::Generic(u64::from(x.sort_key() >= y.sort_key())))
     }
 
     /// Whether it is above `rhs`, as the generic 1 or 0 (`DW_OP_gt`). Generic values are signed integers here.
@@ -41,7 +41,7 @@ impl Value {
         ensures { result ≡ binary_of Gt (width_of addr_mask) self rhs }
     {
         let (_, x, y) = self.operands(rhs, addr_mask, true)?;
-        Ok(Value::Generic(u64::from(x > y)))
+        Ok(Value::Generic(u64::from(x.sort_key() > y.sort_key())))
     }
 
     /// Whether it is at most `rhs`, as the generic 1 or 0 (`DW_OP_le`). Generic values are signed integers here.
@@ -54,7 +54,7 @@ impl Value {
         ensures { result ≡ binary_of Le (width_of addr_mask) self rhs }
     {
         let (_, x, y) = self.operands(rhs, addr_mask, true)?;
-        Ok(Value::Generic(u64::from(x <= y)))
+        Ok(Value::Generic(u64::from(x.sort_key() <= y.sort_key())))
     }
 
     /// Whether it is below `rhs`, as the generic 1 or 0 (`DW_OP_lt`). Generic values are signed integers here.
@@ -67,7 +67,7 @@ impl Value {
         ensures { result ≡ binary_of Lt (width_of addr_mask) self rhs }
     {
         let (_, x, y) = self.operands(rhs, addr_mask, true)?;
-        Ok(Value::Generic(u64::from(x < y)))
+        Ok(Value::Generic(u64::from(x.sort_key() < y.sort_key())))
     }
 
     /// Whether the two differ, as the generic 1 or 0 (`DW_OP_ne`). Generic values are signed integers here.
@@ -80,6 +80,6 @@ impl Value {
         ensures { result ≡ binary_of Ne (width_of addr_mask) self rhs }
     {
         let (_, x, y) = self.operands(rhs, addr_mask, true)?;
-        Ok(Value::Generic(u64::from(x != y)))
+        Ok(Value::Generic(u64::from(x.sort_key() != y.sort_key())))
     }
 }

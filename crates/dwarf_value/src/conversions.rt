@@ -2,7 +2,6 @@ ghost use Rattle.std.specs.Prelude.{◌≡◌, Ok};
 ghost use Rattle.dwarf_base.specs.Faults.{Returns};
 ghost use Rattle.dwarf_value.specs.Values.{IsAddressMask, width_of, parse_of, to_u64_of, from_u64_of, convert_of, reinterpret_of};
 
-use crate::parts::low_bits;
 use crate::types::{Value, ValueType};
 use dwarf_base::{Error, Reader, Result};
 
@@ -34,8 +33,8 @@ impl Value {
         requires { IsAddressMask addr_mask }
         ensures { result ≡ Ok (to_u64_of (width_of addr_mask) self) }
     {
-        let (_, integer) = self.parts(addr_mask, false);
-        Ok(low_bits(integer))
+        let (_, word) = self.parts(addr_mask, false);
+        Ok(word.bits)
     }
 
     /// The number as a value of the type, wrapped to its size. It never fails.

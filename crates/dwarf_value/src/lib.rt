@@ -10,6 +10,7 @@ mod masks;
 mod parts;
 mod shifts;
 mod types;
+mod word;
 
 pub use laws::{equality_laws, value_laws};
 pub use masks::is_addr_mask;

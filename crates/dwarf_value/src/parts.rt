@@ -1,87 +1,86 @@
-//! Values as types and integers.
+//! Values as types and words.
 
-ghost use Rattle.std.specs.Prelude.{◌≡◌, ◌^◌, ◌%◌, pos, neg_ℤ, ◌≤ℤ◌, ◌<ℤ◌, MatchResult};
+ghost use Rattle.std.specs.Prelude.{◌≡◌, ◌^◌, ◌%◌, pos, MatchResult};
 ghost use Rattle.dwarf_base.specs.Numbers.{residue};
 ghost use Rattle.dwarf_value.specs.inner.OperandPairs.{AreOperands, UnfitOperands};
-ghost use Rattle.dwarf_value.specs.Values.{IsAddressMask, width_of, word_integer, type_of, integer_of, value_of};
+ghost use Rattle.dwarf_value.specs.Values.{IsAddressMask, width_of, word_integer, type_of, bit_size_of, is_signed, integer_of, value_of};
 
 use crate::types::{Value, ValueType};
+use crate::word::Word;
 use dwarf_base::{Error, Result};
 
-/// The integer of a generic value: its lowest bits, as many as an address has, as a signed or an unsigned number.
-#[tactic(auto, using(crate::proofs::MaskBits::low_bits_by_mask))]
+/// The type of two values, and their words.
+pub(crate) type Operands = (ValueType, Word, Word);
+
+/// The integer of a generic value, modulo 2^64: its lowest bits, as many as an address has, as a signed or an unsigned
+/// number.
+#[tactic(auto, using(crate::proofs::Integers::generic_integers))]
 #[inline(always)]
-fn generic_integer(content: u64, addr_mask: u64, signed: bool) -> i128
+fn generic_bits(content: u64, addr_mask: u64, signed: bool) -> u64
     requires { IsAddressMask addr_mask }
-    ensures value { result ≡ word_integer signed (width_of addr_mask) (content % 2 ^ width_of addr_mask) }
-    ensures least { neg_ℤ (pos (2 ^ 63)) ≤ℤ result }
-    ensures most { result <ℤ pos (2 ^ 64) }
+    ensures { word_integer signed 64 result
+        ≡ word_integer signed (width_of addr_mask) (content % 2 ^ width_of addr_mask) }
 {
     let bits = content & addr_mask;
-    if !signed {
-        return bits as i128;
-    }
-    let above = if bits > addr_mask >> 1 { !addr_mask } else { 0 };
-    (bits + above).cast_signed() as i128
-}
-
-/// The integer modulo 2^64.
-#[inline(always)]
-pub(crate) fn low_bits(integer: i128) -> u64
-    ensures { result ≡ residue 64 integer }
-{
-    (integer.cast_unsigned() & 0xffff_ffff_ffff_ffff) as u64
+    let is_negative = signed && bits > addr_mask >> 1;
+    if is_negative { bits + !addr_mask } else { bits }
 }
 
 impl Value {
-    /// The type and the integer of a value. A generic value is cut to the bits of an address, and is `signed` or not.
-    #[tactic(auto, unfolding(crate::specs::Values::type_of, crate::specs::Values::integer_of))]
+    /// The type and the word of a value. A generic value is cut to the bits of an address, and is `signed` or not.
+    #[tactic(auto, unfolding(crate::specs::Values::width_of, crate::specs::Values::type_of, crate::specs::Values::bit_size_of, crate::specs::Values::is_signed, crate::specs::Values::integer_of, crate::specs::Values::word_integer), using(crate::proofs::Integers::word_bits))]
     #[inline(always)]
-    pub(crate) fn parts(self, addr_mask: u64, signed: bool) -> (ValueType, i128)
+    pub(crate) fn parts(self, addr_mask: u64, signed: bool) -> (ValueType, Word)
         requires { IsAddressMask addr_mask }
         ensures value_type { result.0 ≡ type_of self }
-        ensures integer { result.1 ≡ integer_of signed (width_of addr_mask) self }
-        ensures least { neg_ℤ (pos (2 ^ 63)) ≤ℤ result.1 }
-        ensures most { result.1 <ℤ pos (2 ^ 64) }
+        ensures width { result.1.width ≡ bit_size_of (width_of addr_mask) (type_of self) }
+        ensures signed { result.1.signed ≡ is_signed signed (type_of self) }
+        ensures bits { result.1.bits ≡ residue 64 (integer_of signed (width_of addr_mask) self) }
+        ensures integer { word_integer result.1.signed 64 result.1.bits
+            ≡ integer_of signed (width_of addr_mask) self }
     {
-        match self {
-            Value::Generic(x) => (ValueType::Generic, generic_integer(x, addr_mask, signed)),
-            Value::I8(x) => (ValueType::I8, i128::from(x)),
-            Value::U8(x) => (ValueType::U8, i128::from(x)),
-            Value::I16(x) => (ValueType::I16, i128::from(x)),
-            Value::U16(x) => (ValueType::U16, i128::from(x)),
-            Value::I32(x) => (ValueType::I32, i128::from(x)),
-            Value::U32(x) => (ValueType::U32, i128::from(x)),
-            Value::I64(x) => (ValueType::I64, i128::from(x)),
-            Value::U64(x) => (ValueType::U64, i128::from(x)),
-        }
+        let (value_type, bits, width, signed) = match self {
+            Value::Generic(x) => {
+                let bits = generic_bits(x, addr_mask, signed);
+                (ValueType::Generic, bits, addr_mask.count_ones(), signed)
+            }
+            Value::I8(x) => (ValueType::I8, i64::from(x).cast_unsigned(), 8, true),
+            Value::U8(x) => (ValueType::U8, u64::from(x), 8, false),
+            Value::I16(x) => (ValueType::I16, i64::from(x).cast_unsigned(), 16, true),
+            Value::U16(x) => (ValueType::U16, u64::from(x), 16, false),
+            Value::I32(x) => (ValueType::I32, i64::from(x).cast_unsigned(), 32, true),
+            Value::U32(x) => (ValueType::U32, u64::from(x), 32, false),
+            Value::I64(x) => (ValueType::I64, x.cast_unsigned(), 64, true),
+            Value::U64(x) => (ValueType::U64, x, 64, false),
+        };
+        let word = Word {
+            bits,
+            width,
+            signed,
+        };
+        (value_type, word)
     }
 
-    /// The type of two values, and their integers. `TypeMismatch` if the types differ. A generic value is cut to the
-    /// bits of an address, and is `signed` or not.
+    /// The type of two values, and their words. `TypeMismatch` if the types differ. A generic value is cut to the bits
+    /// of an address, and is `signed` or not.
     #[tactic(auto, unfolding(crate::specs::Values::is_same))]
     #[inline(always)]
-    pub(crate) fn operands(
-        self,
-        rhs: Value,
-        addr_mask: u64,
-        signed: bool,
-    ) -> Result<(ValueType, i128, i128)>
+    pub(crate) fn operands(self, rhs: Value, addr_mask: u64, signed: bool) -> Result<Operands>
         requires { IsAddressMask addr_mask }
         ensures { MatchResult result
             (λ r. AreOperands signed (width_of addr_mask) self rhs r.0 r.1 r.2)
             (UnfitOperands self rhs) }
     {
-        let (value_type, x) = self.parts(addr_mask, signed);
-        let (other, y) = rhs.parts(addr_mask, signed);
-        if value_type != other {
+        if self.value_type() != rhs.value_type() {
             return Err(Error::TypeMismatch);
         }
+        let (value_type, x) = self.parts(addr_mask, signed);
+        let (_, y) = rhs.parts(addr_mask, signed);
         Ok((value_type, x, y))
     }
 
     /// The lowest bits, as a value of this type. A generic value is cut to the bits of an address.
-    #[tactic(auto, unfolding(crate::specs::Values::value_of), using(crate::proofs::MaskBits::low_bits_by_mask))]
+    #[tactic(auto, unfolding(crate::specs::Values::value_of), using(crate::proofs::MaskBits::and_address_mask))]
     #[inline(always)]
     pub(crate) fn make(value_type: ValueType, bits: u64, addr_mask: u64) -> Value
         requires { IsAddressMask addr_mask }

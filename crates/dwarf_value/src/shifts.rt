@@ -4,7 +4,6 @@ ghost use Rattle.std.specs.Prelude.{◌≡◌, ◌^◌, pos, neg_ℤ, ◌≤ℤ�
 ghost use Rattle.dwarf_value.specs.inner.OperandPairs.{IsLength, UnfitLength};
 ghost use Rattle.dwarf_value.specs.Values.{IsAddressMask, width_of, floor_quotient, binary_of, Shl, Shr, Shra};
 
-use crate::parts::low_bits;
 use crate::types::Value;
 use dwarf_base::{Error, Result};
 
@@ -20,11 +19,11 @@ impl Value {
         ensures { result ≡ binary_of Shl (width_of addr_mask) self rhs }
     {
         let length = rhs.shift_length(addr_mask)?;
-        let (value_type, integer) = self.parts(addr_mask, false);
-        if length >= u64::from(value_type.bit_size(addr_mask)) {
+        let (value_type, word) = self.parts(addr_mask, false);
+        if length >= u64::from(word.width) {
             return Value::from_u64(value_type, 0);
         }
-        Value::from_u64(value_type, low_bits(integer) << length)
+        Value::from_u64(value_type, word.bits << length)
     }
 
     /// Shifts to the right by a length of any type, and fills with zeros (`DW_OP_shr`). A generic value is an unsigned
@@ -33,18 +32,21 @@ impl Value {
     /// `InvalidShiftExpression` if the length is negative; else `UnsupportedTypeOperation` for a signed type.
     ///
     /// `addr_mask` has a one for each bit of an address; [`is_addr_mask`](crate::is_addr_mask) checks that.
-    #[tactic(auto, using(crate::proofs::Congruences::low_bits_only))]
+    #[tactic(auto, unfolding(crate::specs::Values::word_integer), using(crate::proofs::Integers::shifted_out))]
     #[inline(always)]
     pub fn shr(self, rhs: Value, addr_mask: u64) -> Result<Value>
         requires { IsAddressMask addr_mask }
         ensures { result ≡ binary_of Shr (width_of addr_mask) self rhs }
     {
         let length = rhs.shift_length(addr_mask)?;
-        let (value_type, integer) = self.parts(addr_mask, false);
-        if value_type.is_signed(false) {
+        let (value_type, word) = self.parts(addr_mask, false);
+        if word.signed {
             return Err(Error::UnsupportedTypeOperation);
         }
-        Value::from_u64(value_type, low_bits(shifted_right(integer, length)))
+        if length >= 64 {
+            return Value::from_u64(value_type, 0);
+        }
+        Value::from_u64(value_type, word.bits >> length)
     }
 
     /// Shifts to the right by a length of any type, and fills with copies of the sign (`DW_OP_shra`). A generic value
@@ -53,18 +55,18 @@ impl Value {
     /// `InvalidShiftExpression` if the length is negative; else `UnsupportedTypeOperation` for an unsigned type.
     ///
     /// `addr_mask` has a one for each bit of an address; [`is_addr_mask`](crate::is_addr_mask) checks that.
-    #[tactic(auto, using(crate::proofs::Congruences::low_bits_only))]
     #[inline(always)]
     pub fn shra(self, rhs: Value, addr_mask: u64) -> Result<Value>
         requires { IsAddressMask addr_mask }
         ensures { result ≡ binary_of Shra (width_of addr_mask) self rhs }
     {
         let length = rhs.shift_length(addr_mask)?;
-        let (value_type, integer) = self.parts(addr_mask, true);
-        if !value_type.is_signed(true) {
+        let (value_type, word) = self.parts(addr_mask, true);
+        if !word.signed {
             return Err(Error::UnsupportedTypeOperation);
         }
-        Value::from_u64(value_type, low_bits(shifted_right(integer, length)))
+        let bits = (word.bits.cast_signed() >> length.min(63)).cast_unsigned();
+        Value::from_u64(value_type, bits)
     }
 
     /// The length of a shift by this value. `InvalidShiftExpression` if it is negative.
@@ -75,19 +77,9 @@ impl Value {
             (UnfitLength (width_of addr_mask) self) }
     {
         let (_, length) = self.parts(addr_mask, false);
-        if length < 0 {
+        if length.is_negative() {
             return Err(Error::InvalidShiftExpression);
         }
-        Ok(length as u64)
+        Ok(length.magnitude())
     }
-}
-
-/// Divides an integer of 64 bits by 2^`length`, and rounds down.
-#[inline(always)]
-fn shifted_right(integer: i128, length: u64) -> i128
-    requires least { neg_ℤ (pos (2 ^ 64)) ≤ℤ integer }
-    requires most { integer <ℤ pos (2 ^ 64) }
-    ensures { result ≡ floor_quotient integer (2 ^ length) }
-{
-    integer >> length.min(64)
 }

@@ -84,19 +84,6 @@ impl ValueType {
         }
     }
 
-    /// Whether the type is signed; the generic type is if `generic` says so.
-    #[tactic(auto, unfolding(crate::specs::Values::is_signed))]
-    #[inline(always)]
-    pub(crate) fn is_signed(self, generic: bool) -> bool
-        ensures { result ≡ is_signed generic self }
-    {
-        match self {
-            ValueType::Generic => generic,
-            ValueType::I8 | ValueType::I16 | ValueType::I32 | ValueType::I64 => true,
-            ValueType::U8 | ValueType::U16 | ValueType::U32 | ValueType::U64 => false,
-        }
-    }
-
     /// The type of values for a base type with this encoding and this size in bytes (DWARF 5, sections 5.1 and 7.8).
     /// `None` unless the encoding is `DW_ATE_signed` or `DW_ATE_unsigned` and the size is 1, 2, 4 or 8.
     pub fn from_encoding(encoding: DwAte, byte_size: u64) -> Option<ValueType>

@@ -1,6 +1,6 @@
 -- What a call of an evaluation replies, by the meaning of the expression, and where the evaluation then stands.
 pub use Rattle.dwarf_meaning.specs.Inputs.{fresh_state, input_of, Keeps, with_status, with_object, with_maximum}
-use Rattle.std.specs.Prelude.{ℕ, ◌≡◌, List, [], Option, Some, None, Result, Ok, Err}
+use Rattle.std.specs.Prelude.{ℕ, ◌≡◌, ◌<◌, ◌≤◌, List, [], Option, Some, None, Result, Ok, Err}
 use Rattle.std.specs.Option.{option_map_or}
 use Rattle.dwarf_base.specs.declared.errors.Error.{Error}
 use Rattle.dwarf_base.specs.Faults.{fault_of}
@@ -80,6 +80,10 @@ module _ {R O : Type 0} (text : R → Text) (number : O → ℕ) where
       Follows old (total_after old input) (reply_of text number replied) new
   Resumes input old new replied (FaultStatus error) = (replied ≡ Err error) × (new ≡ old)
   Resumes input old new replied _ = Unit {0}
+
+-- addresses have 1 to 8 bytes (DWARF 5, section 7.5.1.1)
+abbrev pub IsAddressSize : ℕ → Type 0
+IsAddressSize size = (0 < size) × (size ≤ 8)
 
 -- no request is open
 abbrev pub IsClosed : Status → Type 0

@@ -1,7 +1,8 @@
 //! The program: from words and input to output and status.
 
+ghost use Rattle.dwarf_eval.specs.Evaluation.{IsAddressSize};
 ghost use Rattle.std.specs.IoError.{error_kind};
-ghost use Rattle.std.specs.Prelude.{◌≡◌, ◌<◌, ◌≤◌, ◌-◌, ◌^◌, length, map, None, string_bytes};
+ghost use Rattle.std.specs.Prelude.{◌≡◌, ◌<◌, ◌-◌, ◌^◌, length, map, None, string_bytes};
 ghost use Rattle.std.specs.Result.{result_unwrap_or};
 ghost use Rattle.dwarf_base.specs.EndianSlice.{slice_text};
 ghost use Rattle.dwarf_base.specs.ByteOrder.{is_big_of};
@@ -131,8 +132,7 @@ fn evaluate<'a, A: Allocator + Copy, W: Output>(
     lines: &[u8],
     output: &mut W,
 ) -> io::Result<u8>
-    requires some { 0 < context.encoding.address_size }
-    requires fits { context.encoding.address_size ≤ 8 }
+    requires address_size { IsAddressSize context.encoding.address_size }
     requires few { length steps.now < 2 ^ 63 }
     ensures { (ending : Ending)
         × EvaluatesSteps (setup_of context.encoding 64 None None None)
@@ -175,8 +175,7 @@ fn run_lines<'a, A: Allocator + Copy + 'a, W: Output>(
     lines: &[u8],
     output: &mut W,
 ) -> io::Result<u8>
-    requires some { 0 < context.encoding.address_size }
-    requires fits { context.encoding.address_size ≤ 8 }
+    requires { IsAddressSize context.encoding.address_size }
     ensures { (ending : Ending)
         × EvaluatesLines context.encoding
         (record { bytes = bytes.now; is_big = is_big_of context.order }) lines.now ending
@@ -196,8 +195,7 @@ fn run_eval<A: Allocator + Copy, I: Read + Drop, W: Output>(
     reader: I,
     output: &mut W,
 ) -> io::Result<u8>
-    requires some { 0 < context.encoding.address_size }
-    requires fits { context.encoding.address_size ≤ 8 }
+    requires { IsAddressSize context.encoding.address_size }
     ensures { (ending : Ending)
         × EvaluatesInput context.encoding
         (record { bytes = bytes.now; is_big = is_big_of context.order }) (I.remaining reader) ending

@@ -1,5 +1,6 @@
 //! The program's words.
 
+ghost use Rattle.dwarf_eval.specs.Evaluation.{IsAddressSize};
 ghost use Rattle.std.specs.Prelude.{◌≡◌, ◌<◌, ◌≤◌, IfErr, IfOk, None, map, string_bytes};
 ghost use Rattle.std.specs.Result.{result_ok};
 ghost use Rattle.dwexpr.specs.Words.{address_size_in, command_in, format_in, invocation_in, order_in, decoding_context_in, version_in};
@@ -142,7 +143,7 @@ fn decoding_context_of(words: Words<'_>) -> Result<DecodingContext, BadWords<'_>
     ensures exact { result_ok result ≡ decoding_context_in words.entry.address_size.now
         words.entry.offset_size.now words.entry.version.now words.entry.order.now }
     ensures sizes { IfOk result
-        (λ context. (0 < context.encoding.address_size) × (context.encoding.address_size ≤ 8)) }
+        (λ context. IsAddressSize context.encoding.address_size) }
 {
     let address_size = address_size(words.address_size)?;
     let format = format(words.offset_size)?;
@@ -173,7 +174,7 @@ pub(crate) fn invocation_of<A: Allocator>(
 ) -> Result<Invocation<A>, InputFault<BadWords<'_>>>
     ensures exact { ReadsInput asked_by (invocation_in (map string_bytes words.now)) result }
     ensures sizes { IfOk result (λ asked.
-        (0 < asked.context.encoding.address_size) × (asked.context.encoding.address_size ≤ 8)) }
+        IsAddressSize asked.context.encoding.address_size) }
 {
     let words = six_words(words)?;
     let command = command_of(words.command)?;

@@ -1,5 +1,6 @@
 //! An encoding as numbers.
 
+ghost use Rattle.dwarf_eval.specs.Evaluation.{IsAddressSize};
 ghost use Rattle.std.specs.Prelude.{◌≡◌, ◌<◌, ◌≤◌, ◌⊎◌, IfSome, IfNone, ◌==◌, if◌then◌else◌};
 ghost use Rattle.dwarf_base.specs.ByteOrder.{is_big_of};
 ghost use Rattle.dwexpr_c.specs.Encodings.{IsEncoding, encoding_in, is_big_in};
@@ -54,7 +55,7 @@ pub(crate) fn reading_of(numbers: DwexprEncoding) -> Option<(Encoding, RunTimeEn
         × (is_big_of reading.1 ≡ is_big_in numbers)) }
     ensures none { IfNone result (IsEncoding numbers → ⊥) }
     ensures size { IfSome result
-        (λ reading. (0 < reading.0.address_size) × (reading.0.address_size ≤ 8)) }
+        (λ reading. IsAddressSize reading.0.address_size) }
 {
     if numbers.address_size == 0 || numbers.address_size > 8 {
         return None;

@@ -1,6 +1,6 @@
 //! The calls on an evaluation in the caller's memory (DWARF 5, sections 2.5 and 2.6).
 
-ghost use Rattle.dwarf_eval.specs.Evaluation.{IsComplete, IsReplied, reply_of};
+ghost use Rattle.dwarf_eval.specs.Evaluation.{IsAddressSize, IsComplete, IsReplied, reply_of};
 ghost use Rattle.dwarf_meaning.specs.Inputs.{fresh_state};
 ghost use Rattle.dwarf_meaning.specs.Rest.{Start};
 ghost use Rattle.dwexpr_c.specs.Answered.{GoesOn, HasResumed, ShowsCall, outcome_at};
@@ -13,7 +13,7 @@ ghost use Rattle.dwexpr_c.specs.Owned.{held_row};
 ghost use Rattle.dwexpr_c.specs.Settings.{steps_in};
 ghost use Rattle.dwexpr_c.specs.declared.faults.TheConstants as codes;
 ghost use Rattle.std.specs.Mem.{type_size};
-ghost use Rattle.std.specs.Prelude.{IsSomeAnd, None, ◌<◌, ◌≡◌, ◌≤◌};
+ghost use Rattle.std.specs.Prelude.{IsSomeAnd, None, ◌≡◌};
 
 use crate::answers::{DwexprAnswer, Reply, resume_with};
 use crate::encodings::{DwexprEncoding, reading_of};
@@ -125,8 +125,7 @@ fn evaluate<'a, S: EvaluationStorage<Placed<'a>>>(
 #[inline(always)]
 fn restart<'a>(held: &mut Held<'a>, text: Placed<'a>, encoding: Encoding, order: RunTimeEndian)
     requires capacities { HasCapacities held.old.evaluation }
-    requires some { 0 < encoding.address_size }
-    requires fits { encoding.address_size ≤ 8 }
+    requires address_size { IsAddressSize encoding.address_size }
     ensures order { held.new.order ≡ order }
     ensures fresh { held.new.evaluation
         ≡ fresh_state (limited_setup encoding) (text_of_placed text.entry) }

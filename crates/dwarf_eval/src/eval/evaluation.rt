@@ -1,6 +1,6 @@
 //! An evaluation and its calls.
 
-ghost use Rattle.std.specs.Prelude.{◌≡◌, ◌<◌, ◌≤◌, [], None, Some, IfOk, map, true, ◌↔◌};
+ghost use Rattle.std.specs.Prelude.{◌≡◌, [], None, Some, IfOk, map, true, ◌↔◌};
 ghost use Rattle.dwarf_meaning.specs.declared.kinds.WaitingKind.{WaitingKind};
 ghost use Rattle.dwarf_meaning.specs.declared.kinds.WaitingKind.TheVariants as kind;
 ghost use Rattle.dwarf_meaning.specs.Kinds.{kind_of_answer};
@@ -8,7 +8,7 @@ ghost use Rattle.dwarf_meaning.specs.Requests as requests;
 ghost use Rattle.dwarf_meaning.specs.Rest.{Start};
 ghost use Rattle.dwarf_eval.specs.Permits.{Admits, AnswersWith, IsOpenFor, Permits, Shows};
 ghost use Rattle.dwarf_eval.specs.inner.Answers.{answer_of, open_kind};
-ghost use Rattle.dwarf_eval.specs.Evaluation.{Evaluates, HasResult, IsClosed, IsComplete, fresh_state, with_maximum, with_object, with_status};
+ghost use Rattle.dwarf_eval.specs.Evaluation.{Evaluates, HasResult, IsAddressSize, IsClosed, IsComplete, fresh_state, with_maximum, with_object, with_status};
 ghost use Rattle.dwarf_meaning.specs.Stores.{setup_of};
 ghost use Rattle.dwarf_op.specs.Views.{piece_of};
 
@@ -56,8 +56,7 @@ impl<R: Reader + Copy, S: EvaluationStorage<R>> Evaluation<R, S> {
         expression_stack: S::ExpressionStack,
         pieces: S::Result,
     ) -> Self
-        requires some { 0 < encoding.address_size }
-        requires fits { encoding.address_size ≤ 8 }
+        requires address_size { IsAddressSize encoding.address_size }
         requires stack { S.Stack.items stack ≡ [] }
         requires expression_stack { S.ExpressionStack.items expression_stack ≡ [] }
         requires pieces { S.Result.items pieces ≡ [] }
@@ -76,8 +75,7 @@ impl<R: Reader + Copy, S: EvaluationStorage<R>> Evaluation<R, S> {
     /// The encoding's address size has to be from 1 to 8 bytes.
     #[inline(always)]
     pub fn restart(&mut self, bytecode: R, encoding: Encoding)
-        requires some { 0 < encoding.address_size }
-        requires fits { encoding.address_size ≤ 8 }
+        requires { IsAddressSize encoding.address_size }
         ensures { self.new ≡ fresh_state (setup_of encoding R.Offset.BITS
             self.old.setup.limits.values self.old.setup.limits.callers
             self.old.setup.limits.pieces) (R.text bytecode) }

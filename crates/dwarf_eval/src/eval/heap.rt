@@ -1,7 +1,7 @@
 //! Evaluations with their lists on the heap.
 
-ghost use Rattle.std.specs.Prelude.{◌≡◌, ◌<◌, ◌≤◌, None, map};
-ghost use Rattle.dwarf_eval.specs.Evaluation.{IsComplete, fresh_state};
+ghost use Rattle.std.specs.Prelude.{◌≡◌, None, map};
+ghost use Rattle.dwarf_eval.specs.Evaluation.{IsAddressSize, IsComplete, fresh_state};
 ghost use Rattle.dwarf_meaning.specs.Stores.{setup_of};
 ghost use Rattle.dwarf_op.specs.Views.{piece_of};
 
@@ -20,8 +20,7 @@ impl<R: Reader + Copy> Expression<R> {
         alloc: A,
         encoding: Encoding,
     ) -> Evaluation<R, StoreOnHeap<A>>
-        requires some { 0 < encoding.address_size }
-        requires fits { encoding.address_size ≤ 8 }
+        requires { IsAddressSize encoding.address_size }
         ensures { result ≡ fresh_state (setup_of encoding R.Offset.BITS None None None)
             (R.text self.0) }
     {
@@ -34,8 +33,7 @@ impl<R: Reader + Copy, A: Allocator + Copy> Evaluation<R, StoreOnHeap<A>> {
     ///
     /// The encoding's address size has to be from 1 to 8 bytes.
     pub fn new(alloc: A, bytecode: R, encoding: Encoding) -> Self
-        requires some { 0 < encoding.address_size }
-        requires fits { encoding.address_size ≤ 8 }
+        requires { IsAddressSize encoding.address_size }
         ensures { result ≡ fresh_state (setup_of encoding R.Offset.BITS None None None)
             (R.text bytecode) }
     {

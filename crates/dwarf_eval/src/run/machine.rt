@@ -1,6 +1,6 @@
 //! The state of an evaluation and its smallest steps: changes of the lists and the count, and reads of the text.
 
-ghost use Rattle.std.specs.Prelude.{◌≡◌, ◌<◌, ◌≤◌, ◌*◌, [], Some, Err, map, length, slice_get, false, true, OnOk, IfOk, IfErr};
+ghost use Rattle.std.specs.Prelude.{◌≡◌, ◌<◌, ◌*◌, [], Some, Err, map, length, slice_get, false, true, OnOk, IfOk, IfErr};
 ghost use Rattle.dwarf_base.specs.Faults.{fault_of};
 ghost use Rattle.dwarf_value.specs.Values.{IsAddressMask, width_of};
 ghost use Rattle.dwarf_meaning.specs.Locations as meant;
@@ -11,7 +11,7 @@ ghost use Rattle.dwarf_meaning.specs.Run.{read};
 ghost use Rattle.dwarf_meaning.specs.Stores.{Located, Pieced, address_bits, push_value, push_piece, setup_of};
 ghost use Rattle.dwarf_op.specs.Views.{operation_of, location_of, piece_of};
 ghost use Rattle.dwarf_meaning.specs.Inputs.{fresh_state, with_status};
-ghost use Rattle.dwarf_eval.specs.Evaluation.{request_in};
+ghost use Rattle.dwarf_eval.specs.Evaluation.{IsAddressSize, request_in};
 ghost use Rattle.dwarf_eval.specs.inner.Machine.{last_of, on_answer_of, replied_status, status_of};
 ghost use Rattle.dwarf_eval.specs.inner.StateChanges.{Asks, CountsOne, GoesBack, Jumps, Pops, ReadsOperation, TriesChange, TriesToEnter, TriesToPop, is_free, is_running, read_to, with_last};
 
@@ -387,8 +387,7 @@ impl<R: Reader + Copy, S: EvaluationStorage<R>> Machine<R, S> {
     #[tactic(auto, unfolding(dwarf_meaning::specs::Run::most_operations))]
     #[inline(always)]
     pub(crate) fn restart(&mut self, bytecode: R, encoding: Encoding)
-        requires some { 0 < encoding.address_size }
-        requires fits { encoding.address_size ≤ 8 }
+        requires { IsAddressSize encoding.address_size }
         ensures { self.new ≡ fresh_state (setup_of encoding R.Offset.BITS
             self.old.setup.limits.values self.old.setup.limits.callers
             self.old.setup.limits.pieces) (R.text bytecode) }
@@ -420,8 +419,7 @@ impl<R: Reader + Copy, S: EvaluationStorage<R>> Machine<R, S> {
         expression_stack: S::ExpressionStack,
         pieces: S::Result,
     ) -> Self
-        requires some { 0 < encoding.address_size }
-        requires fits { encoding.address_size ≤ 8 }
+        requires address_size { IsAddressSize encoding.address_size }
         requires stack { S.Stack.items stack ≡ [] }
         requires expression_stack { S.ExpressionStack.items expression_stack ≡ [] }
         requires pieces { S.Result.items pieces ≡ [] }
@@ -450,8 +448,7 @@ impl<R: Reader + Copy, S: EvaluationStorage<R>> Machine<R, S> {
 
 /// The mask of addresses of this many bytes.
 fn mask_of(address_size: u8) -> u64
-    requires some { 0 < address_size }
-    requires fits { address_size ≤ 8 }
+    requires { IsAddressSize address_size }
     ensures mask { IsAddressMask result }
     ensures width { width_of result ≡ 8 * address_size }
 {

@@ -1,5 +1,6 @@
 //! Evaluations as data, and functions that run them over lists of each kind.
 
+ghost use Rattle.dwarf_eval.specs.Evaluation.{IsAddressSize};
 ghost use Rattle.std.specs.Prelude.{◌≡◌, ◌<◌, ◌≤◌, [], None};
 ghost use Rattle.dwarf_meaning.specs.Rest.{Start};
 
@@ -179,8 +180,7 @@ fn expect<'a, S: EvaluationStorage<Bytes<'a>>, L: ArrayLike<Item = Answer<Bytes<
     case: &Case<'a>,
     row: usize,
 )
-    requires some { 0 < case.now.encoding.address_size }
-    requires fits { case.now.encoding.address_size ≤ 8 }
+    requires address_size { IsAddressSize case.now.encoding.address_size }
     requires empty { L.items answers ≡ [] }
 {
     expect_steps(rt, &mut eval, steps, case, row);
@@ -196,8 +196,7 @@ fn expect_over_arrays<
     const PIECES: usize,
     const ANSWERS: usize,
 >(rt: &impl Abort, steps: &[Step<Bytes<'a>>], case: &Case<'a>, row: usize)
-    requires some { 0 < case.now.encoding.address_size }
-    requires fits { case.now.encoding.address_size ≤ 8 }
+    requires address_size { IsAddressSize case.now.encoding.address_size }
     requires stack { STACK ≤ 16 }
     requires callers { CALLERS ≤ 16 }
     requires pieces { PIECES ≤ 16 }
@@ -216,8 +215,7 @@ fn expect_over_arrays<
 
 // Runs the case over arrays. Capacities are constants, so each set of limits has a branch.
 fn expect_over_fixed<'a>(rt: &impl Abort, steps: &[Step<Bytes<'a>>], case: &Case<'a>, row: usize)
-    requires some { 0 < case.now.encoding.address_size }
-    requires fits { case.now.encoding.address_size ≤ 8 }
+    requires { IsAddressSize case.now.encoding.address_size }
 {
     match capacities(case) {
         [0, 1, 2, MANY] => expect_over_arrays::<0, 1, 2, MANY>(rt, steps, case, row),
@@ -254,8 +252,7 @@ fn expect_over_slices(
     case: &Case<'static>,
     row: usize,
 )
-    requires some { 0 < case.now.encoding.address_size }
-    requires fits { case.now.encoding.address_size ≤ 8 }
+    requires { IsAddressSize case.now.encoding.address_size }
 {
     let mut values = [Generic(0); MANY];
     let mut callers: [(Bytes<'static>, Bytes<'static>); MANY] = [(little(&[]), little(&[])); MANY];
@@ -283,8 +280,7 @@ fn expect_with_answers<'a, S: EvaluationStorage<Bytes<'a>>>(
     case: &Case<'a>,
     row: usize,
 )
-    requires some { 0 < case.now.encoding.address_size }
-    requires fits { case.now.encoding.address_size ≤ 8 }
+    requires { IsAddressSize case.now.encoding.address_size }
 {
     let [.., replies] = capacities(case);
     if replies < MANY {
@@ -304,8 +300,7 @@ fn expect_on_heap<'a>(
     case: &Case<'a>,
     row: usize,
 )
-    requires some { 0 < case.now.encoding.address_size }
-    requires fits { case.now.encoding.address_size ≤ 8 }
+    requires { IsAddressSize case.now.encoding.address_size }
 {
     let expression = Expression(little(case.text));
     let eval = expression.evaluation(alloc, case.encoding);

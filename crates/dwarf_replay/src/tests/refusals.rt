@@ -1,6 +1,7 @@
 //! Tests that refuse each push of an evaluation in turn, and each growth of its lists and of the list of answers.
 
-ghost use Rattle.std.specs.Prelude.{◌≡◌, ◌<◌, ◌≤◌, [], None};
+ghost use Rattle.dwarf_eval.specs.Evaluation.{IsAddressSize};
+ghost use Rattle.std.specs.Prelude.{◌≡◌, ◌<◌, [], None};
 ghost use Rattle.dwarf_meaning.specs.Rest.{Start};
 
 use crate::tests::allocators::{NEVER, RefusesGrowth};
@@ -178,8 +179,7 @@ fn evaluation<'a>(
     encoding: Encoding,
     befores: [u64; LISTS],
 ) -> Evaluation<Bytes<'a>, ListsOfTests>
-    requires some { 0 < encoding.address_size }
-    requires fits { encoding.address_size ≤ 8 }
+    requires { IsAddressSize encoding.address_size }
     ensures { result.status ≡ Start None }
 {
     Evaluation::new_in(
@@ -293,8 +293,7 @@ fn expect_first_push<R: Reader + Copy, S: EvaluationStorage<R>>(
     text: R,
     encoding: Encoding,
 )
-    requires some { 0 < encoding.address_size }
-    requires fits { encoding.address_size ≤ 8 }
+    requires { IsAddressSize encoding.address_size }
 {
     eval.restart(text, encoding);
     eval.set_initial_value(1);
@@ -309,8 +308,7 @@ fn expect_first_growth<A: Allocator + Copy>(
     text: Bytes<'_>,
     encoding: Encoding,
 )
-    requires some { 0 < encoding.address_size }
-    requires fits { encoding.address_size ≤ 8 }
+    requires { IsAddressSize encoding.address_size }
 {
     let eval = Evaluation::new(first, text, encoding);
     expect_first_push(rt, eval, text, encoding);

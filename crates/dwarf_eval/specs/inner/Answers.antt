@@ -4,6 +4,7 @@ use Rattle.dwarf_base.specs.declared.errors.Error.{Error}
 use Rattle.dwarf_base.specs.Reads.{Text}
 use Rattle.dwarf_meaning.specs.Inputs.{fresh_state, with_settings, with_status}
 use Rattle.dwarf_meaning.specs.declared.kinds.WaitingKind.{WaitingKind}
+use Rattle.dwarf_meaning.specs.declared.kinds.WaitingKind.TheVariants as kind
 use Rattle.dwarf_meaning.specs.Kinds.{kind_of_request}
 use Rattle.dwarf_meaning.specs.Requests as requests
 use Rattle.dwarf_meaning.specs.Rest as rest
@@ -13,12 +14,20 @@ use Rattle.dwarf_eval.specs.declared.op.results.EvaluationResult.TheVariants as 
 use Rattle.dwarf_eval.specs.declared.run.states.Given.{Given}
 use Rattle.dwarf_eval.specs.declared.run.states.Given.TheVariants as given
 
--- what a machine is given, as an answer; `kind` is the kind of a value or a number
-abbrev pub answer_of : {R : Type 0} → (R → Text) → WaitingKind → Given R → requests.Answer
-answer_of text kind (given.Value value) = requests.ValueAnswer kind value
-answer_of text kind (given.Number number) = requests.NumberAnswer kind number
-answer_of text kind (given.Location expression) = requests.LocationAnswer (text expression)
-answer_of text kind (given.BaseType value_type) = requests.BaseTypeAnswer value_type
+-- what a machine is given, as an answer
+abbrev pub answer_of : {R : Type 0} → (R → Text) → Given R → requests.Answer
+answer_of text (given.Memory value) = requests.ValueAnswer kind.Memory value
+answer_of text (given.Register value) = requests.ValueAnswer kind.Register value
+answer_of text (given.WasmValue value) = requests.ValueAnswer kind.WasmValue value
+answer_of text (given.EntryValue value) = requests.ValueAnswer kind.EntryValue value
+answer_of text (given.FrameBase number) = requests.NumberAnswer kind.FrameBase number
+answer_of text (given.Tls number) = requests.NumberAnswer kind.Tls number
+answer_of text (given.CallFrameCfa number) = requests.NumberAnswer kind.CallFrameCfa number
+answer_of text (given.ParameterRef number) = requests.NumberAnswer kind.ParameterRef number
+answer_of text (given.RelocatedAddress number) = requests.NumberAnswer kind.RelocatedAddress number
+answer_of text (given.IndexedAddress number) = requests.NumberAnswer kind.IndexedAddress number
+answer_of text (given.AtLocation expression) = requests.LocationAnswer (text expression)
+answer_of text (given.BaseType value_type) = requests.BaseTypeAnswer value_type
 
 -- a request is open
 abbrev pub IsWaiting : rest.Status → Type 0

@@ -188,9 +188,8 @@ impl<R: Reader + Copy, S: EvaluationStorage<R>> Evaluation<R, S> {
     /// Goes on with an answer.
     #[inline(always)]
     fn resume(&mut self, given: Given<R>) -> Result<EvaluationResult<R>>
-        ghost kind: { WaitingKind }
-        requires { IsOpenFor (kind_of_answer (answer_of R.text kind given)) self.old.status }
-        ensures { AnswersWith R.text R.Offset.number (answer_of R.text kind given)
+        requires { IsOpenFor (kind_of_answer (answer_of R.text given)) self.old.status }
+        ensures { AnswersWith R.text R.Offset.number (answer_of R.text given)
             self.old self.new result }
     {
         if let EvaluationState::Failed(error) = self.machine.state() {
@@ -213,7 +212,7 @@ impl<R: Reader + Copy, S: EvaluationStorage<R>> Evaluation<R, S> {
         ensures { AnswersWith R.text R.Offset.number
             (requests.ValueAnswer kind.Memory value) self.old self.new result }
     {
-        self.resume(Given::Value(value))
+        self.resume(Given::Memory(value))
     }
 
     /// Goes on with the value of a register, after `RequiresRegister`.
@@ -228,7 +227,7 @@ impl<R: Reader + Copy, S: EvaluationStorage<R>> Evaluation<R, S> {
         ensures { AnswersWith R.text R.Offset.number
             (requests.ValueAnswer kind.Register value) self.old self.new result }
     {
-        self.resume(Given::Value(value))
+        self.resume(Given::Register(value))
     }
 
     /// Goes on with a WebAssembly value, after `RequiresWasmLocal`, `RequiresWasmGlobal` or `RequiresWasmStack`.
@@ -243,7 +242,7 @@ impl<R: Reader + Copy, S: EvaluationStorage<R>> Evaluation<R, S> {
         ensures { AnswersWith R.text R.Offset.number
             (requests.ValueAnswer kind.WasmValue value) self.old self.new result }
     {
-        self.resume(Given::Value(value))
+        self.resume(Given::WasmValue(value))
     }
 
     /// Goes on with the value that the expression had at the function's entry, after `RequiresEntryValue`.
@@ -258,7 +257,7 @@ impl<R: Reader + Copy, S: EvaluationStorage<R>> Evaluation<R, S> {
         ensures { AnswersWith R.text R.Offset.number
             (requests.ValueAnswer kind.EntryValue value) self.old self.new result }
     {
-        self.resume(Given::Value(value))
+        self.resume(Given::EntryValue(value))
     }
 
     /// Goes on with the frame base, after `RequiresFrameBase`.
@@ -273,7 +272,7 @@ impl<R: Reader + Copy, S: EvaluationStorage<R>> Evaluation<R, S> {
         ensures { AnswersWith R.text R.Offset.number
             (requests.NumberAnswer kind.FrameBase frame_base) self.old self.new result }
     {
-        self.resume(Given::Number(frame_base))
+        self.resume(Given::FrameBase(frame_base))
     }
 
     /// Goes on with an address in thread-local storage, after `RequiresTls`.
@@ -288,7 +287,7 @@ impl<R: Reader + Copy, S: EvaluationStorage<R>> Evaluation<R, S> {
         ensures { AnswersWith R.text R.Offset.number
             (requests.NumberAnswer kind.Tls value) self.old self.new result }
     {
-        self.resume(Given::Number(value))
+        self.resume(Given::Tls(value))
     }
 
     /// Goes on with the canonical frame address, after `RequiresCallFrameCfa`.
@@ -303,7 +302,7 @@ impl<R: Reader + Copy, S: EvaluationStorage<R>> Evaluation<R, S> {
         ensures { AnswersWith R.text R.Offset.number
             (requests.NumberAnswer kind.CallFrameCfa cfa) self.old self.new result }
     {
-        self.resume(Given::Number(cfa))
+        self.resume(Given::CallFrameCfa(cfa))
     }
 
     /// Goes on with the expression of the entry, after `RequiresAtLocation`. It is evaluated in place of the call; if
@@ -319,7 +318,7 @@ impl<R: Reader + Copy, S: EvaluationStorage<R>> Evaluation<R, S> {
         ensures { AnswersWith R.text R.Offset.number
             (requests.LocationAnswer (R.text bytes)) self.old self.new result }
     {
-        self.resume(Given::Location(bytes))
+        self.resume(Given::AtLocation(bytes))
     }
 
     /// Goes on with the value of the parameter, after `RequiresParameterRef`.
@@ -334,7 +333,7 @@ impl<R: Reader + Copy, S: EvaluationStorage<R>> Evaluation<R, S> {
         ensures { AnswersWith R.text R.Offset.number
             (requests.NumberAnswer kind.ParameterRef parameter_value) self.old self.new result }
     {
-        self.resume(Given::Number(parameter_value))
+        self.resume(Given::ParameterRef(parameter_value))
     }
 
     /// Goes on with the relocated address, after `RequiresRelocatedAddress`.
@@ -349,7 +348,7 @@ impl<R: Reader + Copy, S: EvaluationStorage<R>> Evaluation<R, S> {
         ensures { AnswersWith R.text R.Offset.number
             (requests.NumberAnswer kind.RelocatedAddress address) self.old self.new result }
     {
-        self.resume(Given::Number(address))
+        self.resume(Given::RelocatedAddress(address))
     }
 
     /// Goes on with the address or constant at the index, after `RequiresIndexedAddress`.
@@ -364,7 +363,7 @@ impl<R: Reader + Copy, S: EvaluationStorage<R>> Evaluation<R, S> {
         ensures { AnswersWith R.text R.Offset.number
             (requests.NumberAnswer kind.IndexedAddress address) self.old self.new result }
     {
-        self.resume(Given::Number(address))
+        self.resume(Given::IndexedAddress(address))
     }
 
     /// Goes on with the base type, after `RequiresBaseType`.

@@ -115,12 +115,20 @@ impl<R: Reader + Copy, S: EvaluationStorage<R>> Machine<R, S> {
     #[inline(always)]
     pub(crate) fn take(&mut self, given: Given<R>)
         requires { IsWaiting self.old.status }
-        ensures { (kind : WaitingKind) → AnswersOpenRequest (answer_of R.text kind given) self.old self.new }
+        ensures { AnswersOpenRequest (answer_of R.text given) self.old self.new }
     {
         match given {
-            Given::Value(value) => self.take_value(value),
-            Given::Number(number) => self.take_number(number),
-            Given::Location(callee) => self.take_location(callee),
+            Given::Memory(value)
+            | Given::Register(value)
+            | Given::WasmValue(value)
+            | Given::EntryValue(value) => self.take_value(value),
+            Given::FrameBase(number)
+            | Given::Tls(number)
+            | Given::CallFrameCfa(number)
+            | Given::ParameterRef(number)
+            | Given::RelocatedAddress(number)
+            | Given::IndexedAddress(number) => self.take_number(number),
+            Given::AtLocation(callee) => self.take_location(callee),
             Given::BaseType(base_type) => self.take_base_type(base_type),
         }
     }

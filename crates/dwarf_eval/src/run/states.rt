@@ -49,15 +49,19 @@ pub(crate) enum EvaluationState<R, O = <R as Reader>::Offset> {
     Waiting(EvaluationResult<R, O>),
 }
 
-/// What a resume call was given.
+/// What a resume call was given, by the kind of answer.
 #[derive(Drop)]
 pub(crate) enum Given<R> {
-    /// A value.
-    Value(Value),
-    /// A number.
-    Number(u64),
-    /// An expression to run.
-    Location(R),
-    /// A type.
+    Memory(Value),
+    Register(Value),
+    WasmValue(Value),
+    EntryValue(Value),
+    FrameBase(u64),
+    Tls(u64),
+    CallFrameCfa(u64),
+    ParameterRef(u64),
+    RelocatedAddress(u64),
+    IndexedAddress(u64),
+    AtLocation(R),
     BaseType(ValueType),
 }

@@ -14,6 +14,7 @@ pub use Rattle.dwarf_meaning.specs.Rest
 pub use Rattle.dwarf_meaning.specs.Splitting
 pub use Rattle.dwarf_meaning.specs.Steps
 pub use Rattle.dwarf_meaning.specs.Stores
+pub use Rattle.dwarf_op.specs.Names
 pub use Rattle.dwarf_op.specs.Views
 pub use Rattle.dwarf_eval.specs.Evaluation
 pub use Rattle.dwarf_eval.specs.Iteration

@@ -21,7 +21,7 @@ use Rattle.dwarf_meaning.proofs.Choices.{top_none, top_some}
 use Rattle.dwarf_meaning.proofs.Turns.{run_turn}
 use Rattle.dwarf_meaning.specs.Bounds.{endings}
 use Rattle.dwarf_meaning.specs.Inputs.{with_status}
-use Rattle.dwarf_eval.specs.inner.StateChanges.{ChangesStoreBy, Stays, Pops, TriesToPop, total, ComesToStateBy, GoesBack, ClosesBy, Closes, is_free, Turns, with_store, with_values, before_pushes}
+use Rattle.dwarf_eval.specs.inner.StateChanges.{ChangesStoreBy, Stays, Pops, TriesToPop, total, ComesToStateBy, GoesBack, ClosesBy, Closes, has_location, Turns, with_store, with_values, before_pushes}
 use Rattle.dwarf_eval.proofs.Reaching.{may_along}
 use Rattle.dwarf_eval.proofs.Loads.{EndsAlike, finish_alike, piece_stored}
 use Rattle.dwarf_eval.proofs.Spending.{nears_by, back_spends, over_spends}
@@ -87,7 +87,7 @@ finish_as last old new e h =
     (subst (λ (l : Last). Closes (waits_of l) (λ s. finish_by old.setup s l) old new) (sym e) h)
 
 -- with the value on top, without pieces, if no location waits
-pub finish_plain : (last : Last) (old new : State) → old.store.last ≡ last → is_free last ≡ true → has_pieces old.store.pieces ≡ false → Closes 0 (finish_value old.setup) old new → Closes (waits_of old.store.last) (finish old.setup) old new
+pub finish_plain : (last : Last) (old new : State) → old.store.last ≡ last → has_location last ≡ false → has_pieces old.store.pieces ≡ false → Closes 0 (finish_value old.setup) old new → Closes (waits_of old.store.last) (finish old.setup) old new
 finish_plain (Located location) old new e free none h = cc
 finish_plain last old new e free none h = finish_as last old new e (closes_else 0 _ (finish_value old.setup) old new none h)
 

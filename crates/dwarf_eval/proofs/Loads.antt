@@ -1,5 +1,5 @@
 -- What pushes and operations add to what is kept, and how many pieces ended a location.
-use Rattle.std.proofs.Common.{ℕ, ◌≡◌, ◌+◌, ◌≤◌, List, [], ◌∷◌, ◌++◌, length, Result, Ok, Err, arith, refl, subst, nat_lt, Option, Some, None, ap, true, cond, ◌&&◌, is_some, IsTrue, rules}
+use Rattle.std.proofs.Common.{ℕ, ◌≡◌, ◌+◌, ◌≤◌, List, [], ◌∷◌, ◌++◌, length, Result, Ok, Err, arith, refl, subst, nat_lt, Option, Some, None, ap, true, false, cond, ◌&&◌, is_some, IsTrue, rules}
 use Rattle.std.proofs.lemmas.Bool.{cond_both}
 use Rattle.std.proofs.lemmas.List.{length-append}
 use Rattle.dwarf_base.specs.Faults.{Fault}
@@ -11,7 +11,7 @@ use Rattle.dwarf_meaning.specs.RunLaws.{waits_of}
 use Rattle.dwarf_meaning.specs.Stores.{Setup, Store, Last, Plain, Pieced, push_value, push_piece, push_caller, push_values, Next, Goes, RequestNext, FaultNext, next_at, do_act, branch_target, address_bits, Located}
 use Rattle.dwarf_meaning.specs.Refusals.{Never, push_with_room}
 use Rattle.dwarf_meaning.specs.Rest.{with_refusal, Status, Start, Running, RequestStatus}
-use Rattle.dwarf_eval.specs.inner.StateChanges.{StoreSteps, is_free, before_pushes}
+use Rattle.dwarf_eval.specs.inner.StateChanges.{StoreSteps, has_location, before_pushes}
 use Rattle.dwarf_meaning.proofs.Counts.{OnStore, bound_store, on_bound, OnNext, on_goes}
 use Rattle.dwarf_meaning.proofs.Effects.{IsActOf, pushes, branches, locates, ends, asks, IsGivenBy, IsOwnPlace}
 use Rattle.std.specs.List.{list_all}
@@ -109,7 +109,7 @@ due_waits _ locations e = ap (λ (l : List Location). length l) e
 abbrev pub AllGiven : List Location → Type 0
 AllGiven locations = IsTrue (list_all is_given locations)
 
-pub free_given : (last : Last) → is_free last ≡ true → AllGiven (waiting last Running)
+pub free_given : (last : Last) → has_location last ≡ false → AllGiven (waiting last Running)
 free_given (Located location) h = cc
 free_given _ h = refl
 

@@ -1,10 +1,10 @@
 -- How contracts see the machine's lists and enums: a list's last item is the top of the stack, or the innermost caller.
-use Rattle.std.proofs.Common.{◌≡◌, Option, Some, None, List, [], ◌∷◌, ◌++◌, reverse, sym, ap, ◌∙◌, length, map, false, refl}
+use Rattle.std.proofs.Common.{◌≡◌, Option, Some, None, List, [], ◌∷◌, ◌++◌, reverse, sym, ap, ◌∙◌, length, map, false, true, refl}
 use Rattle.std.specs.Prelude.{option_to_list, IfNone}
 use Rattle.std.proofs.lemmas.List.{reverse-append, append-nil, map-append, length-reverse, length-map}
 use Rattle.dwarf_value.specs.declared.types.Value.{Value}
 use Rattle.dwarf_meaning.specs.Rest.{State}
-use Rattle.dwarf_eval.specs.inner.StateChanges.{Pops, with_values, is_free}
+use Rattle.dwarf_eval.specs.inner.StateChanges.{Pops, with_values, has_location}
 use Rattle.std.specs.List.{AllByRecursion}
 use Rattle.dwarf_base.specs.Reads.{Text}
 use Rattle.dwarf_eval.specs.inner.Machine.{caller_of, callers_of, last_of}
@@ -36,6 +36,6 @@ pub all_and_last : {X : Type 0} (P : X → Type 0) (xs : List X) (x : X) → All
 all_and_last P [] x h p = (p, tt)
 all_and_last P (y ∷ ys) x h p = (h.0, all_and_last P ys x h.1 p)
 
-pub waits_with : (sort : LastOperation) (location : Location) → is_free (last_of sort location) ≡ false → last_of sort location ≡ Located location
+pub waits_with : (sort : LastOperation) (location : Location) → has_location (last_of sort location) ≡ true → last_of sort location ≡ Located location
 waits_with last.Located location h = refl
 waits_with _ location h = cc

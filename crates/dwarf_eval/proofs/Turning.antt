@@ -20,7 +20,7 @@ use Rattle.dwarf_meaning.proofs.Effects.{act_is}
 use Rattle.dwarf_meaning.proofs.Turns.{run_turn, below_most, waits_little}
 use Rattle.dwarf_meaning.specs.Bounds.{endings, faults_in}
 use Rattle.dwarf_meaning.specs.Inputs.{Keeps, with_status}
-use Rattle.dwarf_eval.specs.inner.StateChanges.{Stays, total, CountsOne, ReadsOperation, act_of, do_act_at, LeadsToPlace, LeadsToRequest, LeadsToFault, LeadsBy, Performs, read_to, with_store, ComesToStateBy, is_free, Turns, effort, effort_by, before_pushes}
+use Rattle.dwarf_eval.specs.inner.StateChanges.{Stays, total, CountsOne, ReadsOperation, act_of, do_act_at, LeadsToPlace, LeadsToRequest, LeadsToFault, LeadsBy, Performs, read_to, with_store, ComesToStateBy, has_location, Turns, effort, effort_by, before_pushes}
 use Rattle.dwarf_eval.proofs.Loads.{EndsNoMore, done_ends, free_given, piece_due, request_waits, IsLighter, kept_in, done_lighter}
 use Rattle.dwarf_eval.proofs.Spending.{nears_by, counted_spends, fallen_spends}
 use Rattle.dwarf_eval.proofs.Staying.{stays_status}
@@ -47,7 +47,7 @@ less_counted x new runs still can callers count =
 
 -- ---- the turn
 
-free_turn : (setup : Setup) (text : Text) (place depth : ℕ) (s : Store) (inputs : List Input) (last : Last) → is_free last ≡ true → turn_by (run setup) setup text place depth s inputs last ≡ turn_counted (run setup) setup text place depth s inputs
+free_turn : (setup : Setup) (text : Text) (place depth : ℕ) (s : Store) (inputs : List Input) (last : Last) → has_location last ≡ false → turn_by (run setup) setup text place depth s inputs last ≡ turn_counted (run setup) setup text place depth s inputs
 free_turn setup text place depth s inputs (Located location) h = cc
 free_turn setup text place depth s inputs _ h = refl
 
@@ -103,7 +103,7 @@ counts_and_reads x place = record { setup = refl; settings = refl; callers = ref
 pub record IsReady (x : State) : Type 0 where
   pub runs : x.status ≡ Running
   pub inside : x.place < length x.text.bytes
-  pub free : is_free x.store.last ≡ true
+  pub free : has_location x.store.last ≡ false
 
 module _ (x : State) (ready : IsReady x) where
   ready_total : (r : Refusal) (inputs : List Input) → total x r inputs ≡ total_of_course x.store.count x.setup x.callers (turn_counted (run x.setup) x.setup x.text x.place (length x.callers) (with_refusal r x.store) inputs)

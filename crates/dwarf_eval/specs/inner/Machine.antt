@@ -33,7 +33,7 @@ last_of last.Located location = Located location
 
 -- maps the use of an answer in the code to the definitions
 abbrev pub on_answer_of : {R : Type 0} → (R → Text) → OnAnswer R → requests.OnAnswer
-on_answer_of text on.Push = requests.Push
+on_answer_of text on.AsItIs = requests.Push
 on_answer_of text (on.Add offset) = requests.Add offset
 on_answer_of text (on.Parse literal) = requests.Parse (text literal)
 on_answer_of text on.Convert = requests.Convert

@@ -247,10 +247,10 @@ RunsOn old new =
     (from : State) → (totals : Refusal → List Input → Total) → ComesToState from totals old
     → ComesToState from totals new × HasReply new.status
 
--- whether no location waits
-abbrev pub is_free : Last → Bool
-is_free (Located location) = false
-is_free _ = true
+-- whether the last operation gave a location
+abbrev pub has_location : Last → Bool
+has_location (Located location) = true
+has_location _ = false
 
 -- the run is back in the innermost caller, if there is one
 abbrev pub GoesBack : Bool → State → State → Type 0

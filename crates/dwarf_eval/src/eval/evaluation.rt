@@ -131,7 +131,7 @@ impl<R: Reader + Copy, S: EvaluationStorage<R>> Evaluation<R, S> {
         requires { self.old.status ≡ Start None }
         ensures { self.new ≡ with_status (Start (Some value)) self.old }
     {
-        self.machine.state = EvaluationState::Start(Some(value));
+        self.machine.set_initial_value(value);
     }
 
     /// Sets the address of the described object, for `DW_OP_push_object_address`. It holds from now on. Without one

@@ -13,7 +13,7 @@ ghost use Rattle.dwarf_op.specs.Views.{operation_of, location_of, piece_of};
 ghost use Rattle.dwarf_meaning.specs.Inputs.{fresh_state, with_status};
 ghost use Rattle.dwarf_eval.specs.Evaluation.{IsAddressSize, request_in};
 ghost use Rattle.dwarf_eval.specs.inner.Machine.{last_of, on_answer_of, replied_status, status_of};
-ghost use Rattle.dwarf_eval.specs.inner.StateChanges.{Asks, CountsOne, GoesBack, Jumps, Pops, ReadsOperation, TriesChange, TriesToEnter, TriesToPop, is_free, is_running, read_to, with_last};
+ghost use Rattle.dwarf_eval.specs.inner.StateChanges.{Asks, CountsOne, GoesBack, Jumps, Pops, ReadsOperation, TriesChange, TriesToEnter, TriesToPop, has_location, is_running, read_to, with_last};
 
 use crate::op::EvaluationResult;
 use crate::run::states::{EvaluationState, LastOperation, OnAnswer};
@@ -28,7 +28,7 @@ use std::mem;
 /// The state of an evaluation. Its methods in this file alone use the bytes and the lists.
 #[derive(Drop)]
 pub(crate) struct Machine<R: Reader + Copy, S: EvaluationStorage<R>> {
-    pub(crate) state: EvaluationState<R>,
+    state: EvaluationState<R>,
     encoding: Encoding,
     addr_mask: u64,
     pub(crate) object_address: Option<u64>,
@@ -153,7 +153,7 @@ impl<R: Reader + Copy, S: EvaluationStorage<R>> Machine<R, S> {
     /// Sets the kind of the last operation, which gave no location.
     #[inline(always)]
     pub(crate) fn mark(&mut self, last: LastOperation)
-        requires { is_free (last_of last meant.Empty) ≡ true }
+        requires { has_location (last_of last meant.Empty) ≡ false }
         ensures { self.new ≡ with_last (last_of last meant.Empty) self.old }
     {
         self.last = last;
@@ -181,7 +181,7 @@ impl<R: Reader + Copy, S: EvaluationStorage<R>> Machine<R, S> {
     /// The location whose piece comes next.
     #[inline(always)]
     pub(crate) fn location(&self) -> &Location<R>
-        requires { is_free self.now.store.last ≡ false }
+        requires { has_location self.now.store.last ≡ true }
         ensures { self.now.store.last ≡ Located (location_of R.text R.Offset.number result.now) }
     {
         &self.location
@@ -190,7 +190,7 @@ impl<R: Reader + Copy, S: EvaluationStorage<R>> Machine<R, S> {
     /// Takes the location whose piece was just read.
     #[inline(always)]
     pub(crate) fn take_located(&mut self) -> Location<R>
-        requires { is_free self.old.store.last ≡ false }
+        requires { has_location self.old.store.last ≡ true }
         ensures located { self.old.store.last
             ≡ Located (location_of R.text R.Offset.number result) }
         ensures pieced { self.new ≡ with_last Pieced self.old }
@@ -198,6 +198,14 @@ impl<R: Reader + Copy, S: EvaluationStorage<R>> Machine<R, S> {
         let location = mem::replace(&mut self.location, Location::Empty);
         self.mark(LastOperation::Pieced);
         location
+    }
+
+    /// Sets the value with which the stack starts.
+    #[inline(always)]
+    pub(crate) fn set_initial_value(&mut self, value: u64)
+        ensures { self.new ≡ with_status (Start (Some value)) self.old }
+    {
+        self.state = EvaluationState::Start(Some(value));
     }
 
     /// Sets the state to running.
@@ -258,12 +266,12 @@ impl<R: Reader + Copy, S: EvaluationStorage<R>> Machine<R, S> {
         matches!(self.state, EvaluationState::Running)
     }
 
-    /// Whether the last operation gave no location.
+    /// Whether the last operation gave a location.
     #[inline(always)]
-    pub(crate) fn is_free(&self) -> bool
-        ensures { result ≡ is_free self.now.store.last }
+    pub(crate) fn has_location(&self) -> bool
+        ensures { result ≡ has_location self.now.store.last }
     {
-        !matches!(self.last, LastOperation::Located)
+        matches!(self.last, LastOperation::Located)
     }
 
     /// Whether no byte of the text is left.
@@ -406,7 +414,7 @@ impl<R: Reader + Copy, S: EvaluationStorage<R>> Machine<R, S> {
         self.last = LastOperation::Nothing;
         // In Rust these may hold a reader of the text before.
         self.location = Location::Empty;
-        self.on_answer = OnAnswer::Push;
+        self.on_answer = OnAnswer::AsItIs;
         self.decodings = Ticks::new();
     }
 
@@ -437,7 +445,7 @@ impl<R: Reader + Copy, S: EvaluationStorage<R>> Machine<R, S> {
             whole: bytecode,
             last: LastOperation::Nothing,
             location: Location::Empty,
-            on_answer: OnAnswer::Push,
+            on_answer: OnAnswer::AsItIs,
             stack,
             expression_stack,
             pieces,

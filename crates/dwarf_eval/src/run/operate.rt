@@ -258,7 +258,7 @@ impl<R: Reader + Copy, S: EvaluationStorage<R>> Machine<R, S> {
                 space,
                 base_type,
             },
-            OnAnswer::Push,
+            OnAnswer::AsItIs,
         )
     }
 
@@ -270,6 +270,6 @@ impl<R: Reader + Copy, S: EvaluationStorage<R>> Machine<R, S> {
         let Some(index) = self.pop_number() else {
             return;
         };
-        self.ask(EvaluationResult::RequiresTls(index), OnAnswer::Push)
+        self.ask(EvaluationResult::RequiresTls(index), OnAnswer::AsItIs)
     }
 }

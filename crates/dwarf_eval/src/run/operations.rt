@@ -81,9 +81,9 @@ impl<R: Reader + Copy, S: EvaluationStorage<R>> Machine<R, S> {
             }
             Operation::Nop => self.mark(LastOperation::Plain),
             Operation::PushObjectAddress => self.push_object_address(),
-            Operation::Call { offset } => self.ask(RequiresAtLocation(offset), OnAnswer::Push),
+            Operation::Call { offset } => self.ask(RequiresAtLocation(offset), OnAnswer::AsItIs),
             Operation::TLS => self.ask_tls(),
-            Operation::CallFrameCFA => self.ask(RequiresCallFrameCfa, OnAnswer::Push),
+            Operation::CallFrameCFA => self.ask(RequiresCallFrameCfa, OnAnswer::AsItIs),
             Operation::Piece {
                 size_in_bits,
                 bit_offset,
@@ -94,27 +94,27 @@ impl<R: Reader + Copy, S: EvaluationStorage<R>> Machine<R, S> {
                 self.locate(Location::ImplicitPointer { value, byte_offset })
             }
             Operation::EntryValue { expression } => {
-                self.ask(RequiresEntryValue(Expression(expression)), OnAnswer::Push)
+                self.ask(RequiresEntryValue(Expression(expression)), OnAnswer::AsItIs)
             }
             Operation::ParameterRef { offset } => {
-                self.ask(RequiresParameterRef(offset), OnAnswer::Push)
+                self.ask(RequiresParameterRef(offset), OnAnswer::AsItIs)
             }
             Operation::Address { address } => {
-                self.ask(RequiresRelocatedAddress(address), OnAnswer::Push)
+                self.ask(RequiresRelocatedAddress(address), OnAnswer::AsItIs)
             }
             Operation::AddressIndex { index } => self.ask(
                 RequiresIndexedAddress {
                     index,
                     relocate: true,
                 },
-                OnAnswer::Push,
+                OnAnswer::AsItIs,
             ),
             Operation::ConstantIndex { index } => self.ask(
                 RequiresIndexedAddress {
                     index,
                     relocate: false,
                 },
-                OnAnswer::Push,
+                OnAnswer::AsItIs,
             ),
             Operation::TypedLiteral { base_type, value } => {
                 self.ask(RequiresBaseType(base_type), OnAnswer::Parse(value))
@@ -126,11 +126,17 @@ impl<R: Reader + Copy, S: EvaluationStorage<R>> Machine<R, S> {
                 self.ask(RequiresBaseType(base_type), OnAnswer::Reinterpret)
             }
             Operation::Uninitialized => self.fail(Error::UnsupportedEvaluation),
-            Operation::WasmLocal { index } => self.ask(RequiresWasmLocal { index }, OnAnswer::Push),
+            Operation::WasmLocal { index } => self.ask(
+                RequiresWasmLocal { index },
+                OnAnswer::AsItIs,
+            ),
             Operation::WasmGlobal { index } => {
-                self.ask(RequiresWasmGlobal { index }, OnAnswer::Push)
+                self.ask(RequiresWasmGlobal { index }, OnAnswer::AsItIs)
             }
-            Operation::WasmStack { index } => self.ask(RequiresWasmStack { index }, OnAnswer::Push),
+            Operation::WasmStack { index } => self.ask(
+                RequiresWasmStack { index },
+                OnAnswer::AsItIs,
+            ),
             Operation::VariableValue { offset: _ } => { self.fail(Error::UnsupportedEvaluation) }
         }
     }

@@ -22,8 +22,8 @@ pub(crate) enum LastOperation {
 /// How the answer to an open request is used.
 #[derive(Drop)]
 pub(crate) enum OnAnswer<R> {
-    /// A value is pushed as it is; a text is run.
-    Push,
+    /// A value is pushed, and a text is run.
+    AsItIs,
     /// Its sum with this offset is pushed.
     Add(i64),
     /// These bytes are pushed as a value of that type.

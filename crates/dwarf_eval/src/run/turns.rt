@@ -1,13 +1,13 @@
 //! The loop of a run: operations, the pieces after locations, and the ends of texts.
 
-ghost use Rattle.std.specs.Prelude.{◌≡◌, ◌<◌, length, false};
+ghost use Rattle.std.specs.Prelude.{◌≡◌, ◌<◌, length, true};
 ghost use Rattle.dwarf_meaning.specs.Meaning.{finish, whole_piece};
 ghost use Rattle.dwarf_eval.specs.inner.Answers.{IsAtRestBy};
 ghost use Rattle.dwarf_meaning.specs.Rest.{Running, Start};
 ghost use Rattle.dwarf_meaning.specs.RunLaws.{waits_of};
 ghost use Rattle.dwarf_meaning.specs.Stores.{Located};
 ghost use Rattle.dwarf_op.specs.Views.{operation_of, location_of};
-ghost use Rattle.dwarf_eval.specs.inner.StateChanges.{Closes, ComesToState, CompletesWith, EndsLocated, RunsOn, Turns, is_free, total};
+ghost use Rattle.dwarf_eval.specs.inner.StateChanges.{Closes, ComesToState, CompletesWith, EndsLocated, RunsOn, Turns, has_location, total};
 
 use crate::run::machine::Machine;
 use crate::run::states::LastOperation;
@@ -24,13 +24,13 @@ impl<R: Reader + Copy, S: EvaluationStorage<R>> Machine<R, S> {
         requires inside { self.old.place < length self.old.text.bytes }
         ensures { Turns self.old self.new }
     {
-        let is_free = self.is_free();
-        if is_free && !self.count() {
+        let has_location = self.has_location();
+        if !has_location && !self.count() {
             return;
         }
         match self.decode() {
-            Ok(operation) if is_free => self.operate(operation),
-            Ok(operation) => self.add_piece_of_location(operation),
+            Ok(operation) if has_location => self.add_piece_of_location(operation),
+            Ok(operation) => self.operate(operation),
             Err(error) => self.fail(error),
         }
     }
@@ -40,7 +40,7 @@ impl<R: Reader + Copy, S: EvaluationStorage<R>> Machine<R, S> {
     #[inline(always)]
     fn add_piece_of_location(&mut self, operation: Operation<R>)
         requires after { 0 < self.old.place }
-        requires waits { is_free self.old.store.last ≡ false }
+        requires waits { has_location self.old.store.last ≡ true }
         ensures { (location : _) → self.old.store.last ≡ Located location →
             EndsLocated location (operation_of R.text R.Offset.number operation) self.old self.new }
     {
@@ -93,7 +93,7 @@ impl<R: Reader + Copy, S: EvaluationStorage<R>> Machine<R, S> {
             }
             return;
         }
-        if !self.is_free() {
+        if self.has_location() {
             self.complete_with(copy_of(self.location()), None);
             return;
         }

@@ -1,6 +1,5 @@
 -- Reading a LEB128 number byte by byte, as the code does it.
 use Rattle.std.proofs.Common.{◌≡◌, ℕ, zero, suc, ◌+◌, ◌*◌, ◌%◌, ◌^◌, ◌<◌, ◌≤◌, List, [], ◌∷◌, Result, Ok, Err, inl, inr, arith, refl, ap, sym, ◌∙◌, pow-suc, add-one, ℤ, pos, ◌+ℤ◌, ◌-ℤ◌, ◌*ℤ◌}
-use Rattle.std.proofs.lemmas.Bool.{cases_lt}
 use Rattle.std.proofs.lemmas.Bool.Decides.{nat_tests}
 use Rattle.std.proofs.lemmas.Int.{ints}
 use Rattle.std.proofs.lemmas.Nat.{shl_whole, mul-le, pow-add}
@@ -94,7 +93,7 @@ last_from form place sum bytes byte low rest read low_is most end =
 -- ---- the first byte
 
 -- at place 0 the weight is 1
-first_more : {A : Type 0} (form : LebForm A) (bytes : List ℕ) (byte low : ℕ) (rest : List ℕ) → u8_at bytes ≡ Ok (byte, rest) → low ≡ byte % 128
+pub first_more : {A : Type 0} (form : LebForm A) (bytes : List ℕ) (byte low : ℕ) (rest : List ℕ) → u8_at bytes ≡ Ok (byte, rest) → low ≡ byte % 128
     → 128 ≤ byte → leb_from form 0 0 bytes ≡ leb_from form 1 low rest
 first_more form bytes byte low rest read low_is high =
     let weight : 0 + byte % 128 * 128 ^ 0 ≡ low = omega arith in
@@ -136,50 +135,8 @@ signed_last_high place sum bytes byte low value rest read low_is most high end s
     let value_is : value ≡ pos (sum + low * 2 ^ (7 * place) % 2 ^ 64) -ℤ pos (128 ^ (place + 1)) = rw (whole_is place most) at same in
     last_from signed_leb place sum bytes byte low rest read low_is most end ∙ ap (λ z. Ok (z, rest)) (with_sign _ (place + 1) byte high ∙ sym value_is)
 
--- ---- the first two bytes
+-- ---- the rest
 
 pub gives_from : {X : Type 0} (result : Result X Error) (left : List ℕ) (one other : Result (X × List ℕ) Fault)
     → Gives (λ x. x) result left other → one ≡ other → Gives (λ x. x) result left one
 gives_from result left one other h same = rw same h
-
--- at place 1 the weight is 128
-at_place_one : (first second low : ℕ) → low ≡ first % 128 + 128 * (second % 128) → first % 128 + second % 128 * 2 ^ (7 * 1) % 2 ^ 64 ≡ low
-at_place_one first second low low_is = omega arith
-
-pub second_none : {A : Type 0} (form : LebForm A) (bytes after : List ℕ) (first : ℕ) (fault : Fault) → u8_at bytes ≡ Ok (first, after) → 128 ≤ first
-    → u8_at after ≡ Err fault → leb_from form 0 0 bytes ≡ Err fault
-second_none form bytes after first fault read high none =
-    first_more form bytes first (first % 128) after read refl high ∙ none_from form 1 (first % 128) after fault none
-
-pub second_more : {A : Type 0} (form : LebForm A) (bytes after rest : List ℕ) (first second low : ℕ) → u8_at bytes ≡ Ok (first, after) → 128 ≤ first
-    → u8_at after ≡ Ok (second, rest) → 128 ≤ second → low ≡ first % 128 + 128 * (second % 128) → leb_from form 0 0 bytes ≡ leb_from form 2 low rest
-second_more form bytes after rest first second low read high next more low_is =
-    first_more form bytes first (first % 128) after read refl high
-    ∙ (more_from form 1 (first % 128) after second (second % 128) rest next refl (omega arith) more
-    ∙ ap (λ (sum : ℕ). leb_from form 2 sum rest) (at_place_one first second low low_is))
-
-pub unsigned_second : (bytes after rest : List ℕ) (first second low : ℕ) → u8_at bytes ≡ Ok (first, after) → 128 ≤ first
-    → u8_at after ≡ Ok (second, rest) → second < 128 → low ≡ first % 128 + 128 * (second % 128) → uleb_at bytes ≡ Ok (low, rest)
-unfolding uleb_at
-unsigned_second bytes after rest first second low read high next end low_is =
-    first_more unsigned_leb bytes first (first % 128) after read refl high
-    ∙ (last_from unsigned_leb 1 (first % 128) after second (second % 128) rest next refl (omega arith) end
-    ∙ ap (λ (sum : ℕ). Ok (sum, rest)) (at_place_one first second low low_is))
-
-pub signed_second : (bytes after rest : List ℕ) (first second : ℕ) (value : ℤ) → u8_at bytes ≡ Ok (first, after) → 128 ≤ first
-    → u8_at after ≡ Ok (second, rest) → second < 128 → value ≡ pos (first % 128) +ℤ pos 128 *ℤ sign_extension second 1 second
-    → sleb_at bytes ≡ Ok (value, rest)
-unfolding sleb_at
-signed_second bytes after rest first second value read high next end same =
-    first_more signed_leb bytes first (first % 128) after read refl high
-    ∙ elim (cases_lt second 64) [
-      | inl low ↦
-          let value_is : value ≡ pos (first % 128 + second % 128 * 2 ^ (7 * 1) % 2 ^ 64) =
-          omega (arith, ints, without_sign second 1 second low) in
-          signed_last_low 1 (first % 128) after second (second % 128) value rest next refl (omega arith) low value_is
-      | inr above ↦
-          let value_is : value ≡ pos (first % 128 + second % 128 * 2 ^ (7 * 1) % 2 ^ 64) -ℤ pos (128 * 2 ^ (7 * 1) % 2 ^ 64) =
-          omega (arith, ints, with_sign second 1 second above) in
-          signed_last_high 1 (first % 128) after second (second % 128) value rest next refl (omega arith)
-          above end value_is
-    ]

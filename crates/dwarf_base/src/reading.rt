@@ -177,15 +177,10 @@ pub trait Reader {
         if first < 128 {
             return Ok(u64::from(first));
         }
-        let second = self.read_u8()?;
-        let low = u64::from(first % 128) + 128 * u64::from(second % 128);
-        if second < 128 {
-            return Ok(low);
-        }
         // The rest is read from a copy, so that the compiler can keep the reader itself in registers. This saves 0.05
         // of gimli's time or more to evaluate libc and libm in Rust.
         let mut copy = copy_of(self);
-        let number = rest_of_uleb128(&mut copy, low);
+        let number = rest_of_uleb128(&mut copy, u64::from(first % 128));
         *self = copy;
         number
     }
@@ -216,21 +211,16 @@ pub trait Reader {
         if first < 128 {
             return Ok(last_byte(first));
         }
-        let second = self.read_u8()?;
-        if second < 128 {
-            return Ok(i64::from(first % 128) + 128 * last_byte(second));
-        }
-        let low = u64::from(first % 128) + 128 * u64::from(second % 128);
         // From a copy, as in `read_uleb128`.
         let mut copy = copy_of(self);
-        let number = rest_of_sleb128(&mut copy, low);
+        let number = rest_of_sleb128(&mut copy, u64::from(first % 128));
         *self = copy;
         number
     }
 }
 
 /// Copies a value. Readers are copied by this function alone.
-#[inline(always)]
+#[inline]
 pub fn copy_of<T: Copy>(it: &T) -> T
     ensures { result ≡ it.now }
 {
@@ -238,7 +228,7 @@ pub fn copy_of<T: Copy>(it: &T) -> T
 }
 
 // The seven low bits of a signed number's last byte, as an integer in two's complement.
-#[inline(always)]
+#[inline]
 fn last_byte(byte: u8) -> i64
     requires { byte < 128 }
     ensures value { result ≡ sign_extension byte 1 byte }
@@ -248,15 +238,15 @@ fn last_byte(byte: u8) -> i64
     i64::from((byte + 64) % 128) - 64
 }
 
-// Reads the rest of an unsigned number; `low` is the number in its first two bytes.
+// Reads the rest of an unsigned number; `low` has the bits of its first byte.
 #[inline(never)]
 fn rest_of_uleb128<R: Reader>(reader: &mut R, low: u64) -> Result<u64>
-    requires { low < 128 ^ 2 }
+    requires { low < 128 }
     ensures { Reads (λ x. x) (R.text reader.old) (R.text reader.new) result
-        (leb_from unsigned_leb 2 low (R.text reader.old).bytes) }
+        (leb_from unsigned_leb 1 low (R.text reader.old).bytes) }
 {
     let mut number = low;
-    for place in 2..9u32 {
+    for place in 1..9u32 {
         let byte = reader.read_u8()?;
         let bits = u64::from(byte % 128) << (7 * place);
         number += bits;
@@ -275,12 +265,12 @@ fn rest_of_uleb128<R: Reader>(reader: &mut R, low: u64) -> Result<u64>
 // Like `rest_of_uleb128`, for a signed number.
 #[inline(never)]
 fn rest_of_sleb128<R: Reader>(reader: &mut R, low: u64) -> Result<i64>
-    requires { low < 128 ^ 2 }
+    requires { low < 128 }
     ensures { Reads (λ x. x) (R.text reader.old) (R.text reader.new) result
-        (leb_from signed_leb 2 low (R.text reader.old).bytes) }
+        (leb_from signed_leb 1 low (R.text reader.old).bytes) }
 {
     let mut number = low;
-    for place in 2..9u32 {
+    for place in 1..9u32 {
         let byte = reader.read_u8()?;
         let bits = u64::from(byte % 128) << (7 * place);
         number += bits;

@@ -1,1 +1,2 @@
 pub mod EqualOperations
+mod Rows

@@ -1,22 +1,20 @@
 //! Decodes the operation at the front of a text, by the table of opcodes.
 
-ghost use Rattle.std.specs.Prelude.{◌≡◌, ◌<◌, length, OnOk};
+ghost use Rattle.std.specs.Prelude.{◌≡◌, ◌<◌, ◌≤◌, length, OnOk};
 ghost use Rattle.dwarf_base.specs.Reads.{Reads};
 ghost use Rattle.dwarf_meaning.specs.Decoding.{operation_at};
-ghost use Rattle.dwarf_meaning.specs.Opcodes.{row_of};
-ghost use Rattle.dwarf_op.specs.inner.Entries.{FollowsOn, operand_of, operands_in, operation_by, row_of_block, row_of_one, row_of_second};
+ghost use Rattle.dwarf_meaning.specs.Opcodes.{Unsigned, row_of, sized_block, wasm_row};
+ghost use Rattle.dwarf_meaning.specs.Operands.{Bytes, Leb128, Any, Offset, ref_size};
+ghost use Rattle.dwarf_meaning.specs.Operands as range;
+ghost use Rattle.dwarf_meaning.specs.Operations.{TypedLiteral};
+ghost use Rattle.dwarf_op.specs.inner.Operands.{operands_in, unsigned_in, bits_in, block_in};
 ghost use Rattle.dwarf_op.specs.Views.{operation_of};
 
-use crate::operands::Shape::{
-    self, Absent, Address, I8, I16, I32, I64, Offset, PieceSize, Reference, RegisterNumber,
-    SectionOffset, Sleb128, U8, U16, U32, U64, Uleb128, WasmIndex,
-};
-use crate::operands::{Operand, read_operand};
 use crate::operations::{DieReference, Operation};
 use dwarf_base::constants::*;
 use dwarf_base::{
     DebugAddrIndex, DebugInfoOffset, DwOp, Encoding, Error, Reader, ReaderOffset, Register, Result,
-    UnitOffset,
+    UnitOffset, constants,
 };
 
 // The first and last opcode of each range.
@@ -52,386 +50,306 @@ impl<R: Reader + Copy> Operation<R> {
     }
 }
 
-/// The table of opcodes (DWARF 5, section 7.7.1). A row is an operation, or the shapes of its operands in order and how
-/// the operation is made from them.
-///
-/// Each row passes its shapes as constants, so that the compiler knows them. A row with two operands reads the first
-/// one itself and passes the result to `second`, because the kit inlines a function that reads one operand, but not one
-/// that reads two. Without this, decoding libc and libm takes 10% of gimli's time longer.
-#[tactic(auto, unfolding(dwarf_meaning::specs::Opcodes::row_of))]
+/// The table of opcodes (DWARF 5, section 7.7.1). A row reads its operands in order, each by the function of its
+/// shape, and makes the operation from them.
+#[tactic(auto, using(dwarf_base::proofs::FixedNumbers::fixed_one, dwarf_base::proofs::Suffixes::suffix_trans), unfolding(dwarf_meaning::specs::Opcodes::row_of))]
 #[inline(always)]
 fn read_row<R: Reader + Copy>(opcode: u8, bytes: &mut R, encoding: Encoding) -> Result<Operation<R>>
-    ensures { Reads (operation_of R.text R.Offset.number)
-        (R.text bytes.old) (R.text bytes.new) result
+    ensures { Reads (operation_of R.text R.Offset.number) (R.text bytes.old) (R.text bytes.new) result
         (operands_in R.Offset.BITS (R.text bytes.old) (row_of encoding opcode)) }
 {
-    match DwOp(opcode) {
-        DW_OP_addr => one(Address, Maker::Address, bytes, encoding),
-        DW_OP_deref => Ok(Operation::Deref {
+    Ok(match DwOp(opcode) {
+        DW_OP_addr => Operation::Address {
+            address: bytes.read_address(encoding.address_size)?,
+        },
+        DW_OP_deref => Operation::Deref {
             size: encoding.address_size,
             base_type: generic_type(),
             space: false,
-        }),
-        DW_OP_const1u => one(U8, Maker::UnsignedConstant, bytes, encoding),
-        DW_OP_const1s => one(I8, Maker::SignedConstant, bytes, encoding),
-        DW_OP_const2u => one(U16, Maker::UnsignedConstant, bytes, encoding),
-        DW_OP_const2s => one(I16, Maker::SignedConstant, bytes, encoding),
-        DW_OP_const4u => one(U32, Maker::UnsignedConstant, bytes, encoding),
-        DW_OP_const4s => one(I32, Maker::SignedConstant, bytes, encoding),
-        DW_OP_const8u => one(U64, Maker::UnsignedConstant, bytes, encoding),
-        DW_OP_const8s => one(I64, Maker::SignedConstant, bytes, encoding),
-        DW_OP_constu => one(Uleb128, Maker::UnsignedConstant, bytes, encoding),
-        DW_OP_consts => one(Sleb128, Maker::SignedConstant, bytes, encoding),
-        DW_OP_dup => Ok(Operation::Pick { index: 0 }),
-        DW_OP_drop => Ok(Operation::Drop),
-        DW_OP_over => Ok(Operation::Pick { index: 1 }),
-        DW_OP_pick => one(U8, Maker::Pick, bytes, encoding),
-        DW_OP_swap => Ok(Operation::Swap),
-        DW_OP_rot => Ok(Operation::Rot),
-        DW_OP_xderef => Ok(Operation::Deref {
+        },
+        DW_OP_const1u => Operation::UnsignedConstant {
+            value: u64::from(bytes.read_u8()?),
+        },
+        DW_OP_const1s => Operation::SignedConstant {
+            value: i64::from(bytes.read_i8()?),
+        },
+        DW_OP_const2u => Operation::UnsignedConstant {
+            value: u64::from(bytes.read_u16()?),
+        },
+        DW_OP_const2s => Operation::SignedConstant {
+            value: i64::from(bytes.read_i16()?),
+        },
+        DW_OP_const4u => Operation::UnsignedConstant {
+            value: u64::from(bytes.read_u32()?),
+        },
+        DW_OP_const4s => Operation::SignedConstant {
+            value: i64::from(bytes.read_i32()?),
+        },
+        DW_OP_const8u => Operation::UnsignedConstant {
+            value: bytes.read_u64()?,
+        },
+        DW_OP_const8s => Operation::SignedConstant {
+            value: bytes.read_i64()?,
+        },
+        DW_OP_constu => Operation::UnsignedConstant {
+            value: bytes.read_uleb128()?,
+        },
+        DW_OP_consts => Operation::SignedConstant {
+            value: bytes.read_sleb128()?,
+        },
+        DW_OP_dup => Operation::Pick { index: 0 },
+        DW_OP_drop => Operation::Drop,
+        DW_OP_over => Operation::Pick { index: 1 },
+        DW_OP_pick => Operation::Pick {
+            index: bytes.read_u8()?,
+        },
+        DW_OP_swap => Operation::Swap,
+        DW_OP_rot => Operation::Rot,
+        DW_OP_xderef => Operation::Deref {
             size: encoding.address_size,
             base_type: generic_type(),
             space: true,
-        }),
-        DW_OP_abs => Ok(Operation::Abs),
-        DW_OP_and => Ok(Operation::And),
-        DW_OP_div => Ok(Operation::Div),
-        DW_OP_minus => Ok(Operation::Minus),
-        DW_OP_mod => Ok(Operation::Mod),
-        DW_OP_mul => Ok(Operation::Mul),
-        DW_OP_neg => Ok(Operation::Neg),
-        DW_OP_not => Ok(Operation::Not),
-        DW_OP_or => Ok(Operation::Or),
-        DW_OP_plus => Ok(Operation::Plus),
-        DW_OP_plus_uconst => one(Uleb128, Maker::PlusConstant, bytes, encoding),
-        DW_OP_shl => Ok(Operation::Shl),
-        DW_OP_shr => Ok(Operation::Shr),
-        DW_OP_shra => Ok(Operation::Shra),
-        DW_OP_xor => Ok(Operation::Xor),
-        DW_OP_bra => one(I16, Maker::Bra, bytes, encoding),
-        DW_OP_eq => Ok(Operation::Eq),
-        DW_OP_ge => Ok(Operation::Ge),
-        DW_OP_gt => Ok(Operation::Gt),
-        DW_OP_le => Ok(Operation::Le),
-        DW_OP_lt => Ok(Operation::Lt),
-        DW_OP_ne => Ok(Operation::Ne),
-        DW_OP_skip => one(I16, Maker::Skip, bytes, encoding),
-        DwOp(LIT0..=LIT31) => Ok(Operation::UnsignedConstant {
-            value: u64::from(opcode - LIT0),
-        }),
-        DwOp(REG0..=REG31) => Ok(Operation::Register {
-            register: Register(u16::from(opcode - REG0)),
-        }),
-        DwOp(BREG0..=BREG31) => one(
-            Sleb128,
-            Maker::BaseRegister(opcode - BREG0),
-            bytes,
-            encoding,
-        ),
-        DW_OP_regx => one(RegisterNumber, Maker::Register, bytes, encoding),
-        DW_OP_fbreg => one(Sleb128, Maker::FrameOffset, bytes, encoding),
-        DW_OP_bregx => second(
-            read_operand(RegisterNumber, Operand::none(), bytes, encoding),
-            Sleb128,
-            Maker::RegisterOffset,
-            bytes,
-            encoding,
-        ),
-        DW_OP_piece => one(PieceSize, Maker::Piece, bytes, encoding),
-        DW_OP_deref_size => one(U8, Maker::Deref { space: false }, bytes, encoding),
-        DW_OP_xderef_size => one(U8, Maker::Deref { space: true }, bytes, encoding),
-        DW_OP_nop => Ok(Operation::Nop),
-        DW_OP_push_object_address => Ok(Operation::PushObjectAddress),
-        DW_OP_call2 => one(U16, Maker::UnitCall, bytes, encoding),
-        DW_OP_call4 => one(U32, Maker::UnitCall, bytes, encoding),
-        DW_OP_call_ref => one(SectionOffset, Maker::InfoCall, bytes, encoding),
-        DW_OP_form_tls_address | DW_OP_GNU_push_tls_address => Ok(Operation::TLS),
-        DW_OP_call_frame_cfa => Ok(Operation::CallFrameCFA),
-        DW_OP_bit_piece => second(
-            read_operand(Uleb128, Operand::none(), bytes, encoding),
-            Uleb128,
-            Maker::BitPiece,
-            bytes,
-            encoding,
-        ),
-        DW_OP_implicit_value => block(
-            read_operand(Absent, Operand::none(), bytes, encoding),
-            Offset,
-            BlockMaker::ImplicitValue,
-            bytes,
-            encoding,
-        ),
-        DW_OP_stack_value => Ok(Operation::StackValue),
-        DW_OP_implicit_pointer | DW_OP_GNU_implicit_pointer => second(
-            read_operand(Reference, Operand::none(), bytes, encoding),
-            Sleb128,
-            Maker::ImplicitPointer,
-            bytes,
-            encoding,
-        ),
-        DW_OP_addrx | DW_OP_GNU_addr_index => one(Offset, Maker::AddressIndex, bytes, encoding),
-        DW_OP_constx | DW_OP_GNU_const_index => one(Offset, Maker::ConstantIndex, bytes, encoding),
-        DW_OP_entry_value | DW_OP_GNU_entry_value => block(
-            read_operand(Absent, Operand::none(), bytes, encoding),
-            Offset,
-            BlockMaker::EntryValue,
-            bytes,
-            encoding,
-        ),
-        DW_OP_const_type | DW_OP_GNU_const_type => block(
-            read_operand(Offset, Operand::none(), bytes, encoding),
-            U8,
-            BlockMaker::TypedLiteral,
-            bytes,
-            encoding,
-        ),
-        DW_OP_regval_type | DW_OP_GNU_regval_type => second(
-            read_operand(RegisterNumber, Operand::none(), bytes, encoding),
-            Offset,
-            Maker::RegisterOffset,
-            bytes,
-            encoding,
-        ),
-        DW_OP_deref_type | DW_OP_GNU_deref_type => second(
-            read_operand(U8, Operand::none(), bytes, encoding),
-            Offset,
-            Maker::Deref { space: false },
-            bytes,
-            encoding,
-        ),
-        DW_OP_xderef_type => second(
-            read_operand(U8, Operand::none(), bytes, encoding),
-            Offset,
-            Maker::Deref { space: true },
-            bytes,
-            encoding,
-        ),
-        DW_OP_convert | DW_OP_GNU_convert => one(Offset, Maker::Convert, bytes, encoding),
-        DW_OP_reinterpret | DW_OP_GNU_reinterpret => one(
-            Offset,
-            Maker::Reinterpret,
-            bytes,
-            encoding,
-        ),
-        DW_OP_WASM_location => second(
-            read_operand(U8, Operand::none(), bytes, encoding),
-            WasmIndex,
-            Maker::Wasm,
-            bytes,
-            encoding,
-        ),
-        DW_OP_GNU_uninit => Ok(Operation::Uninitialized),
-        DW_OP_GNU_parameter_ref => one(U32, Maker::ParameterRef, bytes, encoding),
-        DW_OP_GNU_variable_value => one(SectionOffset, Maker::VariableValue, bytes, encoding),
-        _ => Err(Error::InvalidExpression(DwOp(opcode))),
-    }
-}
-
-/// Reads the only operand, and makes the operation from it.
-#[tactic(auto, using(dwarf_base::proofs::Suffixes::suffix_trans))]
-#[inline(always)]
-fn one<R: Reader + Copy>(
-    shape: Shape,
-    maker: Maker,
-    bytes: &mut R,
-    encoding: Encoding,
-) -> Result<Operation<R>>
-    ensures { Reads (operation_of R.text R.Offset.number)
-        (R.text bytes.old) (R.text bytes.new) result
-        (operands_in R.Offset.BITS (R.text bytes.old) (row_of_one encoding shape maker)) }
-{
-    let operand = read_operand(shape, Operand::none(), bytes, encoding)?;
-    Ok(make(maker, operand, Operand::none()))
-}
-
-/// Reads the second operand, and makes the operation from both.
-#[tactic(auto, using(dwarf_base::proofs::Suffixes::suffix_trans))]
-#[inline(always)]
-fn second<R: Reader + Copy>(
-    first: Result<Operand<R::Offset>>,
-    shape: Shape,
-    maker: Maker,
-    bytes: &mut R,
-    encoding: Encoding,
-) -> Result<Operation<R>>
-    ensures { FollowsOn R.Offset.BITS (operand_of R.Offset.number) (operation_of R.text R.Offset.number)
-        (R.text bytes.old) (R.text bytes.new) first result (row_of_second encoding shape maker) }
-{
-    let first = first?;
-    let second = read_operand(shape, first, bytes, encoding)?;
-    Ok(make(maker, first, second))
-}
-
-/// Reads a block, its size first, and makes the operation from it. `before` is the operand before the block, if there
-/// is one.
-#[tactic(auto, using(dwarf_base::proofs::Suffixes::suffix_trans))]
-#[inline(always)]
-fn block<R: Reader + Copy>(
-    before: Result<Operand<R::Offset>>,
-    size: Shape,
-    maker: BlockMaker,
-    bytes: &mut R,
-    encoding: Encoding,
-) -> Result<Operation<R>>
-    ensures { FollowsOn R.Offset.BITS (operand_of R.Offset.number) (operation_of R.text R.Offset.number)
-        (R.text bytes.old) (R.text bytes.new) before result (row_of_block encoding size maker) }
-{
-    let before = before?;
-    let size = read_operand(size, before, bytes, encoding)?;
-    let block = bytes.split(size.offset)?;
-    Ok(match maker {
-        BlockMaker::ImplicitValue => Operation::ImplicitValue { bytes: block },
-        BlockMaker::EntryValue => Operation::EntryValue { expression: block },
-        BlockMaker::TypedLiteral => Operation::TypedLiteral {
-            base_type: UnitOffset(before.offset),
-            value: block,
         },
+        DW_OP_abs => Operation::Abs,
+        DW_OP_and => Operation::And,
+        DW_OP_div => Operation::Div,
+        DW_OP_minus => Operation::Minus,
+        DW_OP_mod => Operation::Mod,
+        DW_OP_mul => Operation::Mul,
+        DW_OP_neg => Operation::Neg,
+        DW_OP_not => Operation::Not,
+        DW_OP_or => Operation::Or,
+        DW_OP_plus => Operation::Plus,
+        DW_OP_plus_uconst => Operation::PlusConstant {
+            value: bytes.read_uleb128()?,
+        },
+        DW_OP_shl => Operation::Shl,
+        DW_OP_shr => Operation::Shr,
+        DW_OP_shra => Operation::Shra,
+        DW_OP_xor => Operation::Xor,
+        DW_OP_bra => Operation::Bra {
+            target: bytes.read_i16()?,
+        },
+        DW_OP_eq => Operation::Eq,
+        DW_OP_ge => Operation::Ge,
+        DW_OP_gt => Operation::Gt,
+        DW_OP_le => Operation::Le,
+        DW_OP_lt => Operation::Lt,
+        DW_OP_ne => Operation::Ne,
+        DW_OP_skip => Operation::Skip {
+            target: bytes.read_i16()?,
+        },
+        DwOp(LIT0..=LIT31) => Operation::UnsignedConstant {
+            value: u64::from(opcode - LIT0),
+        },
+        DwOp(REG0..=REG31) => Operation::Register {
+            register: Register(u16::from(opcode - REG0)),
+        },
+        DwOp(BREG0..=BREG31) => Operation::RegisterOffset {
+            register: Register(u16::from(opcode - BREG0)),
+            offset: bytes.read_sleb128()?,
+            base_type: generic_type(),
+        },
+        DW_OP_regx => Operation::Register {
+            register: register_number(bytes)?,
+        },
+        DW_OP_fbreg => Operation::FrameOffset {
+            offset: bytes.read_sleb128()?,
+        },
+        DW_OP_bregx => Operation::RegisterOffset {
+            register: register_number(bytes)?,
+            offset: bytes.read_sleb128()?,
+            base_type: generic_type(),
+        },
+        DW_OP_piece => Operation::Piece {
+            size_in_bits: piece_size(bytes)?,
+            bit_offset: None,
+        },
+        DW_OP_deref_size => Operation::Deref {
+            size: bytes.read_u8()?,
+            base_type: generic_type(),
+            space: false,
+        },
+        DW_OP_xderef_size => Operation::Deref {
+            size: bytes.read_u8()?,
+            base_type: generic_type(),
+            space: true,
+        },
+        DW_OP_nop => Operation::Nop,
+        DW_OP_push_object_address => Operation::PushObjectAddress,
+        DW_OP_call2 => Operation::Call {
+            offset: DieReference::UnitRef(UnitOffset(R::Offset::from_u16(bytes.read_u16()?))),
+        },
+        DW_OP_call4 => Operation::Call {
+            offset: DieReference::UnitRef(UnitOffset(R::Offset::from_u32(bytes.read_u32()?))),
+        },
+        DW_OP_call_ref => Operation::Call {
+            offset: DieReference::DebugInfoRef(DebugInfoOffset(bytes.read_offset(
+                encoding.format,
+            )?)),
+        },
+        DW_OP_form_tls_address | DW_OP_GNU_push_tls_address => Operation::TLS,
+        DW_OP_call_frame_cfa => Operation::CallFrameCFA,
+        DW_OP_bit_piece => Operation::Piece {
+            size_in_bits: bytes.read_uleb128()?,
+            bit_offset: Some(bytes.read_uleb128()?),
+        },
+        DW_OP_implicit_value => Operation::ImplicitValue {
+            bytes: long_block(bytes)?,
+        },
+        DW_OP_stack_value => Operation::StackValue,
+        DW_OP_implicit_pointer | DW_OP_GNU_implicit_pointer => Operation::ImplicitPointer {
+            value: DebugInfoOffset(reference(bytes, encoding)?),
+            byte_offset: bytes.read_sleb128()?,
+        },
+        DW_OP_addrx | DW_OP_GNU_addr_index => Operation::AddressIndex {
+            index: DebugAddrIndex(offset(bytes)?),
+        },
+        DW_OP_constx | DW_OP_GNU_const_index => Operation::ConstantIndex {
+            index: DebugAddrIndex(offset(bytes)?),
+        },
+        DW_OP_entry_value | DW_OP_GNU_entry_value => Operation::EntryValue {
+            expression: long_block(bytes)?,
+        },
+        DW_OP_const_type | DW_OP_GNU_const_type => typed_literal(bytes)?,
+        DW_OP_regval_type | DW_OP_GNU_regval_type => Operation::RegisterOffset {
+            register: register_number(bytes)?,
+            offset: 0,
+            base_type: UnitOffset(offset(bytes)?),
+        },
+        DW_OP_deref_type | DW_OP_GNU_deref_type => Operation::Deref {
+            size: bytes.read_u8()?,
+            base_type: UnitOffset(offset(bytes)?),
+            space: false,
+        },
+        DW_OP_xderef_type => Operation::Deref {
+            size: bytes.read_u8()?,
+            base_type: UnitOffset(offset(bytes)?),
+            space: true,
+        },
+        DW_OP_convert | DW_OP_GNU_convert => Operation::Convert {
+            base_type: UnitOffset(offset(bytes)?),
+        },
+        DW_OP_reinterpret | DW_OP_GNU_reinterpret => Operation::Reinterpret {
+            base_type: UnitOffset(offset(bytes)?),
+        },
+        DW_OP_WASM_location => wasm_location(bytes)?,
+        DW_OP_GNU_uninit => Operation::Uninitialized,
+        DW_OP_GNU_parameter_ref => Operation::ParameterRef {
+            offset: UnitOffset(R::Offset::from_u32(bytes.read_u32()?)),
+        },
+        DW_OP_GNU_variable_value => Operation::VariableValue {
+            offset: DebugInfoOffset(bytes.read_offset(encoding.format)?),
+        },
+        _ => return Err(Error::InvalidExpression(DwOp(opcode))),
     })
 }
 
-/// How to make an operation from one or two operands.
-#[derive(Clone, Copy)]
-enum Maker {
-    Deref { space: bool },
-    Pick,
-    PlusConstant,
-    Bra,
-    Skip,
-    UnsignedConstant,
-    SignedConstant,
-    Register,
-    /// `RegisterOffset` of the register with this number.
-    BaseRegister(u8),
-    RegisterOffset,
-    FrameOffset,
-    /// `Call` of an entry in the unit.
-    UnitCall,
-    /// `Call` of an entry in `.debug_info`.
-    InfoCall,
-    /// `Piece` that begins at the next byte boundary.
-    Piece,
-    BitPiece,
-    ImplicitPointer,
-    ParameterRef,
-    Address,
-    AddressIndex,
-    ConstantIndex,
-    Convert,
-    Reinterpret,
-    Wasm,
-    VariableValue,
+/// Reads an unsigned LEB128 number that fits an offset.
+#[tactic(auto, using(dwarf_base::proofs::Suffixes::suffix_trans))]
+#[inline]
+fn offset<R: Reader + Copy>(bytes: &mut R) -> Result<R::Offset>
+    ensures { Reads R.Offset.number (R.text bytes.old) (R.text bytes.new) result
+        (unsigned_in R.Offset.BITS (R.text bytes.old) (Leb128, Offset)) }
+{
+    R::Offset::from_u64(bytes.read_uleb128()?)
 }
 
-/// How to make an operation from a block.
-#[derive(Clone, Copy)]
-enum BlockMaker {
-    ImplicitValue,
-    EntryValue,
-    TypedLiteral,
+/// Reads an unsigned LEB128 number that is the number of a register.
+#[tactic(auto, using(dwarf_base::proofs::Suffixes::suffix_trans))]
+#[inline]
+fn register_number<R: Reader + Copy>(bytes: &mut R) -> Result<Register>
+    ensures { Reads (λ r. r.0) (R.text bytes.old) (R.text bytes.new) result
+        (unsigned_in R.Offset.BITS (R.text bytes.old) (Leb128, range.Register)) }
+{
+    Register::from_u64(bytes.read_uleb128()?)
+}
+
+/// Reads the size of a piece in bytes, and gives it in bits.
+#[tactic(auto, using(dwarf_base::proofs::Suffixes::suffix_trans))]
+#[inline]
+fn piece_size<R: Reader + Copy>(bytes: &mut R) -> Result<u64>
+    ensures { Reads (λ bits. bits) (R.text bytes.old) (R.text bytes.new) result
+        (bits_in R.Offset.BITS (R.text bytes.old)) }
+{
+    let size = bytes.read_uleb128()?;
+    size.checked_mul(8).ok_or(Error::InvalidPieceSize(size))
+}
+
+/// Reads a block whose size is an unsigned LEB128 number.
+#[tactic(auto, using(dwarf_base::proofs::Suffixes::suffix_trans))]
+#[inline(always)]
+fn long_block<R: Reader + Copy>(bytes: &mut R) -> Result<R>
+    ensures { Reads R.text (R.text bytes.old) (R.text bytes.new) result
+        (block_in R.Offset.BITS (R.text bytes.old) (Leb128, Offset)) }
+{
+    let length = offset(bytes)?;
+    bytes.split(length)
+}
+
+/// Reads a block whose size is one byte.
+#[tactic(auto, using(dwarf_base::proofs::FixedNumbers::fixed_one, dwarf_base::proofs::Suffixes::suffix_trans))]
+#[inline(always)]
+fn short_block<R: Reader + Copy>(bytes: &mut R) -> Result<R>
+    ensures { Reads R.text (R.text bytes.old) (R.text bytes.new) result
+        (block_in R.Offset.BITS (R.text bytes.old) (Bytes 1, Any)) }
+{
+    let length = R::Offset::from_u8(bytes.read_u8()?);
+    bytes.split(length)
+}
+
+/// Reads an offset into `.debug_info`. In version 2 it is as wide as an address.
+#[tactic(auto, using(dwarf_base::proofs::Suffixes::suffix_trans))]
+#[inline(always)]
+fn reference<R: Reader + Copy>(bytes: &mut R, encoding: Encoding) -> Result<R::Offset>
+    ensures { Reads R.Offset.number (R.text bytes.old) (R.text bytes.new) result
+        (unsigned_in R.Offset.BITS (R.text bytes.old) (Bytes (ref_size encoding), Offset)) }
+{
+    if encoding.version != 2 {
+        return bytes.read_offset(encoding.format);
+    }
+    let address = bytes.read_address(encoding.address_size)?;
+    R::Offset::from_u64(address)
+}
+
+/// Reads a literal: its base type, and a block whose size is one byte.
+#[tactic(auto, using(dwarf_base::proofs::FixedNumbers::fixed_one, dwarf_base::proofs::Suffixes::suffix_trans))]
+#[inline(always)]
+fn typed_literal<R: Reader + Copy>(bytes: &mut R) -> Result<Operation<R>>
+    ensures { Reads (operation_of R.text R.Offset.number) (R.text bytes.old) (R.text bytes.new) result
+        (operands_in R.Offset.BITS (R.text bytes.old)
+        (Unsigned (Leb128, Offset) λ base_type. sized_block (Bytes 1, Any) (TypedLiteral base_type))) }
+{
+    Ok(Operation::TypedLiteral {
+        base_type: UnitOffset(offset(bytes)?),
+        value: short_block(bytes)?,
+    })
+}
+
+/// Reads a WebAssembly value: its kind, and its index, which some kinds encode in another way.
+#[tactic(auto, using(dwarf_base::proofs::FixedNumbers::fixed_one, dwarf_base::proofs::Suffixes::suffix_trans))]
+#[inline(always)]
+fn wasm_location<R: Reader + Copy>(bytes: &mut R) -> Result<Operation<R>>
+    ensures { Reads (operation_of R.text R.Offset.number) (R.text bytes.old) (R.text bytes.new) result
+        (operands_in R.Offset.BITS (R.text bytes.old) (Unsigned (Bytes 1, Any) wasm_row)) }
+{
+    let kind = bytes.read_u8()?;
+    let index = match kind {
+        0 | 1 | 2 => bytes.read_uleb128_u32()?,
+        3 => bytes.read_u32()?,
+        _ => return Err(Error::InvalidExpression(constants::DW_OP_WASM_location)),
+    };
+    match kind {
+        0 => Ok(Operation::WasmLocal { index }),
+        2 => Ok(Operation::WasmStack { index }),
+        _ => Ok(Operation::WasmGlobal { index }),
+    }
 }
 
 /// The generic type: the base type at offset 0.
-#[inline(always)]
+#[inline]
 fn generic_type<O: ReaderOffset>() -> UnitOffset<O>
     ensures { O.number result.0 ≡ 0 }
 {
     UnitOffset(O::from_u8(0))
-}
-
-/// Makes the operation from one or two operands. The base type 0 is the generic type.
-#[inline(always)]
-fn make<R: Reader>(
-    maker: Maker,
-    first: Operand<R::Offset>,
-    second: Operand<R::Offset>,
-) -> Operation<R>
-    ensures { operation_of R.text R.Offset.number result
-        ≡ operation_by maker (operand_of R.Offset.number first) (operand_of R.Offset.number second) }
-{
-    match maker {
-        Maker::Deref { space } => Operation::Deref {
-            size: first.byte,
-            base_type: UnitOffset(second.offset),
-            space,
-        },
-        Maker::Pick => Operation::Pick { index: first.byte },
-        Maker::PlusConstant => Operation::PlusConstant {
-            value: first.unsigned,
-        },
-        Maker::Bra => Operation::Bra {
-            target: first.short,
-        },
-        Maker::Skip => Operation::Skip {
-            target: first.short,
-        },
-        Maker::UnsignedConstant => Operation::UnsignedConstant {
-            value: first.unsigned,
-        },
-        Maker::SignedConstant => Operation::SignedConstant {
-            value: first.signed,
-        },
-        Maker::Register => Operation::Register {
-            register: first.register,
-        },
-        Maker::RegisterOffset => Operation::RegisterOffset {
-            register: first.register,
-            offset: second.signed,
-            base_type: UnitOffset(second.offset),
-        },
-        Maker::BaseRegister(register) => Operation::RegisterOffset {
-            register: Register(u16::from(register)),
-            offset: first.signed,
-            base_type: UnitOffset(second.offset),
-        },
-        Maker::FrameOffset => Operation::FrameOffset {
-            offset: first.signed,
-        },
-        Maker::UnitCall => Operation::Call {
-            offset: DieReference::UnitRef(UnitOffset(first.offset)),
-        },
-        Maker::InfoCall => Operation::Call {
-            offset: DieReference::DebugInfoRef(DebugInfoOffset(first.offset)),
-        },
-        Maker::Piece => Operation::Piece {
-            size_in_bits: first.unsigned,
-            bit_offset: None,
-        },
-        Maker::BitPiece => Operation::Piece {
-            size_in_bits: first.unsigned,
-            bit_offset: Some(second.unsigned),
-        },
-        Maker::ImplicitPointer => Operation::ImplicitPointer {
-            value: DebugInfoOffset(first.offset),
-            byte_offset: second.signed,
-        },
-        Maker::ParameterRef => Operation::ParameterRef {
-            offset: UnitOffset(first.offset),
-        },
-        Maker::Address => Operation::Address {
-            address: first.unsigned,
-        },
-        Maker::AddressIndex => Operation::AddressIndex {
-            index: DebugAddrIndex(first.offset),
-        },
-        Maker::ConstantIndex => Operation::ConstantIndex {
-            index: DebugAddrIndex(first.offset),
-        },
-        Maker::Convert => Operation::Convert {
-            base_type: UnitOffset(first.offset),
-        },
-        Maker::Reinterpret => Operation::Reinterpret {
-            base_type: UnitOffset(first.offset),
-        },
-        Maker::Wasm => {
-            let index = second.index;
-            match second.byte {
-                0 => Operation::WasmLocal { index },
-                2 => Operation::WasmStack { index },
-                _ => Operation::WasmGlobal { index },
-            }
-        }
-        Maker::VariableValue => Operation::VariableValue {
-            offset: DebugInfoOffset(first.offset),
-        },
-    }
 }

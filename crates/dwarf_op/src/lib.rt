@@ -5,7 +5,6 @@ mod decoding;
 mod equality;
 mod locations;
 mod names;
-mod operands;
 mod operations;
 
 pub use equality::{operation_equality_laws, reference_equality_laws};

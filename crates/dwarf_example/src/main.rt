@@ -1,4 +1,4 @@
-//! Evaluates expressions on the heap and over lent slices, in three loops such as users write.
+//! Evaluates expressions on the heap, over lent slices and in a storage of its own, in three loops such as users write.
 #![tactic(auto)]
 
 ghost use Rattle.dwarf_expr.specs.Evaluation.{IsClosed};
@@ -6,10 +6,12 @@ ghost use Rattle.dwarf_expr.specs.Evaluation.{IsClosed};
 mod registers;
 mod replays;
 mod requests;
+mod storage;
 
 use crate::registers::complete_with_registers;
 use crate::replays::replay_bounded;
 use crate::requests::{Process, complete, count_requests};
+use crate::storage::PieceInLine;
 use dwarf_expr::base::{
     DebugAddrIndex, Encoding, EndianSlice, Error, Format, Reader, Register, Result, RunTimeEndian,
     UnitOffset,
@@ -17,7 +19,7 @@ use dwarf_expr::base::{
 use dwarf_expr::eval::Evaluation;
 use dwarf_expr::op::{DieReference, Expression, Piece};
 use dwarf_expr::replay::Step;
-use dwarf_expr::store::{EvaluationStorage, SliceVec, StoreInSlices};
+use dwarf_expr::store::{EvaluationStorage, OneInLine, SliceVec, StoreInSlices};
 use dwarf_expr::value::{Value, ValueType};
 use std::io;
 use std::process::ExitCode;
@@ -124,6 +126,18 @@ fn show_on_heap<'a>(rt: &HostRuntime, bytes: Bytes<'a>, process: &Stopped<'a>) -
     show_complete(rt, "heap", &mut evaluation, process)
 }
 
+/// Prints the result for one expression, on the heap, where a single piece takes no memory.
+fn show_in_line<'a>(rt: &HostRuntime, bytes: Bytes<'a>, process: &Stopped<'a>) -> io::Result<()> {
+    let mut evaluation: Evaluation<Bytes<'a>, PieceInLine> = Evaluation::new_in(
+        bytes,
+        ENCODING,
+        Vec::new(rt.alloc()),
+        Vec::new(rt.alloc()),
+        OneInLine::new(Vec::new(rt.alloc())),
+    );
+    show_complete(rt, "in line", &mut evaluation, process)
+}
+
 /// Prints the result for each expression, from a new evaluation over the same slices. None of these evaluations
 /// allocates, or sets a list to zero.
 fn show_lent<'a>(
@@ -224,6 +238,7 @@ fn show_all(rt: &HostRuntime) -> io::Result<()> {
     for expression in expressions {
         let bytes = EndianSlice::new(expression, RunTimeEndian::Little);
         show_on_heap(rt, bytes, &process)?;
+        show_in_line(rt, bytes, &process)?;
         show_registers(rt, bytes, &process, 1)?;
         show_registers(rt, bytes, &process, 2)?;
         show_requests(rt, bytes)?;

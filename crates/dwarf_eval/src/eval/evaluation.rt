@@ -12,7 +12,7 @@ ghost use Rattle.dwarf_eval.specs.Evaluation.{Evaluates, HasResult, IsAddressSiz
 ghost use Rattle.dwarf_meaning.specs.Stores.{setup_of};
 ghost use Rattle.dwarf_op.specs.Views.{piece_of};
 
-use crate::eval::requests::{kind_of, reply};
+use crate::eval::requests::kind_of;
 use crate::eval::states::Status;
 use crate::op::{EvaluationResult, Piece};
 use crate::run::machine::Machine;
@@ -89,7 +89,7 @@ impl<R: Reader + Copy, S: EvaluationStorage<R>> Evaluation<R, S> {
         ensures { result ≡ open_kind self.now.status }
     {
         match self.machine.state() {
-            EvaluationState::Waiting(request) => kind_of(request),
+            EvaluationState::Replied(replied) => kind_of(replied),
             _ => None,
         }
     }
@@ -99,14 +99,13 @@ impl<R: Reader + Copy, S: EvaluationStorage<R>> Evaluation<R, S> {
         ensures shows { Shows self.now.status result }
         ensures permits { Permits self.now.status result }
     {
-        if let Some(kind) = self.open_kind() {
-            return Status::Waiting(kind);
-        }
         match self.machine.state() {
             EvaluationState::Start(initial_value) => Status::Start {
                 initial: initial_value.is_some(),
             },
-            EvaluationState::Waiting(_) | EvaluationState::Complete(_) => Status::Complete,
+            EvaluationState::Replied(replied) => {
+                kind_of(replied).map_or(Status::Complete, Status::Waiting)
+            }
             EvaluationState::Failed(error) => Status::Failed(*error),
             EvaluationState::Running => unreachable!(),
         }
@@ -178,11 +177,11 @@ impl<R: Reader + Copy, S: EvaluationStorage<R>> Evaluation<R, S> {
         ensures admits { IfOk result (λ replied. Admits replied self.new.status) }
     {
         let EvaluationState::Start(initial_value) = *self.machine.state() else {
-            return reply(&self.machine);
+            return self.machine.reply();
         };
         self.machine.begin(initial_value);
         self.machine.run_on();
-        reply(&self.machine)
+        self.machine.reply()
     }
 
     /// Goes on with an answer.
@@ -197,7 +196,7 @@ impl<R: Reader + Copy, S: EvaluationStorage<R>> Evaluation<R, S> {
         }
         self.machine.take(given);
         self.machine.run_on();
-        reply(&self.machine)
+        self.machine.reply()
     }
 
     /// Goes on with a value from memory, after `RequiresMemory`.
@@ -389,10 +388,7 @@ impl<R: Reader + Copy, S: EvaluationStorage<R>> Evaluation<R, S> {
         requires { IsComplete self.now.status }
         ensures { HasResult result self.now.status }
     {
-        match self.machine.state() {
-            EvaluationState::Complete(value) => *value,
-            _ => None,
-        }
+        self.machine.value_result()
     }
 
     /// The list of the pieces of a complete evaluation.

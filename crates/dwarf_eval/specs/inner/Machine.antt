@@ -8,9 +8,10 @@ use Rattle.dwarf_value.specs.Values.{IsAddressMask, width_of}
 use Rattle.dwarf_meaning.specs.Locations as meant
 use Rattle.dwarf_meaning.specs.Requests as requests
 use Rattle.dwarf_meaning.specs.Stores.{Store, Last, Nothing, Plain, Pieced, Pushed, Called, Located}
+use Rattle.dwarf_meaning.specs.Inputs.{fresh_state}
 use Rattle.dwarf_meaning.specs.Run.{Position}
-use Rattle.dwarf_meaning.specs.Rest.{Status, Start, Running, RequestStatus, CompleteStatus, FaultStatus}
-use Rattle.dwarf_meaning.specs.Refusals.{Never}
+use Rattle.dwarf_meaning.specs.Rest.{State, Status, Start, Running, RequestStatus, CompleteStatus, FaultStatus}
+use Rattle.dwarf_meaning.specs.Refusals.{Limits, Never}
 use Rattle.dwarf_op.specs.Views.{location_of, piece_of}
 use Rattle.dwarf_eval.specs.Evaluation.{request_in}
 use Rattle.dwarf_op.specs.declared.locations.Location.{Location}
@@ -76,6 +77,15 @@ store_of text number values pieces count object_address maximum last location = 
   last = last_of last (location_of text number location);
   refusal = Never;
 }
+
+-- the limits of a machine's lists
+abbrev pub limits_of : Option ℕ → Option ℕ → Option ℕ → Limits
+limits_of values callers pieces = record { values = values; callers = callers; pieces = pieces }
+
+-- a machine at the start of a text, over empty lists with these limits
+abbrev pub fresh_machine : Limits → Encoding → (offset_bits : ℕ) → Text → State
+fresh_machine limits encoding offset_bits text =
+    fresh_state (record { encoding = encoding; offset_bits = offset_bits; limits = limits }) text
 
 -- the mask has the encoding's address size, and each rest is a suffix of its text
 pub record IsSound {R : Type 0} (text : R → Text) (encoding : Encoding) (addr_mask : ℕ) (whole left : R)

@@ -138,7 +138,7 @@ impl<R: Reader + Copy, S: EvaluationStorage<R>> Evaluation<R, S> {
     pub fn set_object_address(&mut self, value: u64)
         ensures { self.new ≡ with_object (Some value) self.old }
     {
-        self.machine.object_address = Some(value);
+        self.machine.set_object_address(value);
     }
 
     /// Sets the maximum number of operations in the whole evaluation; one more fails with `TooManyIterations`. It holds
@@ -147,7 +147,7 @@ impl<R: Reader + Copy, S: EvaluationStorage<R>> Evaluation<R, S> {
     pub fn set_max_iterations(&mut self, value: u32)
         ensures { self.new ≡ with_maximum value self.old }
     {
-        self.machine.max_iterations = value;
+        self.machine.set_max_iterations(value);
     }
 
     /// Evaluates from the start to a request or to the end.

@@ -8,11 +8,11 @@ ghost use Rattle.dwarf_meaning.specs.Meaning.{has_pieces};
 ghost use Rattle.dwarf_meaning.specs.Requests as requests;
 ghost use Rattle.dwarf_meaning.specs.Rest.{Start, Running, RequestStatus, CompleteStatus, FaultStatus};
 ghost use Rattle.dwarf_meaning.specs.Run.{read};
-ghost use Rattle.dwarf_meaning.specs.Stores.{Located, Pieced, address_bits, push_value, push_piece, setup_of};
+ghost use Rattle.dwarf_meaning.specs.Stores.{Located, Pieced, address_bits, push_value, push_piece};
 ghost use Rattle.dwarf_op.specs.Views.{operation_of, location_of, piece_of};
-ghost use Rattle.dwarf_meaning.specs.Inputs.{fresh_state, with_status};
+ghost use Rattle.dwarf_meaning.specs.Inputs.{with_maximum, with_object, with_status};
 ghost use Rattle.dwarf_eval.specs.Evaluation.{IsAddressSize, request_in};
-ghost use Rattle.dwarf_eval.specs.inner.Machine.{last_of, on_answer_of, status_of};
+ghost use Rattle.dwarf_eval.specs.inner.Machine.{fresh_machine, last_of, limits_of, on_answer_of, status_of};
 ghost use Rattle.dwarf_eval.specs.inner.StateChanges.{Asks, CountsOne, GoesBack, Jumps, Pops, ReadsOperation, TriesChange, TriesToEnter, TriesToPop, has_location, is_running, read_to, with_last};
 
 use crate::op::EvaluationResult;
@@ -31,8 +31,8 @@ pub(crate) struct Machine<R: Reader + Copy, S: EvaluationStorage<R>> {
     state: EvaluationState<R>,
     encoding: Encoding,
     addr_mask: u64,
-    pub(crate) object_address: Option<u64>,
-    pub(crate) max_iterations: u32,
+    object_address: Option<u64>,
+    max_iterations: u32,
     iteration: u32,
     // The unread bytes of the text that runs.
     rest: R,
@@ -208,6 +208,28 @@ impl<R: Reader + Copy, S: EvaluationStorage<R>> Machine<R, S> {
         ensures { self.new ≡ with_status (Start (Some value)) self.old }
     {
         self.state = EvaluationState::Start(Some(value));
+    }
+
+    /// Sets the address of the described object.
+    pub(crate) fn set_object_address(&mut self, value: u64)
+        ensures { self.new ≡ with_object (Some value) self.old }
+    {
+        self.object_address = Some(value);
+    }
+
+    /// The address of the described object, if it is set.
+    #[inline(always)]
+    pub(crate) fn object_address(&self) -> Option<u64>
+        ensures { result ≡ self.now.store.settings.object_address }
+    {
+        self.object_address
+    }
+
+    /// Sets the maximum number of operations.
+    pub(crate) fn set_max_iterations(&mut self, value: u32)
+        ensures { self.new ≡ with_maximum value self.old }
+    {
+        self.max_iterations = value;
     }
 
     /// Sets the state to running.
@@ -404,9 +426,8 @@ impl<R: Reader + Copy, S: EvaluationStorage<R>> Machine<R, S> {
     #[inline(always)]
     pub(crate) fn restart(&mut self, bytecode: R, encoding: Encoding)
         requires { IsAddressSize encoding.address_size }
-        ensures { self.new ≡ fresh_state (setup_of encoding R.Offset.BITS
-            self.old.setup.limits.values self.old.setup.limits.callers
-            self.old.setup.limits.pieces) (R.text bytecode) }
+        ensures { self.new
+            ≡ fresh_machine self.old.setup.limits encoding R.Offset.BITS (R.text bytecode) }
     {
         clear(&mut self.stack);
         clear(&mut self.expression_stack);
@@ -440,8 +461,9 @@ impl<R: Reader + Copy, S: EvaluationStorage<R>> Machine<R, S> {
         requires stack { S.Stack.items stack ≡ [] }
         requires expression_stack { S.ExpressionStack.items expression_stack ≡ [] }
         requires pieces { S.Result.items pieces ≡ [] }
-        ensures { result ≡ fresh_state (setup_of encoding R.Offset.BITS (S.Stack.limit stack)
-            (S.ExpressionStack.limit expression_stack) (S.Result.limit pieces)) (R.text bytecode) }
+        ensures { result ≡ fresh_machine (limits_of (S.Stack.limit stack)
+            (S.ExpressionStack.limit expression_stack) (S.Result.limit pieces))
+            encoding R.Offset.BITS (R.text bytecode) }
     {
         Machine {
             state: EvaluationState::Start(None),

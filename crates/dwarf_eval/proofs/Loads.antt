@@ -1,5 +1,5 @@
 -- What pushes and operations add to what is kept, and how many pieces ended a location.
-use Rattle.std.proofs.Common.{ℕ, ◌≡◌, ◌+◌, ◌≤◌, List, [], ◌∷◌, ◌++◌, length, Result, Ok, Err, arith, refl, subst, nat_lt, Option, Some, None, ap, true, false, cond, ◌&&◌, is_some, IsTrue, rules}
+use Rattle.std.proofs.Common.{ℕ, ◌≡◌, ◌+◌, ◌≤◌, List, [], ◌∷◌, ◌++◌, length, Result, Ok, Err, arith, refl, subst, nat_lt, Option, Some, None, ap, false, cond, ◌&&◌, is_some, IsTrue, rules}
 use Rattle.std.proofs.lemmas.Bool.{cond_both}
 use Rattle.std.proofs.lemmas.List.{length-append}
 use Rattle.dwarf_base.specs.Faults.{Fault}

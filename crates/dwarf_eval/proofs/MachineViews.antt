@@ -1,5 +1,5 @@
 -- How contracts see the machine's lists and enums: a list's last item is the top of the stack, or the innermost caller.
-use Rattle.std.proofs.Common.{◌≡◌, Option, Some, None, List, [], ◌∷◌, ◌++◌, reverse, sym, ap, ◌∙◌, length, map, false, true, refl}
+use Rattle.std.proofs.Common.{◌≡◌, Option, Some, None, List, [], ◌∷◌, ◌++◌, reverse, sym, ap, ◌∙◌, length, map, true, refl}
 use Rattle.std.specs.Prelude.{option_to_list, IfNone}
 use Rattle.std.proofs.lemmas.List.{reverse-append, append-nil, map-append, length-reverse, length-map}
 use Rattle.dwarf_value.specs.declared.types.Value.{Value}

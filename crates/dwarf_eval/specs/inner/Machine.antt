@@ -8,9 +8,10 @@ use Rattle.dwarf_value.specs.Values.{IsAddressMask, width_of}
 use Rattle.dwarf_meaning.specs.Locations as meant
 use Rattle.dwarf_meaning.specs.Requests as requests
 use Rattle.dwarf_meaning.specs.Stores.{Store, Last, Nothing, Plain, Pieced, Pushed, Called, Located}
+use Rattle.dwarf_meaning.specs.Inputs.{fresh_state}
 use Rattle.dwarf_meaning.specs.Run.{Position}
-use Rattle.dwarf_meaning.specs.Rest.{Status, Start, Running, RequestStatus, CompleteStatus, FaultStatus}
-use Rattle.dwarf_meaning.specs.Refusals.{Never}
+use Rattle.dwarf_meaning.specs.Rest.{State, Status, Start, Running, RequestStatus, CompleteStatus, FaultStatus}
+use Rattle.dwarf_meaning.specs.Refusals.{Limits, Never}
 use Rattle.dwarf_op.specs.Views.{location_of, piece_of}
 use Rattle.dwarf_eval.specs.Evaluation.{request_in}
 use Rattle.dwarf_op.specs.declared.locations.Location.{Location}
@@ -39,18 +40,19 @@ on_answer_of text (on.Parse literal) = requests.Parse (text literal)
 on_answer_of text on.Convert = requests.Convert
 on_answer_of text on.Reinterpret = requests.Reinterpret
 
--- the status after a reply: complete without a value, or in this request
-abbrev pub replied_status : Option requests.Request → requests.OnAnswer → Status
-replied_status None on_answer = CompleteStatus None
-replied_status (Some request) on_answer = RequestStatus request on_answer
+-- the status after a reply: in this request, or complete with this value
+abbrev pub replied_status : Option requests.Request → requests.OnAnswer → Option Value → Status
+replied_status None on_answer value = CompleteStatus value
+replied_status (Some request) on_answer value = RequestStatus request on_answer
 
 -- maps a state of the code to a status of the definitions
-abbrev pub status_of : {R O : Type 0} → (R → Text) → (O → ℕ) → EvaluationState R O → requests.OnAnswer → Status
-status_of text number (state.Start initial_value) on_answer = Start initial_value
-status_of text number state.Running on_answer = Running
-status_of text number (state.Waiting request) on_answer = replied_status (request_in text number request) on_answer
-status_of text number (state.Complete value) on_answer = CompleteStatus value
-status_of text number (state.Failed error) on_answer = FaultStatus error
+abbrev pub status_of : {R O : Type 0} → (R → Text) → (O → ℕ) → EvaluationState R O → requests.OnAnswer → Option Value
+    → Status
+status_of text number (state.Start initial_value) on_answer value = Start initial_value
+status_of text number state.Running on_answer value = Running
+status_of text number (state.Failed error) on_answer value = FaultStatus error
+status_of text number (state.Replied replied) on_answer value =
+    replied_status (request_in text number replied) on_answer value
 
 -- the place in a text at which this rest of it begins
 abbrev pub place_of : (whole left : Text) → ℕ
@@ -75,6 +77,15 @@ store_of text number values pieces count object_address maximum last location = 
   last = last_of last (location_of text number location);
   refusal = Never;
 }
+
+-- the limits of a machine's lists
+abbrev pub limits_of : Option ℕ → Option ℕ → Option ℕ → Limits
+limits_of values callers pieces = record { values = values; callers = callers; pieces = pieces }
+
+-- a machine at the start of a text, over empty lists with these limits
+abbrev pub fresh_machine : Limits → Encoding → (offset_bits : ℕ) → Text → State
+fresh_machine limits encoding offset_bits text =
+    fresh_state (record { encoding = encoding; offset_bits = offset_bits; limits = limits }) text
 
 -- the mask has the encoding's address size, and each rest is a suffix of its text
 pub record IsSound {R : Type 0} (text : R → Text) (encoding : Encoding) (addr_mask : ℕ) (whole left : R)

@@ -7,12 +7,12 @@ ghost use Rattle.dwarf_meaning.specs.Kinds.{kind_of_answer};
 ghost use Rattle.dwarf_meaning.specs.Requests as requests;
 ghost use Rattle.dwarf_meaning.specs.Rest.{Start};
 ghost use Rattle.dwarf_eval.specs.Permits.{Admits, AnswersWith, IsOpenFor, Permits, Shows};
-ghost use Rattle.dwarf_eval.specs.inner.Answers.{answer_of, open_kind};
+ghost use Rattle.dwarf_eval.specs.inner.Answers.{answer_of};
 ghost use Rattle.dwarf_eval.specs.Evaluation.{Evaluates, HasResult, IsAddressSize, IsClosed, IsComplete, fresh_state, with_maximum, with_object, with_status};
 ghost use Rattle.dwarf_meaning.specs.Stores.{setup_of};
 ghost use Rattle.dwarf_op.specs.Views.{piece_of};
 
-use crate::eval::requests::{kind_of, reply};
+use crate::eval::requests::kind_of;
 use crate::eval::states::Status;
 use crate::op::{EvaluationResult, Piece};
 use crate::run::machine::Machine;
@@ -83,30 +83,18 @@ impl<R: Reader + Copy, S: EvaluationStorage<R>> Evaluation<R, S> {
         self.machine.restart(bytecode, encoding);
     }
 
-    /// The kind of the open request, if there is one.
-    #[inline(always)]
-    fn open_kind(&self) -> Option<WaitingKind>
-        ensures { result ≡ open_kind self.now.status }
-    {
-        match self.machine.state() {
-            EvaluationState::Waiting(request) => kind_of(request),
-            _ => None,
-        }
-    }
-
     /// Where the evaluation stands, and so which calls it allows.
     pub fn status(&self) -> Status
         ensures shows { Shows self.now.status result }
         ensures permits { Permits self.now.status result }
     {
-        if let Some(kind) = self.open_kind() {
-            return Status::Waiting(kind);
-        }
         match self.machine.state() {
             EvaluationState::Start(initial_value) => Status::Start {
                 initial: initial_value.is_some(),
             },
-            EvaluationState::Waiting(_) | EvaluationState::Complete(_) => Status::Complete,
+            EvaluationState::Replied(replied) => {
+                kind_of(replied).map_or(Status::Complete, Status::Waiting)
+            }
             EvaluationState::Failed(error) => Status::Failed(*error),
             EvaluationState::Running => unreachable!(),
         }
@@ -118,9 +106,10 @@ impl<R: Reader + Copy, S: EvaluationStorage<R>> Evaluation<R, S> {
     pub fn is_open_for(&self, kind: WaitingKind) -> bool
         ensures { (result ≡ true) ↔ IsOpenFor kind self.now.status }
     {
-        match self.open_kind() {
-            Some(open) => open == kind,
-            None => matches!(self.machine.state(), EvaluationState::Failed(_)),
+        match self.machine.state() {
+            EvaluationState::Replied(replied) => kind_of(replied).is_some_and(|open| open == kind),
+            EvaluationState::Failed(_) => true,
+            EvaluationState::Start(_) | EvaluationState::Running => false,
         }
     }
 
@@ -139,7 +128,7 @@ impl<R: Reader + Copy, S: EvaluationStorage<R>> Evaluation<R, S> {
     pub fn set_object_address(&mut self, value: u64)
         ensures { self.new ≡ with_object (Some value) self.old }
     {
-        self.machine.object_address = Some(value);
+        self.machine.set_object_address(value);
     }
 
     /// Sets the maximum number of operations in the whole evaluation; one more fails with `TooManyIterations`. It holds
@@ -148,7 +137,7 @@ impl<R: Reader + Copy, S: EvaluationStorage<R>> Evaluation<R, S> {
     pub fn set_max_iterations(&mut self, value: u32)
         ensures { self.new ≡ with_maximum value self.old }
     {
-        self.machine.max_iterations = value;
+        self.machine.set_max_iterations(value);
     }
 
     /// Evaluates from the start to a request or to the end.
@@ -178,11 +167,11 @@ impl<R: Reader + Copy, S: EvaluationStorage<R>> Evaluation<R, S> {
         ensures admits { IfOk result (λ replied. Admits replied self.new.status) }
     {
         let EvaluationState::Start(initial_value) = *self.machine.state() else {
-            return reply(&self.machine);
+            return self.machine.reply();
         };
         self.machine.begin(initial_value);
         self.machine.run_on();
-        reply(&self.machine)
+        self.machine.reply()
     }
 
     /// Goes on with an answer.
@@ -197,7 +186,7 @@ impl<R: Reader + Copy, S: EvaluationStorage<R>> Evaluation<R, S> {
         }
         self.machine.take(given);
         self.machine.run_on();
-        reply(&self.machine)
+        self.machine.reply()
     }
 
     /// Goes on with a value from memory, after `RequiresMemory`.
@@ -389,10 +378,7 @@ impl<R: Reader + Copy, S: EvaluationStorage<R>> Evaluation<R, S> {
         requires { IsComplete self.now.status }
         ensures { HasResult result self.now.status }
     {
-        match self.machine.state() {
-            EvaluationState::Complete(value) => *value,
-            _ => None,
-        }
+        self.machine.value_result()
     }
 
     /// The list of the pieces of a complete evaluation.

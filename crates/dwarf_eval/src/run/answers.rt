@@ -51,49 +51,25 @@ impl<R: Reader + Copy, S: EvaluationStorage<R>> Machine<R, S> {
     }
 
     /// Pushes a value of the type: the literal's, or the top converted or reinterpreted.
-    #[inline(always)]
+    #[inline(never)]
     fn take_base_type(&mut self, base_type: ValueType)
         requires { IsWaiting self.old.status }
         ensures { AnswersOpenRequest (requests.BaseTypeAnswer base_type) self.old self.new }
     {
         match self.on_answer() {
             OnAnswer::Parse(literal) => {
-                let literal = copy_of(literal);
-                self.take_literal(base_type, literal)
+                let parsed = Value::parse(base_type, copy_of(literal));
+                self.push_answer(parsed)
             }
-            OnAnswer::Convert => self.take_conversion(base_type),
-            _ => self.take_reinterpretation(base_type),
+            OnAnswer::Convert => {
+                let Some(value) = self.pop() else { return };
+                self.push_answer(value.convert(base_type, self.addr_mask()))
+            }
+            _ => {
+                let Some(value) = self.pop() else { return };
+                self.push_answer(value.reinterpret(base_type, self.addr_mask()))
+            }
         }
-    }
-
-    /// Parses the literal as a value of the type, and pushes it.
-    #[inline(never)]
-    fn take_literal(&mut self, base_type: ValueType, literal: R)
-        requires { IsWaiting self.old.status }
-        ensures { TakesAnswer (requests.Parse (R.text literal)) (requests.BaseTypeAnswer base_type)
-            self.old self.new }
-    {
-        self.push_answer(Value::parse(base_type, literal))
-    }
-
-    /// Converts the top to the type.
-    #[inline(never)]
-    fn take_conversion(&mut self, base_type: ValueType)
-        requires { IsWaiting self.old.status }
-        ensures { TakesAnswer requests.Convert (requests.BaseTypeAnswer base_type) self.old self.new }
-    {
-        let Some(value) = self.pop() else { return };
-        self.push_answer(value.convert(base_type, self.addr_mask()))
-    }
-
-    /// Reinterprets the top as a value of the type.
-    #[inline(never)]
-    fn take_reinterpretation(&mut self, base_type: ValueType)
-        requires { IsWaiting self.old.status }
-        ensures { TakesAnswer requests.Reinterpret (requests.BaseTypeAnswer base_type) self.old self.new }
-    {
-        let Some(value) = self.pop() else { return };
-        self.push_answer(value.reinterpret(base_type, self.addr_mask()))
     }
 
     /// Runs the called text in place of the call. An empty text is skipped.

@@ -160,7 +160,7 @@ impl<R: Reader + Copy, S: EvaluationStorage<R>> Machine<R, S> {
         requires { self.old.status ≡ Running }
         ensures { Performs (act_of self.old meaning.PushObjectAddress) self.old self.new }
     {
-        let Some(address) = self.object_address else {
+        let Some(address) = self.object_address() else {
             self.fail(Error::InvalidPushObjectAddress);
             return;
         };

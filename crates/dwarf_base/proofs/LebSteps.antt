@@ -1,7 +1,6 @@
 -- Reading a LEB128 number byte by byte, as the code does it.
-use Rattle.std.proofs.Common.{◌≡◌, ℕ, zero, suc, ◌+◌, ◌*◌, ◌%◌, ◌^◌, ◌<◌, ◌≤◌, List, [], ◌∷◌, Result, Ok, Err, inl, inr, arith, refl, ap, sym, ◌∙◌, pow-suc, add-one, ℤ, pos, ◌+ℤ◌, ◌-ℤ◌, ◌*ℤ◌}
+use Rattle.std.proofs.Common.{◌≡◌, ℕ, zero, suc, ◌+◌, ◌*◌, ◌%◌, ◌^◌, ◌<◌, ◌≤◌, List, [], ◌∷◌, Result, Ok, Err, arith, refl, ap, sym, ◌∙◌, pow-suc, add-one, ℤ, pos, ◌-ℤ◌}
 use Rattle.std.proofs.lemmas.Bool.Decides.{nat_tests}
-use Rattle.std.proofs.lemmas.Int.{ints}
 use Rattle.std.proofs.lemmas.Nat.{shl_whole, mul-le, pow-add}
 use Rattle.std.proofs.Math.Nat.{pow-le-pow_right, mul-suc}
 use Rattle.dwarf_base.specs.Faults.{Fault, past_the_end}

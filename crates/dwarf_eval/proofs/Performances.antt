@@ -1,6 +1,5 @@
 -- What an operation does to a state is what its act says.
 use Rattle.std.proofs.Common.{ℕ, ℤ, ◌≡◌, ◌+◌, ◌<◌, ◌≤◌, Bool, true, false, List, [], ◌∷◌, length, Option, Result, Ok, Err, Some, None, arith, ap, ◌∙◌, sym, refl, subst, nat_lt}
-use Rattle.std.specs.Prelude.{IfSome}
 use Rattle.std.proofs.lemmas.Bool.{cond-true, cond-false}
 use Rattle.std.proofs.lemmas.Bool.Decides.{nat_tests}
 use Rattle.dwarf_base.specs.declared.errors.Error.{Error}
@@ -114,9 +113,9 @@ performs_asks request on_answer old new e =
     subst (Performs (RequestAct old.store.values request on_answer) old) (sym e) (record { steps = record { pushes = 0; same = λ r. refl }; alone = refl })
 
 -- a request was opened, if there is one
-pub asks_by : (asked : Option Request) (on_answer : OnAnswer) (value : Option Value) (old new : State) → new ≡ with_status (replied_status asked on_answer value) old → IfSome asked (λ request. new ≡ with_status (RequestStatus request on_answer) old) × Asks asked on_answer old new
-asks_by None on_answer value old new e = (tt, tt)
-asks_by (Some request) on_answer value old new e = (e, performs_asks request on_answer old new e)
+pub asks_by : (asked : Option Request) (on_answer : OnAnswer) (old new : State) → new ≡ with_status (replied_status asked on_answer) old → Asks asked on_answer old new
+asks_by None on_answer old new e = tt
+asks_by (Some request) on_answer old new e = performs_asks request on_answer old new e
 
 -- a branch is taken
 pub performs_branch : (t : ℤ) (old mid new : State) (target : ℕ) (done : Bool) → old.status ≡ Running → mid ≡ with_last Plain old → target ≡ branch_target mid.setup mid.place t → Jumps target mid new done → Performs (Branches old.store.values t) old new

@@ -90,6 +90,6 @@ fn an_evaluation_is_shown_and_crosses_threads() {
 #[test]
 #[cfg(target_pointer_width = "64")]
 fn an_evaluation_on_the_heap_takes_some_300_bytes() {
-    assert_eq!(size_of::<Evaluation<EndianSlice<LittleEndian>>>(), 304);
-    assert_eq!(size_of::<Evaluation<EndianSlice<RunTimeEndian>>>(), 320);
+    assert_eq!(size_of::<Evaluation<EndianSlice<LittleEndian>>>(), 288);
+    assert_eq!(size_of::<Evaluation<EndianSlice<RunTimeEndian>>>(), 304);
 }

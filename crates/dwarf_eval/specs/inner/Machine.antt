@@ -40,19 +40,18 @@ on_answer_of text (on.Parse literal) = requests.Parse (text literal)
 on_answer_of text on.Convert = requests.Convert
 on_answer_of text on.Reinterpret = requests.Reinterpret
 
--- the status after a reply: in this request, or complete with this value
-abbrev pub replied_status : Option requests.Request → requests.OnAnswer → Option Value → Status
-replied_status None on_answer value = CompleteStatus value
-replied_status (Some request) on_answer value = RequestStatus request on_answer
+-- the status after a reply: complete without a value, or in this request
+abbrev pub replied_status : Option requests.Request → requests.OnAnswer → Status
+replied_status None on_answer = CompleteStatus None
+replied_status (Some request) on_answer = RequestStatus request on_answer
 
 -- maps a state of the code to a status of the definitions
-abbrev pub status_of : {R O : Type 0} → (R → Text) → (O → ℕ) → EvaluationState R O → requests.OnAnswer → Option Value
-    → Status
-status_of text number (state.Start initial_value) on_answer value = Start initial_value
-status_of text number state.Running on_answer value = Running
-status_of text number (state.Failed error) on_answer value = FaultStatus error
-status_of text number (state.Replied replied) on_answer value =
-    replied_status (request_in text number replied) on_answer value
+abbrev pub status_of : {R O : Type 0} → (R → Text) → (O → ℕ) → EvaluationState R O → requests.OnAnswer → Status
+status_of text number (state.Start initial_value) on_answer = Start initial_value
+status_of text number state.Running on_answer = Running
+status_of text number (state.Waiting request) on_answer = replied_status (request_in text number request) on_answer
+status_of text number (state.Complete value) on_answer = CompleteStatus value
+status_of text number (state.Failed error) on_answer = FaultStatus error
 
 -- the place in a text at which this rest of it begins
 abbrev pub place_of : (whole left : Text) → ℕ

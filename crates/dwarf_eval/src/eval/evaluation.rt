@@ -12,7 +12,7 @@ ghost use Rattle.dwarf_eval.specs.Evaluation.{Evaluates, HasResult, IsAddressSiz
 ghost use Rattle.dwarf_meaning.specs.Stores.{setup_of};
 ghost use Rattle.dwarf_op.specs.Views.{piece_of};
 
-use crate::eval::requests::kind_of;
+use crate::eval::requests::{kind_of, reply};
 use crate::eval::states::Status;
 use crate::op::{EvaluationResult, Piece};
 use crate::run::machine::Machine;
@@ -92,9 +92,11 @@ impl<R: Reader + Copy, S: EvaluationStorage<R>> Evaluation<R, S> {
             EvaluationState::Start(initial_value) => Status::Start {
                 initial: initial_value.is_some(),
             },
-            EvaluationState::Replied(replied) => {
-                kind_of(replied).map_or(Status::Complete, Status::Waiting)
-            }
+            EvaluationState::Waiting(request) => match kind_of(request) {
+                Some(kind) => Status::Waiting(kind),
+                None => Status::Complete,
+            },
+            EvaluationState::Complete(_) => Status::Complete,
             EvaluationState::Failed(error) => Status::Failed(*error),
             EvaluationState::Running => unreachable!(),
         }
@@ -107,9 +109,9 @@ impl<R: Reader + Copy, S: EvaluationStorage<R>> Evaluation<R, S> {
         ensures { (result ≡ true) ↔ IsOpenFor kind self.now.status }
     {
         match self.machine.state() {
-            EvaluationState::Replied(replied) => kind_of(replied).is_some_and(|open| open == kind),
+            EvaluationState::Waiting(request) => kind_of(request).is_some_and(|open| open == kind),
             EvaluationState::Failed(_) => true,
-            EvaluationState::Start(_) | EvaluationState::Running => false,
+            _ => false,
         }
     }
 
@@ -167,11 +169,11 @@ impl<R: Reader + Copy, S: EvaluationStorage<R>> Evaluation<R, S> {
         ensures admits { IfOk result (λ replied. Admits replied self.new.status) }
     {
         let EvaluationState::Start(initial_value) = *self.machine.state() else {
-            return self.machine.reply();
+            return reply(&self.machine);
         };
         self.machine.begin(initial_value);
         self.machine.run_on();
-        self.machine.reply()
+        reply(&self.machine)
     }
 
     /// Goes on with an answer.
@@ -186,7 +188,7 @@ impl<R: Reader + Copy, S: EvaluationStorage<R>> Evaluation<R, S> {
         }
         self.machine.take(given);
         self.machine.run_on();
-        self.machine.reply()
+        reply(&self.machine)
     }
 
     /// Goes on with a value from memory, after `RequiresMemory`.
@@ -378,7 +380,10 @@ impl<R: Reader + Copy, S: EvaluationStorage<R>> Evaluation<R, S> {
         requires { IsComplete self.now.status }
         ensures { HasResult result self.now.status }
     {
-        self.machine.value_result()
+        match self.machine.state() {
+            EvaluationState::Complete(value) => *value,
+            _ => None,
+        }
     }
 
     /// The list of the pieces of a complete evaluation.

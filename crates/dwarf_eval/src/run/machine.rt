@@ -1,6 +1,6 @@
 //! The state of an evaluation and its smallest steps: changes of the lists and the count, and reads of the text.
 
-ghost use Rattle.std.specs.Prelude.{◌≡◌, ◌<◌, ◌*◌, [], Some, Err, map, length, slice_get, false, true, Option, IfSome, OnOk, IfOk, IfErr};
+ghost use Rattle.std.specs.Prelude.{◌≡◌, ◌<◌, ◌*◌, [], Some, Err, map, length, slice_get, false, true, OnOk, IfOk, IfErr};
 ghost use Rattle.dwarf_base.specs.Faults.{fault_of};
 ghost use Rattle.dwarf_value.specs.Values.{IsAddressMask, width_of};
 ghost use Rattle.dwarf_meaning.specs.Locations as meant;
@@ -12,7 +12,7 @@ ghost use Rattle.dwarf_meaning.specs.Stores.{Located, Pieced, address_bits, push
 ghost use Rattle.dwarf_op.specs.Views.{operation_of, location_of, piece_of};
 ghost use Rattle.dwarf_meaning.specs.Inputs.{with_maximum, with_object, with_status};
 ghost use Rattle.dwarf_eval.specs.Evaluation.{IsAddressSize, request_in};
-ghost use Rattle.dwarf_eval.specs.inner.Machine.{fresh_machine, last_of, limits_of, on_answer_of, status_of};
+ghost use Rattle.dwarf_eval.specs.inner.Machine.{fresh_machine, last_of, limits_of, on_answer_of, replied_status, status_of};
 ghost use Rattle.dwarf_eval.specs.inner.StateChanges.{Asks, CountsOne, GoesBack, Jumps, Pops, ReadsOperation, TriesChange, TriesToEnter, TriesToPop, has_location, is_running, read_to, with_last};
 
 use crate::op::EvaluationResult;
@@ -43,8 +43,6 @@ pub(crate) struct Machine<R: Reader + Copy, S: EvaluationStorage<R>> {
     location: Location<R>,
     // How the answer is used, if a request is open.
     on_answer: OnAnswer<R>,
-    // The value that was on top of the stack, if the evaluation is complete and there was one.
-    value_result: Option<Value>,
     stack: S::Stack,
     expression_stack: S::ExpressionStack,
     pieces: S::Result,
@@ -61,7 +59,7 @@ impl<R: Reader + Copy, S: EvaluationStorage<R>> Model for Machine<R, S> {
     ghost use Rattle.dwarf_eval.specs.inner.Machine.{on_answer_of, status_of, store_of, place_of, callers_of, IsSound};
 
     ghost view = { λ e. record {
-      status = status_of R.text R.Offset.number e.state (on_answer_of R.text e.on_answer) e.value_result;
+      status = status_of R.text R.Offset.number e.state (on_answer_of R.text e.on_answer);
       setup = setup_of e.encoding R.Offset.BITS (S.Stack.limit e.stack)
           (S.ExpressionStack.limit e.expression_stack) (S.Result.limit e.pieces);
       text = R.text e.whole;
@@ -245,27 +243,29 @@ impl<R: Reader + Copy, S: EvaluationStorage<R>> Machine<R, S> {
     pub(crate) fn complete(&mut self, value: Option<Value>)
         ensures { self.new ≡ with_status (CompleteStatus value) self.old }
     {
-        self.state = EvaluationState::Replied(EvaluationResult::Complete);
-        self.value_result = value;
+        self.state = EvaluationState::Complete(value);
     }
 
     /// Opens a request; `on_answer` says how its answer is used.
     #[inline(always)]
     pub(crate) fn ask(&mut self, request: EvaluationResult<R>, on_answer: OnAnswer<R>)
-        ensures alone { IfSome (request_in R.text R.Offset.number request)
-            (λ asked. self.new ≡ with_status (RequestStatus asked (on_answer_of R.text on_answer)) self.old) }
+        ensures alone { self.new
+            ≡ with_status
+            (replied_status (request_in R.text R.Offset.number request)
+            (on_answer_of R.text on_answer))
+            self.old }
         ensures asks { Asks (request_in R.text R.Offset.number request) (on_answer_of R.text on_answer)
             self.old self.new }
     {
-        self.state = EvaluationState::Replied(request);
+        self.state = EvaluationState::Waiting(request);
         self.on_answer = on_answer;
     }
 
     /// The evaluation's state.
     #[inline(always)]
     pub(crate) fn state(&self) -> &EvaluationState<R>
-        ensures { (on_answer : requests.OnAnswer) × (value : Option Value)
-            × (status_of R.text R.Offset.number result.now on_answer value ≡ self.now.status) }
+        ensures { (on_answer : requests.OnAnswer)
+            × (status_of R.text R.Offset.number result.now on_answer ≡ self.now.status) }
     {
         &self.state
     }
@@ -278,14 +278,6 @@ impl<R: Reader + Copy, S: EvaluationStorage<R>> Machine<R, S> {
             → wanted ≡ on_answer_of R.text result.now }
     {
         &self.on_answer
-    }
-
-    /// The value of a complete evaluation.
-    #[inline(always)]
-    pub(crate) fn value_result(&self) -> Option<Value>
-        ensures { (value : Option Value) → self.now.status ≡ CompleteStatus value → result ≡ value }
-    {
-        self.value_result
     }
 
     /// Whether the evaluation runs: it has no request, result or fault yet.
@@ -444,7 +436,6 @@ impl<R: Reader + Copy, S: EvaluationStorage<R>> Machine<R, S> {
         // In Rust these may hold a reader of the text before.
         self.location = Location::Empty;
         self.on_answer = OnAnswer::AsItIs;
-        self.value_result = None;
         self.decodings = Ticks::new();
     }
 
@@ -477,7 +468,6 @@ impl<R: Reader + Copy, S: EvaluationStorage<R>> Machine<R, S> {
             last: LastOperation::Nothing,
             location: Location::Empty,
             on_answer: OnAnswer::AsItIs,
-            value_result: None,
             stack,
             expression_stack,
             pieces,

@@ -41,11 +41,12 @@ pub(crate) enum EvaluationState<R, O = <R as Reader>::Offset> {
     Start(Option<u64>),
     /// It runs; never between two calls.
     Running,
+    /// It is complete. It has the value that was on top of the stack, if there was one.
+    Complete(Option<Value>),
     /// It met a fault.
     Failed(Error),
-    /// It gave this reply: it is complete, or waits for the answer to a request. This is the last variant, so that rustc
-    /// tests for it by one comparison.
-    Replied(EvaluationResult<R, O>),
+    /// It waits for the answer to this request. This is the last variant, so that rustc tests for it by one comparison.
+    Waiting(EvaluationResult<R, O>),
 }
 
 /// What a resume call was given, by the kind of answer.

@@ -1,21 +1,18 @@
 //! The loop of a run: operations, the pieces after locations, and the ends of texts.
 
-ghost use Rattle.std.specs.Prelude.{◌≡◌, ◌<◌, IfOk, length, true};
-ghost use Rattle.dwarf_eval.specs.Evaluation.{IsReplied, reply_of};
-ghost use Rattle.dwarf_eval.specs.Permits.{Admits};
+ghost use Rattle.std.specs.Prelude.{◌≡◌, ◌<◌, length, true};
 ghost use Rattle.dwarf_meaning.specs.Meaning.{finish, whole_piece};
-ghost use Rattle.dwarf_eval.specs.inner.Answers.{IsAtRest, IsAtRestBy, IsEndedBy};
+ghost use Rattle.dwarf_eval.specs.inner.Answers.{IsAtRestBy};
 ghost use Rattle.dwarf_meaning.specs.Rest.{Running, Start};
 ghost use Rattle.dwarf_meaning.specs.RunLaws.{waits_of};
 ghost use Rattle.dwarf_meaning.specs.Stores.{Located};
 ghost use Rattle.dwarf_op.specs.Views.{operation_of, location_of};
-ghost use Rattle.dwarf_eval.specs.inner.StateChanges.{Closes, ComesToState, CompletesWith, EndsLocated, HasReply, RunsOn, Turns, has_location, total};
+ghost use Rattle.dwarf_eval.specs.inner.StateChanges.{Closes, ComesToState, CompletesWith, EndsLocated, RunsOn, Turns, has_location, total};
 
-use crate::op::EvaluationResult;
 use crate::run::machine::Machine;
-use crate::run::states::{EvaluationState, LastOperation};
+use crate::run::states::LastOperation;
 use crate::store::EvaluationStorage;
-use dwarf_base::{Error, Reader, ReaderOffset, Result, copy_of};
+use dwarf_base::{Error, Reader, ReaderOffset, copy_of};
 use dwarf_op::{Location, Operation, Piece};
 use dwarf_value::Value;
 
@@ -119,22 +116,6 @@ impl<R: Reader + Copy, S: EvaluationStorage<R>> Machine<R, S> {
             } else {
                 self.turn();
             }
-        }
-    }
-
-    /// The reply of a machine that doesn't run.
-    #[inline(always)]
-    pub(crate) fn reply(&self) -> Result<EvaluationResult<R>>
-        requires { HasReply self.now.status }
-        ensures reply { IsReplied (reply_of R.text R.Offset.number result) self.now.status }
-        ensures ends { IsEndedBy result self.now.status }
-        ensures rests { IsAtRest self.now }
-        ensures admits { IfOk result (λ replied. Admits replied self.now.status) }
-    {
-        match self.state() {
-            EvaluationState::Replied(replied) => Ok(copy_of(replied)),
-            EvaluationState::Failed(error) => Err(*error),
-            EvaluationState::Start(_) | EvaluationState::Running => unreachable!(),
         }
     }
 

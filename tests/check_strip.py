@@ -43,7 +43,7 @@ CODE = {
     "{ *it }",
     # It is written by hand.
     "#[inline] fn offset_id(&self) -> ReaderOffsetId { ReaderOffsetId(0) }",
-    "ImplicitValue { bytes: block }",
+    "bytes: long_block",
     "ImplicitValue { bytes }",
     "if text.bytes.is_empty() { &[] } else { text.bytes }",
 }

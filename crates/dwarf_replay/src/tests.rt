@@ -1,6 +1,7 @@
 //! Tests of what neither the program nor the archive can show.
 
 mod allocators;
+mod bounds;
 mod cases;
 mod equality;
 mod evaluation;

@@ -44,6 +44,8 @@ def prints(name, command, wanted, folder=TOP):
 
 
 def main():
+    checks.expect_failure(prints, "another text", "echo 1", "2\n")
+    checks.expect_failure(prints, "another status", "echo 1; exit 1", "1\n")
     for page, text in PAGES.items():
         for command, wanted in SESSION.findall(text):
             if command != "bin/test":

@@ -6,6 +6,9 @@
 - Each block whose fence names a file has whole lines of that file, and all of them if it is a proof.
 - docs/GUIDE.md names exactly the operations that are known and aren't the standard's, and docs/ARCHITECTURE.md each
   crate. Figures of README.md and the guide are those of the sources.
+- docs/DIFFERENCES.md names exactly the public names that gimli doesn't have, and the types with a default. DWEXPR_GIMLI
+  names a folder with gimli 0.34; without it, the page may have too few names.
+- c/include/dwexpr.h asserts the place of each field, as docs/PROOFS.md says.
 
 It prints a line for each failure. The last line is `N passed, M failed`.
 """
@@ -34,9 +37,20 @@ BLOCK = re.compile(r"^```\w+ (\S+)\n(.*?)^```$", re.MULTILINE | re.DOTALL)
 FIGURES = [
     (r"(\d+)\s+values,\s+(\d+)\s+callers\s+and\s+(\d+)\s+pieces", "c/include/dwexpr.h", r"DWEXPR_MAX_\w+ (\d+)"),
     (r"at most ([\d,]+) bytes", "c/include/dwexpr.h", r"DWEXPR_EVALUATION_SIZE (\d+)"),
-    (r"\b(\d+)\s+(?:faults|errors)\b", "c/include/dwexpr.h", r"STACK_FULL = (\d+)"),
     (r"`([0-9a-f]{16})`", "docs/PROOFS.md", r"`([0-9a-f]{16})`"),
 ]
+# The crates that users of the library name, and gimli's files that have the same.
+CRATES = ("base", "value", "op", "eval", "replay", "expr")
+GIMLI = ["lib.rs", "common.rs", "endianity.rs", "constants.rs"]
+GIMLI += [f"read/{name}.rs" for name in ("endian_slice", "mod", "op", "reader", "util", "value")]
+# Public names: items, and members of traits and enums.
+WORDS = r"(?:fn|struct|enum|trait|type|const|mod)"
+ITEM = re.compile(rf"^ *pub (?:const |final )*{WORDS} (\w+)|^pub use .*::([A-Z]\w+);", re.MULTILINE)
+TYPE = re.compile(r"^pub (?:enum|trait) (\w+)[^{]*\{\n(.*?)^\}", re.MULTILINE | re.DOTALL)
+MEMBER = re.compile(r"^    (?:final )?(?:(?:fn|const|type) (\w+)|([A-Z]\w+)[,({ ])", re.MULTILINE)
+IN_GIMLI = re.compile(rf"\b{WORDS} (\w+)|^    ([A-Z]\w+)|\b(D[wW]\w+)", re.MULTILINE)
+DEFAULT = re.compile(r"^pub (?:struct|enum) (\w+)<(?:[^>({]*, )?\w+ = ", re.MULTILINE)
+QUOTED = re.compile(r"`(\w+)`")
 # The files and folders of the repository; an editor's are none.
 PLACES = [it.relative_to(TOP) for it in TOP.rglob("*") if not re.match(r"\.?#|.*(?:\.sw.|~)$", it.name)]
 PLACES = {str(it) for it in PLACES if not BESIDE.intersection(it.parts)}
@@ -78,10 +92,56 @@ def figures(page, text):
             expect(same, f"{page} names {' and '.join(named)}, and {path} has {known}")
 
 
+# What is wrong on purpose.
+WRONG = [
+    (paths, "`tests/nothing.py`"),
+    (links, "[a page](nothing.md)"),
+    (links, "[a part](README.md#nothing)"),
+    (blocks, "```rust bin/test\nnothing\n```\n"),
+    (figures, "at most 1 bytes"),
+]
+
+
+def found(pattern, text):
+    """What the groups of a pattern find."""
+    return {it for groups in pattern.findall(text) for it in ([groups] if isinstance(groups, str) else groups) if it}
+
+
+def differences(page, text):
+    """Names that gimli doesn't have, but for members of such types; and defaults of type parameters."""
+    sources = [it for name in CRATES for it in (TOP / f"crates/dwarf_{name}/src").rglob("*.rt")]
+    sources = "\n".join(it.read_text(encoding="utf-8") for it in [*sources, *(TOP / "rust/src").glob("*.rs")])
+    sources = re.sub(r"#\[doc\(hidden\)\]\n.*", "", sources)
+    folder = os.environ.get("DWEXPR_GIMLI")
+    theirs = found(IN_GIMLI, "\n".join(read(f"{folder}/src/{it}") for it in GIMLI)) if folder else set()
+    ours = found(ITEM, sources)
+    for name, members in TYPE.findall(sources):
+        ours |= found(MEMBER, members) if name in theirs or not folder else set()
+    names, defaults = text.split("\n## Names of our own\n")[1].split("\nBy default, ")
+    named = found(QUOTED, "\n".join(re.findall(r"^\| (`.*?) \|", names, re.MULTILINE))) - {"_laws"}
+    own = {it for it in ours - theirs if not it.endswith("_laws")}
+    if not folder:
+        print("left out: public names that gimli doesn't have: DWEXPR_GIMLI names no folder")
+        own &= named
+    expect(named == own, f"{page} and the sources differ in names of our own: {sorted(named ^ own)}")
+    known = found(DEFAULT, sources)
+    expect(known <= found(QUOTED, defaults), f"{page} doesn't have all types with a default: {sorted(known)}")
+
+
 def main():
+    for check, text in WRONG:
+        checks.expect_failure(check, "README.md", text)
     for page in sorted(place for place in PLACES if place.endswith(".md")):
         for check in (paths, links, blocks, figures):
             check(page, read(page))
+    page = read("docs/DIFFERENCES.md")
+    differences("docs/DIFFERENCES.md", page)
+    checks.expect_failure(differences, "docs/DIFFERENCES.md", page.replace("`copy_of`", "`copy`"))
+    header = re.sub(r"/\*.*?\*/", "", read("c/include/dwexpr.h"), flags=re.DOTALL)
+    for struct, fields in re.findall(r"^typedef struct (\w+) \{\n(.*?)^\}", header, re.MULTILINE | re.DOTALL):
+        for field in re.findall(r"(\w+);", fields):
+            there = f"\nDWEXPR_AT({struct}, {field}, " in header
+            expect(there, f"dwexpr.h doesn't assert the place of {struct}.{field}")
     # The guide names the standard's operations by its section, and all others, which are from DW_OP_lo_user on.
     named = read("docs/GUIDE.md").split("\n## The operations\n")[1].split("\n## ")[0]
     known = re.findall(r"^pub const (DW_OP_\w+): DwOp = DwOp\(0x[ef]", read("crates/dwarf_base/src/constants.rt"), re.M)

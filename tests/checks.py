@@ -1,6 +1,8 @@
 """The count of a script's checks."""
 
 import argparse
+import contextlib
+import io
 import sys
 
 import commands
@@ -15,6 +17,18 @@ def expect(good, name, said=""):
     failed += not good
     if not good:
         print(f"FAILED {name}\n{said}".rstrip())
+
+
+def expect_failure(check, *words):
+    """Makes a check of what is wrong on purpose. It has to fail, which counts as one that passed."""
+    global passed, failed
+    before = passed, failed
+    with contextlib.redirect_stdout(io.StringIO()):
+        check(*words)
+    has_failed = failed > before[1]
+    passed, failed = before[0] + has_failed, before[1] + (not has_failed)
+    if not has_failed:
+        print(f"FAILED {check.__name__} takes what is wrong on purpose: {words}"[:400])
 
 
 def end_with(main, doc):

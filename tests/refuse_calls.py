@@ -56,6 +56,13 @@ def cut(row):
         yield "".join(lines[:known]) + "fault StackFull\n" * (steps - known), 1
 
 
+def attempt(library, row, failure, refused, allowed, wanted):
+    """Tries a row while these calls are refused."""
+    printed, said = run(library, row, failure, refused)
+    name = f"{row['name']}, {row['input'][:10]!r}, {refused}, error {failure}"
+    checks.expect(printed in allowed and wanted in said, name, f"{printed}, {said}")
+
+
 def tries(buffer):
     """Each row, the error and the calls that are refused, all that may be printed then, and what is said."""
     for row in MANY:
@@ -86,10 +93,11 @@ def main():
         # The first allocation that the program can do without is that of its buffer of standard output.
         buffers = ({"ALLOCATION": number} for number in range(1, ALLOCATIONS))
         buffer = next(it for it in buffers if run(library, FEW[0], 0, it)[0] == whole(FEW[0]))
-        for row, failure, refused, allowed, wanted in tries(buffer):
-            printed, said = run(library, row, failure, refused)
-            name = f"{row['name']}, {row['input'][:10]!r}, {refused}, error {failure}"
-            checks.expect(printed in allowed and wanted in said, name, f"{printed}, {said}")
+        for words in tries(buffer):
+            attempt(library, *words)
+        checks.expect_failure(attempt, library, FEW[0], 0, {}, [(FEW[0]["output"], 1)], "")
+        checks.expect_failure(attempt, library, FEW[0], 0, {}, [("", 0)], "")
+        checks.expect_failure(attempt, library, FEW[0], 0, {}, [whole(FEW[0])], "something is said")
 
 
 if __name__ == "__main__":

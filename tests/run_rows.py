@@ -10,7 +10,8 @@ it stands. A row may say besides
 - `megabytes`: how much memory the program may have;
 - `error`: all of standard error;
 - `output_pattern` or `error_pattern`: a regular expression for it;
-- `by`: the script of the repository that is run in place of the program.
+- `by`: the script of the repository that is run in place of the program;
+- `wrong`: what it wants wrong on purpose. Each script that runs rows has to find that.
 
 Each vector of tests/vectors/decode.json is a row too: `dwexpr ops` lists its operation by its name, or its fault.
 
@@ -90,7 +91,7 @@ def run(group, row):
 def main():
     for file in sorted((TOP / "tests/rows").glob("[!.]*.json")):
         for row in rows_in(file):
-            run(file.stem, row)
+            checks.expect_failure(run, file.stem, row) if "wrong" in row else run(file.stem, row)
     for vector in rows_in("vectors/decode.json"):
         run("decode", listing_of(vector))
 

@@ -36,8 +36,8 @@ extern "C" {
 
 /* ---------------------------------------------------------------- codes */
 
-/* Each call returns one of these. 1 to 21 are faults of the expression; 64 and above are faults of the arguments.
- * Some faults carry a number, in the field `detail` of the struct that the call wrote. */
+/* Each call returns one of these. Those from 1 to 63 are faults of the expression; 64 and above are faults of the
+ * arguments. Some faults carry a number, in the field `detail` of the struct that the call wrote. */
 enum dwexpr_code {
     DWEXPR_OK = 0,
     DWEXPR_UNEXPECTED_EOF = 1,                  /* an operation is cut off */
@@ -483,6 +483,7 @@ static inline const char *dwexpr_opcode_name(uint32_t opcode)
 
 DWEXPR_ASSERT(words, sizeof(size_t) == sizeof(void *) && (sizeof(void *) == 8 || sizeof(void *) == 4));
 DWEXPR_SIZE(dwexpr_evaluation, 8, 4, 4);
+DWEXPR_AT(dwexpr_evaluation, memory, 0, 0, 0);
 DWEXPR_SIZE(dwexpr_encoding, 4, 4, 4);
 DWEXPR_AT(dwexpr_encoding, address_size, 0, 0, 0);
 DWEXPR_AT(dwexpr_encoding, offset_size, 1, 1, 1);

@@ -24,8 +24,19 @@ static void check(int holds, const char *name, const char *what)
     }
 }
 
+/* What is wrong on purpose has to have failed, once since so many had. It is counted as one that passed. */
+static inline void expect_failure(int failed_before)
+{
+    const int has_failed = failed == failed_before + 1;
+    failed = failed_before + !has_failed;
+    passed += has_failed;
+}
+
 static int finish(void)
 {
+    const int failed_before = failed;
+    check(0, "what is wrong on purpose", "so it has to");
+    expect_failure(failed_before);
     printf("%d passed, %d failed\n", passed, failed);
     return failed || !passed;
 }

@@ -361,7 +361,10 @@ int main(int argc, char **argv)
     for (int i = 2; i < argc; i++)
         for (FILE *file = opened(argv[i]); fgets(row, sizeof row, file);)
             if (read_row(row)) {
+                const int failed_before = failed;
                 try_row();
+                if (field(row, "wrong"))
+                    expect_failure(failed_before);
                 count++;
             }
     check(count > 1700 && beyond_limits < (sizeof(size_t) == 4 ? 40 : 20), "rows", "there are many");

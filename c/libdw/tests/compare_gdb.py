@@ -203,6 +203,8 @@ with tempfile.TemporaryDirectory() as folder:
                 kinds[kind] += 1
                 if kind is None:
                     print(f"{what} at place {place}, level {level}: {known}, here {said}")
+# What is wrong on purpose has to differ.
+kinds[None] += kind_of(0, "main", "argc", 4, (1, 0xFFFFFFFF, 0), "2") is not None
 different = kinds.pop(None, 0)
 print("".join(f"{number} {kind}\n" for kind, number in kinds.most_common()), end="")
 print(f"{kinds.total()} passed, {different} failed")

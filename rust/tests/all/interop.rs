@@ -199,7 +199,7 @@ fn types_convert() {
     let theirs = gimli::Piece::<super::readers::Own> { size_in_bits: Some(5), bit_offset: Some(6), location };
     assert_eq!((gimli::Piece::from(ours.clone()), Piece::try_from(theirs.clone())), (theirs, Ok(ours)));
     for (error, _) in ERRORS {
-        assert_eq!(format!("{:?}", gimli::Error::from(error)), format!("{error:?}"));
+        assert_eq!(format!("{:?}", gimli::Error::from(*error)), format!("{error:?}"));
     }
     let reader = GimliReader::from(own(&[1, 2, 3]));
     assert_eq!((reader.len(), &reader), (3, &GimliReader(own(&[1, 2, 3]))));

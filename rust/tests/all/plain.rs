@@ -10,7 +10,7 @@ use std::fmt::Debug;
 use std::hash::{BuildHasher, BuildHasherDefault, DefaultHasher, Hash};
 
 /// Each error, and its message.
-pub const ERRORS: [(Error, &str); 21] = [
+pub const ERRORS: &[(Error, &str)] = &[
     (Error::UnexpectedEof(ReaderOffsetId(5)), "the bytes end within an operation or a value"),
     (Error::BadUnsignedLeb128, "an unsigned LEB128 number is too large"),
     (Error::BadSignedLeb128, "a signed LEB128 number is too large"),
@@ -36,9 +36,11 @@ pub const ERRORS: [(Error, &str); 21] = [
 
 #[test]
 fn each_error_says_what_it_is() {
+    let variants = include_str!("../../../crates/dwarf_base/src/errors.rt").lines();
+    assert_eq!(ERRORS.len(), variants.filter(|it| it.starts_with("    ") && !it.contains("//")).count());
     for (error, text) in ERRORS {
-        let source: &dyn std::error::Error = &error;
-        assert_eq!(source.to_string(), text);
+        let source: &dyn std::error::Error = error;
+        assert_eq!(source.to_string(), *text);
         assert!(text.starts_with(error.description()));
     }
 }

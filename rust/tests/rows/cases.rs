@@ -13,6 +13,8 @@ pub struct Case {
     pub bytes: Vec<u8>,
     pub steps: Option<String>,
     pub wanted: String,
+    /// It wants another output on purpose.
+    pub is_wrong: bool,
 }
 
 impl Case {
@@ -23,7 +25,7 @@ impl Case {
         let encoding =
             Encoding { address_size: address_size.parse().unwrap(), format, version: version.parse().unwrap() };
         let order = if order == "be" { RunTimeEndian::Big } else { RunTimeEndian::Little };
-        Case { encoding, order, bytes: bytes_in(digits), steps, wanted }
+        Case { encoding, order, bytes: bytes_in(digits), steps, wanted, is_wrong: false }
     }
 }
 
@@ -56,7 +58,8 @@ fn case_of(row: &Json) -> Option<Case> {
         "ops" => None,
         _ => return None,
     };
-    (!wanted.starts_with("bad ")).then(|| Case::of(&words[1..], steps, wanted))
+    let is_wrong = row.get("wrong").is_some();
+    (!wanted.starts_with("bad ")).then(|| Case { is_wrong, ..Case::of(&words[1..], steps, wanted) })
 }
 
 fn case_of_vector(vector: &Json) -> Case {

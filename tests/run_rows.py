@@ -12,7 +12,8 @@ it stands. A row may say besides
 - `output_pattern` or `error_pattern`: a regular expression for it;
 - `by`: the script of the repository that is run in place of the program.
 
-Each vector of tests/vectors/decode.json is a row too: `dwexpr ops` lists its operation by its name, or its fault.
+Each vector of tests/vectors/decode.json is a row too: `dwexpr ops` lists its operation by its name, or its fault. One
+with `bits` is about offsets of another width.
 
 It wants the program that `bin/build` or `rt ci` has built. The last line is `N passed, M failed`.
 """
@@ -92,7 +93,8 @@ def main():
         for row in rows_in(file):
             run(file.stem, row)
     for vector in rows_in("vectors/decode.json"):
-        run("decode", listing_of(vector))
+        if "bits" not in vector:
+            run("decode", listing_of(vector))
 
 
 if __name__ == "__main__":

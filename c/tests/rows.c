@@ -343,6 +343,33 @@ static void limits(void)
     }
 }
 
+/* ---- texts of at most two bytes */
+
+/* Evaluates each with at most 16 operations. A request gets 0, the type U8, or the text of a DW_OP_nop. */
+static void short_texts(void)
+{
+    static const uint8_t nop[] = {0x96};
+    static const dwexpr_settings settings = {.max_iterations = 16};
+    size_t count = 0;
+    encoding = encoding_of(4, 4, 4, 0);
+    for (size_t length = 0; length <= 2; length++)
+        for (uint32_t number = 0; number < 1u << 8 * length; number++, count++) {
+            const uint8_t bytes[] = {(uint8_t)number, (uint8_t)(number >> 8)};
+            const dwexpr_text both[] = {{bytes, length}, {nop, sizeof nop}};
+            uint32_t code =
+                dwexpr_evaluation_evaluate(&evaluation, both, 2, encoding, &settings, outcome, NULL, 0);
+            for (int i = 0; i < 16 && outcome->request > DWEXPR_COMPLETE; i++) {
+                const uint32_t kind = answer_of(outcome->request);
+                const dwexpr_answer answer = {
+                    kind, kind == DWEXPR_ANSWER_BASE_TYPE ? DWEXPR_U8 : DWEXPR_GENERIC, 0, 1};
+                code = dwexpr_evaluation_resume(&evaluation, both, 2, answer, outcome, NULL, 0);
+            }
+            if (outcome->request > DWEXPR_COMPLETE || code >= DWEXPR_BAD_ENCODING)
+                check(0, "a text of at most two bytes", "it ends");
+        }
+    check(count == 65793, "the texts of at most two bytes", "all are evaluated");
+}
+
 int main(int argc, char **argv)
 {
     static char row[1 << 13];
@@ -368,5 +395,6 @@ int main(int argc, char **argv)
     check(count > 1700 && beyond_limits < (sizeof(size_t) == 4 ? 40 : 20), "rows", "there are many");
     encoding = LE8;
     limits();
+    short_texts();
     return finish();
 }

@@ -1,5 +1,6 @@
 //! Runs the rows and vectors of the program `dwexpr` over each reader. They have to give what the program gives.
 
+mod bounds;
 mod cases;
 mod decoded;
 mod json;

@@ -1,9 +1,11 @@
 //! Runs the rows and vectors of the program `dwexpr` over each reader. They have to give what the program gives.
 
 mod bounds;
+mod calls;
 mod cases;
 mod decoded;
 mod json;
+mod lists;
 mod packages;
 mod said;
 

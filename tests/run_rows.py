@@ -13,7 +13,8 @@ it stands. A row may say besides
 - `by`: the script of the repository that is run in place of the program;
 - `wrong`: what it wants wrong on purpose. Each script that runs rows has to find that.
 
-Each vector of tests/vectors/decode.json is a row too: `dwexpr ops` lists its operation by its name, or its fault.
+Each vector of tests/vectors/decode.json is a row too: `dwexpr ops` lists its operation by its name, or its fault. One
+with `bits` is about offsets of another width.
 
 It wants the program that `bin/build` or `rt ci` has built. The last line is `N passed, M failed`.
 """
@@ -93,7 +94,8 @@ def main():
         for row in rows_in(file):
             checks.expect_failure(run, file.stem, row) if "wrong" in row else run(file.stem, row)
     for vector in rows_in("vectors/decode.json"):
-        run("decode", listing_of(vector))
+        if "bits" not in vector:
+            run("decode", listing_of(vector))
 
 
 if __name__ == "__main__":

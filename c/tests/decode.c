@@ -1,21 +1,9 @@
-/* Decodes each vector of a file, and compares every field: decode DWEXPR.H VECTORS. */
+/* Decodes each vector of a file, and compares every field: decode DWEXPR.H COUNTS VECTORS. */
 #include "rows.h"
 
 static struct name codes[NAMES], kinds[NAMES];
 static int has_vector[256];
-
-/* The number of the name that a member of a vector has; 0 without the member. */
-static uint32_t numbered(const char *row, const char *member, const struct name *names)
-{
-    const char *at = field(row, member);
-    for (uint32_t number = 0; at && number < NAMES; number++) {
-        const size_t length = strlen(names[number].text);
-        if (length && !strncmp(at + 1, names[number].text, length) && at[1 + length] == '"')
-            return number;
-    }
-    check(!at, member, "the header has it");
-    return 0;
-}
+static size_t count;
 
 /* Whether the kind's number is an offset or an index. */
 static int is_place(uint32_t kind)
@@ -59,6 +47,9 @@ static void try_vector(const char *row)
     dwexpr_operation want, got;
     size_t length;
     if (!read_expression(row, &encoding, digits))
+        return;
+    count++;
+    if (field(row, "bits") && number_of(row, "bits") != 8 * sizeof(size_t))
         return;
     length = bytes_of(digits, bytes);
     for (size_t offset = 0; offset < 4; offset += 3) {
@@ -116,11 +107,12 @@ static void offsets(void)
 int main(int argc, char **argv)
 {
     static char row[1 << 12];
-    FILE *file = opened(argc > 2 ? argv[2] : NULL);
+    FILE *file = opened(argc > 3 ? argv[3] : NULL);
     read_names(argv[1], "dwexpr_code", "DWEXPR_", codes);
     read_names(argv[1], "dwexpr_operation_kind", "DWEXPR_OP_", kinds);
     while (fgets(row, sizeof row, file))
         try_vector(row);
+    check_count(argv[2], "decode", count);
     for (size_t opcode = 0; opcode < COUNT(has_vector); opcode++)
         check(has_vector[opcode], "an opcode", "it has a vector");
     encodings();

@@ -1,11 +1,11 @@
 /* Runs the rows of the program `dwexpr` by the calls of dwexpr.h, which have to lead to what the program prints: rows
- * DWEXPR.H FILE.. All rows share one evaluation, and calls that change nothing stand between the steps of a row. */
+ * DWEXPR.H COUNTS FILE.. All rows share one evaluation, and calls that change nothing stand between the steps of a
+ * row. */
 #include <stdarg.h>
 
 #include "rows.h"
 
 static struct name codes[NAMES];
-static const char *const types[] = {"none", "generic", "i8", "u8", "i16", "u16", "i32", "u32", "i64", "u64"};
 static const char *const answers[] = {
     [DWEXPR_ANSWER_MEMORY] = "memory",       [DWEXPR_ANSWER_REGISTER] = "register",
     [DWEXPR_ANSWER_WASM] = "wasm",           [DWEXPR_ANSWER_ENTRY_VALUE] = "entry",
@@ -57,7 +57,7 @@ static void say_fault(const struct name *code, unsigned long long detail)
 
 static void say_value(unsigned long long value_type, unsigned long long number)
 {
-    say("%s:", types[value_type % COUNT(types)]);
+    say("%s:", type_word(value_type));
     say(value_type == DWEXPR_GENERIC ? "0x%llx\n" : value_type % 2 ? "%llu\n" : "%lld\n", number);
 }
 
@@ -197,9 +197,7 @@ static dwexpr_answer answer_in_step(void)
     for (uint32_t kind = 1; kind < COUNT(answers); kind++)
         if (!strcmp(step, answers[kind]))
             answer.kind = kind;
-    for (uint32_t type = 1; type < COUNT(types); type++)
-        if (strlen(types[type]) == length && !strncmp(word, types[type], length))
-            answer.value_type = type;
+    answer.value_type = type_at(word);
     answer.number = number_in(word[length] == ':' ? word + length + 1 : word);
     if (answer.kind == DWEXPR_ANSWER_LOCATION) {
         answer.text = texts_length;
@@ -221,8 +219,8 @@ static void disturb(const dwexpr_settings *settings)
 {
     const dwexpr_answer bad[] = {
         {DWEXPR_ANSWER_LOCATION, 0, 0, texts_length}, {0}, {COUNT(answers), DWEXPR_U8, 0, 0},
-        {DWEXPR_ANSWER_MEMORY, DWEXPR_NO_TYPE, 0, 0}, {DWEXPR_ANSWER_ENTRY_VALUE, COUNT(types), 0, 0},
-        {DWEXPR_ANSWER_BASE_TYPE, DWEXPR_NO_TYPE, 0, 0}, {DWEXPR_ANSWER_BASE_TYPE, COUNT(types), 0, 0},
+        {DWEXPR_ANSWER_MEMORY, DWEXPR_NO_TYPE, 0, 0}, {DWEXPR_ANSWER_ENTRY_VALUE, DWEXPR_U64 + 1, 0, 0},
+        {DWEXPR_ANSWER_BASE_TYPE, DWEXPR_NO_TYPE, 0, 0}, {DWEXPR_ANSWER_BASE_TYPE, DWEXPR_U64 + 1, 0, 0},
     };
     dwexpr_encoding bad_encoding = encoding;
     dwexpr_outcome got;
@@ -345,11 +343,38 @@ static void limits(void)
     }
 }
 
+/* ---- texts of at most two bytes */
+
+/* Evaluates each with at most 16 operations. A request gets 0, the type U8, or the text of a DW_OP_nop. */
+static void short_texts(void)
+{
+    static const uint8_t nop[] = {0x96};
+    static const dwexpr_settings settings = {.max_iterations = 16};
+    size_t count = 0;
+    encoding = encoding_of(4, 4, 4, 0);
+    for (size_t length = 0; length <= 2; length++)
+        for (uint32_t number = 0; number < 1u << 8 * length; number++, count++) {
+            const uint8_t bytes[] = {(uint8_t)number, (uint8_t)(number >> 8)};
+            const dwexpr_text both[] = {{bytes, length}, {nop, sizeof nop}};
+            uint32_t code =
+                dwexpr_evaluation_evaluate(&evaluation, both, 2, encoding, &settings, outcome, NULL, 0);
+            for (int i = 0; i < 16 && outcome->request > DWEXPR_COMPLETE; i++) {
+                const uint32_t kind = answer_of(outcome->request);
+                const dwexpr_answer answer = {
+                    kind, kind == DWEXPR_ANSWER_BASE_TYPE ? DWEXPR_U8 : DWEXPR_GENERIC, 0, 1};
+                code = dwexpr_evaluation_resume(&evaluation, both, 2, answer, outcome, NULL, 0);
+            }
+            if (outcome->request > DWEXPR_COMPLETE || code >= DWEXPR_BAD_ENCODING)
+                check(0, "a text of at most two bytes", "it ends");
+        }
+    check(count == 65793, "the texts of at most two bytes", "all are evaluated");
+}
+
 int main(int argc, char **argv)
 {
     static char row[1 << 13];
-    size_t count = 0;
-    if (argc < 3)
+    size_t count = 0, rows = 0;
+    if (argc < 4)
         return 2;
     read_names(argv[1], "dwexpr_code", "DWEXPR_", codes);
     evaluation.memory = malloc(dwexpr_evaluation_size());
@@ -358,8 +383,9 @@ int main(int argc, char **argv)
     check(dwexpr_evaluation_resume(&evaluation, NULL, 0, (dwexpr_answer){DWEXPR_ANSWER_CFA, 0, 0, 0}, outcome, NULL,
                                    0) == DWEXPR_MISPLACED,
           "an answer before the start", "the code");
-    for (int i = 2; i < argc; i++)
-        for (FILE *file = opened(argv[i]); fgets(row, sizeof row, file);)
+    for (int i = 3; i < argc; i++)
+        for (FILE *file = opened(argv[i]); fgets(row, sizeof row, file);) {
+            rows += field(row, "name") != NULL;
             if (read_row(row)) {
                 const int failed_before = failed;
                 try_row();
@@ -367,8 +393,11 @@ int main(int argc, char **argv)
                     expect_failure(failed_before);
                 count++;
             }
+        }
+    check_count(argv[2], "rows", rows);
     check(count > 1700 && beyond_limits < (sizeof(size_t) == 4 ? 40 : 20), "rows", "there are many");
     encoding = LE8;
     limits();
+    short_texts();
     return finish();
 }

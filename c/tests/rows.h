@@ -32,6 +32,16 @@ static inline uint64_t number_of(const char *row, const char *name)
     return at ? strtoull(at, NULL, 10) : 0;
 }
 
+/* Compares how many rows of a kind there are with the number in tests/counts.json, so that none gets lost. */
+static inline void check_count(const char *path, const char *kind, size_t count)
+{
+    char counts[400];
+    FILE *file = opened(path);
+    counts[fread(counts, 1, sizeof counts - 1, file)] = 0;
+    fclose(file);
+    check(count == number_of(counts, kind), kind, "as many as tests/counts.json says");
+}
+
 enum { LONGEST_TEXT = 1 << 19 };
 
 /* Reads a string up to its end, and returns the place after it. */
@@ -119,6 +129,36 @@ static inline void read_names(const char *header, const char *of_enum, const cha
         names[number].carries = strstr(line, "carries") != NULL;
     }
     fclose(file);
+}
+
+/* The word for a type. */
+static inline const char *type_word(unsigned long long type)
+{
+    static const char *const words[] = {"none", "generic", "i8", "u8", "i16", "u16", "i32", "u32", "i64", "u64"};
+    return words[type < COUNT(words) ? type : 0];
+}
+
+/* The type whose word stands at a place, up to a colon, a quotation mark or the end of a line; 0 if there is none. */
+static inline uint32_t type_at(const char *at)
+{
+    const size_t length = strcspn(at, ":\"\r\n");
+    uint32_t type = DWEXPR_U64;
+    while (type && (strlen(type_word(type)) != length || strncmp(at, type_word(type), length)))
+        type--;
+    return type;
+}
+
+/* The number of the name that a member of a row has; 0 without the member. */
+static inline uint32_t numbered(const char *row, const char *member, const struct name *names)
+{
+    const char *at = field(row, member);
+    for (uint32_t number = 0; at && number < NAMES; number++) {
+        const size_t length = strlen(names[number].text);
+        if (length && !strncmp(at + 1, names[number].text, length) && at[1 + length] == '"')
+            return number;
+    }
+    check(!at, member, "the header has it");
+    return 0;
 }
 
 #endif

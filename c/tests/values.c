@@ -1,8 +1,10 @@
-/* The calls on values give what evaluations give, whose results tests/rows/values.json has, and refuse all arguments
- * that aren't allowed. */
-#include "check.h"
+/* The calls on values and on types give what vectors say, and what evaluations give, and refuse all arguments that
+ * aren't allowed: values DWEXPR.H COUNTS VALUES CALLS. */
+#include "rows.h"
 
 enum { ROUNDS = 20000, TYPES = DWEXPR_U64 + 1 };
+
+static struct name codes[NAMES], kinds[NAMES];
 
 /* What a call writes its result to. */
 static const dwexpr_value garbage = {0xa5a5a5a5, 0xa5a5a5a5a5a5a5a5};
@@ -101,6 +103,73 @@ static void operations(void)
     }
 }
 
+/* ---- vectors */
+
+/* A member's value; of no type without the member. */
+static dwexpr_value value_in(const char *row, const char *member)
+{
+    const char *at = field(row, member);
+    dwexpr_value value = {0};
+    if (at) {
+        value.value_type = type_at(at + 1);
+        value.content = strtoull(strchr(at, ':') + 1, NULL, 10);
+    }
+    return value;
+}
+
+/* Makes the call on values that a vector has the arguments of. */
+static void try_values(const char *row)
+{
+    const dwexpr_value left = value_in(row, "left");
+    const uint32_t kind = numbered(row, "kind", kinds), type = field(row, "type") ? type_at(field(row, "type") + 1) : 0;
+    const uint64_t mask = number_of(row, "mask");
+    uint8_t bytes[8];
+    uint32_t code;
+    if (field(row, "bytes"))
+        code = dwexpr_value_parse(type, bytes, bytes_of(field(row, "bytes") + 1, bytes), 0, &got);
+    else if (type)
+        code = dwexpr_value_convert(kind, left, type, mask, &got);
+    else if (field(row, "right"))
+        code = dwexpr_value_binary(kind, left, value_in(row, "right"), mask, &got);
+    else
+        code = dwexpr_value_unary(kind, left, mask, &got);
+    compare(code, numbered(row, "code", codes), value_in(row, "value"), row);
+}
+
+/* Makes another call, if the library has it. */
+static void try_call(const char *row)
+{
+    char call[40], wanted[40];
+    const char *answer = wanted;
+    read_text(field(row, "call"), call);
+    read_text(field(row, "answer"), wanted);
+    if (!strcmp(call, "is_addr_mask"))
+        answer = dwexpr_type_bit_size(DWEXPR_I8, number_of(row, "mask")) ? "true" : "false";
+    if (!strcmp(call, "from_encoding"))
+        answer = type_word(dwexpr_type_from_encoding((uint8_t)number_of(row, "encoding"), number_of(row, "size")));
+    check(!strcmp(answer, wanted), row, "the answer");
+}
+
+static void vectors(char **paths)
+{
+    static const struct {
+        const char *kind;
+        void (*attempt)(const char *row);
+    } all[] = {{"values", try_values}, {"calls", try_call}};
+    char row[400];
+    for (size_t i = 0; i < COUNT(all); i++) {
+        FILE *file = opened(paths[3 + i]);
+        size_t count = 0;
+        while (fgets(row, sizeof row, file))
+            if (row[0] == '{') {
+                all[i].attempt(row);
+                count++;
+            }
+        fclose(file);
+        check_count(paths[2], all[i].kind, count);
+    }
+}
+
 static void is_refused(int is_bad, uint32_t code, const char *name)
 {
     check((code == DWEXPR_BAD_VALUE) == is_bad, name, "whether it is refused");
@@ -173,9 +242,14 @@ static void types(void)
         }
 }
 
-int main(void)
+int main(int argc, char **argv)
 {
+    if (argc < 5)
+        return 2;
     got = garbage;
+    read_names(argv[1], "dwexpr_code", "DWEXPR_", codes);
+    read_names(argv[1], "dwexpr_operation_kind", "DWEXPR_OP_", kinds);
+    vectors(argv);
     operations();
     refusals();
     masks();

@@ -1,7 +1,7 @@
-//! The rows and vectors of the program `dwexpr`, as cases.
+//! The files of rows and vectors, and the rows of the program `dwexpr` as cases.
 
 use crate::json::Json;
-use crate::said::{bytes_in, variant_of};
+use crate::said::bytes_in;
 use dwexpr::{Encoding, Format, RunTimeEndian};
 use std::fs;
 use std::path::Path;
@@ -19,7 +19,7 @@ pub struct Case {
 
 impl Case {
     /// A case, by the words of an encoding and the digits of the bytes.
-    fn of(words: &[&str], steps: Option<String>, wanted: String) -> Case {
+    pub fn of(words: &[&str], steps: Option<String>, wanted: String) -> Case {
         let [address_size, offset_size, version, order, digits] = *words else { panic!("{words:?}") };
         let format = if offset_size == "8" { Format::Dwarf64 } else { Format::Dwarf32 };
         let encoding =
@@ -46,7 +46,7 @@ fn part(json: &Json) -> String {
 }
 
 /// The case of a row. `None` if the row is about something else, such as words or steps that the program refuses.
-fn case_of(row: &Json) -> Option<Case> {
+pub fn case_of(row: &Json) -> Option<Case> {
     if ["by", "program", "input_from", "output_to", "megabytes"].iter().any(|it| row.get(it).is_some()) {
         return None;
     }
@@ -62,29 +62,30 @@ fn case_of(row: &Json) -> Option<Case> {
     (!wanted.starts_with("bad ")).then(|| Case { is_wrong, ..Case::of(&words[1..], steps, wanted) })
 }
 
-fn case_of_vector(vector: &Json) -> Case {
-    let digits = vector.get("bytes").unwrap().text().replace(' ', "");
-    let words: Vec<&str> = vector.get("in").unwrap().text().split(' ').chain([digits.as_str()]).collect();
-    let wanted = match vector.get("code") {
-        Some(code) => {
-            let detail = vector.get("detail").map_or(String::new(), |it| format!(" {}", it.text()));
-            format!("0 fault {}{detail}\n", variant_of(code.text()))
-        }
-        None => format!("0 {digits} {}\n", variant_of(vector.get("kind").unwrap().text())),
-    };
-    Case::of(&words, None, wanted)
+fn tests() -> &'static Path {
+    Path::new(concat!(env!("CARGO_MANIFEST_DIR"), "/tests"))
 }
 
 fn json_in(path: &Path) -> Json {
     Json::of(&fs::read_to_string(path).unwrap())
 }
 
-/// All cases, with their names. The folder is `tests`.
-pub fn cases(tests: &Path) -> Vec<(String, Case)> {
-    let vectors = json_in(&tests.join("vectors/decode.json"));
-    let mut cases: Vec<_> =
-        (0..).zip(vectors.items()).map(|(at, it)| (format!("vector {at}"), case_of_vector(it))).collect();
-    for file in fs::read_dir(tests.join("rows")).unwrap() {
+/// Expects as many rows of a kind as there should be, so that none gets lost.
+fn assert_count(kind: &str, count: usize) {
+    assert_eq!(count as u64, json_in(&tests().join("counts.json")).number(kind), "in tests/counts.json: {kind}");
+}
+
+/// The vectors of a kind.
+pub fn vectors(kind: &str) -> Vec<Json> {
+    let vectors = json_in(&tests().join(format!("vectors/{kind}.json"))).items().to_vec();
+    assert_count(kind, vectors.len());
+    vectors
+}
+
+/// All cases of `tests/rows`, with their names.
+pub fn cases() -> Vec<(String, Case)> {
+    let (mut cases, mut count) = (Vec::new(), 0);
+    for file in fs::read_dir(tests().join("rows")).unwrap() {
         let path = file.unwrap().path();
         // An editor's file is none.
         let name = path.file_name().unwrap().to_str().unwrap();
@@ -94,6 +95,9 @@ pub fn cases(tests: &Path) -> Vec<(String, Case)> {
         let rows = json_in(&path);
         let named = |row: &Json| Some((format!("{}: {}", path.display(), row.get("name")?.text()), case_of(row)?));
         cases.extend(rows.items().iter().filter_map(named));
+        count += rows.items().len();
     }
+    assert_count("rows", count);
+    assert!(cases.len() > 1800, "{} of {count} rows are cases", cases.len());
     cases
 }

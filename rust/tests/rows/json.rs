@@ -3,7 +3,7 @@
 use std::iter::Peekable;
 use std::str::Chars;
 
-#[derive(Debug)]
+#[derive(Clone, Debug)]
 pub enum Json {
     /// A string, or the letters and digits of anything else that is no list or object.
     Text(String),
@@ -19,12 +19,20 @@ impl Json {
 
     /// A member of an object.
     pub fn get(&self, name: &str) -> Option<&Json> {
-        let Json::Object(members) = self else { panic!("{self:?} is no object") };
-        members.iter().find(|it| it.0 == name).map(|it| &it.1)
+        self.members().iter().find(|it| it.0 == name).map(|it| &it.1)
+    }
+
+    pub fn members(&self) -> &[(String, Json)] {
+        if let Json::Object(members) = self { members } else { panic!("{self:?} is no object") }
     }
 
     pub fn items(&self) -> &[Json] {
         if let Json::List(items) = self { items } else { panic!("{self:?} is no list") }
+    }
+
+    /// A member that is a number.
+    pub fn number(&self, name: &str) -> u64 {
+        self.get(name).expect(name).text().parse().unwrap()
     }
 
     pub fn text(&self) -> &str {

@@ -1,15 +1,24 @@
 //! Runs the rows and vectors of the program `dwexpr` over each reader. They have to give what the program gives.
 
+mod bounds;
+mod calls;
 mod cases;
+mod decoded;
 mod json;
+mod lists;
 mod packages;
 mod said;
 
-use cases::Case;
-use dwexpr::{Error, Evaluation, Reader, ReaderOffsetId, Result, RunTimeEndian};
+use cases::{Case, cases, vectors};
+use dwexpr::{EndianSlice, Error, Evaluation, Reader, ReaderOffset, ReaderOffsetId, Result, RunTimeEndian};
 use std::collections::VecDeque;
-use std::path::Path;
+use std::marker::PhantomData;
 use std::rc::Rc;
+
+/// A slice of bytes that are never freed; the program is short.
+fn slice(bytes: &[u8], order: RunTimeEndian) -> EndianSlice<'static, RunTimeEndian> {
+    EndianSlice::new(bytes.to_vec().leak(), order)
+}
 
 impl Case {
     /// The lines that the case gives over a reader.
@@ -21,82 +30,84 @@ impl Case {
     }
 }
 
-/// A reader of a user's, over bytes that are no slice, with offsets of 64 bits.
+/// A reader of a user's, over bytes that are no slice.
 #[derive(Clone, Debug)]
-struct Own {
+struct Own<O> {
     bytes: Rc<VecDeque<u8>>,
     order: RunTimeEndian,
     next: u64,
     end: u64,
+    offsets: PhantomData<O>,
 }
 
-impl Reader for Own {
-    type Offset = u64;
+impl<O> Own<O> {
+    fn of(bytes: &[u8], order: RunTimeEndian) -> Own<O> {
+        let end = bytes.len() as u64;
+        Own { bytes: Rc::new(bytes.iter().copied().collect()), order, next: 0, end, offsets: PhantomData }
+    }
+}
 
-    fn len(&self) -> u64 {
-        self.end - self.next
+impl<O: ReaderOffset> Reader for Own<O> {
+    type Offset = O;
+
+    fn len(&self) -> O {
+        O::from_u64(self.end - self.next).unwrap()
     }
 
     fn is_empty(&self) -> bool {
-        self.len() == 0
+        self.next == self.end
     }
 
     fn empty(&mut self) {
         self.next = self.end;
     }
 
-    fn offset_from(&self, base: &Self) -> u64 {
-        self.next - base.next
+    fn offset_from(&self, base: &Self) -> O {
+        O::from_u64(self.next - base.next).unwrap()
     }
 
-    fn skip(&mut self, len: u64) -> Result<()> {
+    fn skip(&mut self, len: O) -> Result<()> {
         self.split(len).map(drop)
     }
 
-    fn split(&mut self, len: u64) -> Result<Self> {
-        if self.len() < len {
+    fn split(&mut self, len: O) -> Result<Self> {
+        if self.len().into_u64() < len.into_u64() {
             return Err(Error::UnexpectedEof(ReaderOffsetId(self.next)));
         }
-        let front = Own { end: self.next + len, ..self.clone() };
+        let front = Own { end: self.next + len.into_u64(), ..self.clone() };
         self.next = front.end;
         Ok(front)
     }
 
     fn read_fixed(&mut self, n: u8) -> Result<u64> {
-        let part = self.split(n.into())?;
+        let part = self.split(O::from_u8(n))?;
         let bytes = self.bytes.range(part.next as usize..part.end as usize);
         let number = |number: u64, byte: &u8| number << 8 | u64::from(*byte);
         Ok(if self.order == RunTimeEndian::Big { bytes.fold(0, number) } else { bytes.rev().fold(0, number) })
     }
 }
 
-/// Expects each case over a reader to give its lines. A step out of turn panics.
+/// Expects each row and vector over a reader to be as it says. A step out of turn panics.
 fn assert_all<R: Reader>(read: impl Fn(&[u8], RunTimeEndian) -> R) {
-    let tests = Path::new(env!("CARGO_MANIFEST_DIR")).join("tests");
-    let cases = cases::cases(&tests);
+    let cases = cases();
     let said: Vec<String> = cases.iter().map(|it| it.1.said(|bytes| read(bytes, it.1.order))).collect();
-    assert!(cases.len() > 3000, "there are {} cases", cases.len());
     let mut wrong = 0;
     for ((name, case), said) in cases.iter().zip(said) {
         // Offsets of 32 bits are too small for some cases, and branches wrap there.
         let is_narrow = ["UnsupportedOffset", "BadBranchTarget"].iter().any(|it| said.contains(it));
-        let differs = said != case.wanted && !(cfg!(target_pointer_width = "32") && is_narrow);
+        let differs = said != case.wanted && !(R::Offset::BITS == 32 && is_narrow);
         assert_eq!(differs, case.is_wrong, "{name}: {said}{} is wanted", case.wanted);
         wrong += usize::from(differs);
     }
     assert_eq!(wrong, 1, "one case is wrong on purpose");
+    vectors("decode").iter().for_each(|it| decoded::assert_decoded(it, &read));
 }
 
 #[test]
 fn rows_and_vectors_are_as_they_say() {
-    // The bytes are never freed; the program is short.
-    assert_all(|bytes, order| dwexpr::EndianSlice::new(bytes.to_vec().leak(), order));
-    assert_all(|bytes, order| Own {
-        bytes: Rc::new(bytes.iter().copied().collect()),
-        order,
-        next: 0,
-        end: bytes.len() as u64,
-    });
+    assert_all(slice);
+    assert_all(Own::<u64>::of);
+    assert_all(Own::<u32>::of);
     #[cfg(feature = "gimli")]
     {
         use dwexpr::GimliReader;

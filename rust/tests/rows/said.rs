@@ -7,7 +7,7 @@ use dwexpr::{
 use std::fmt::Debug;
 use std::panic::{AssertUnwindSafe, catch_unwind};
 
-type Reply<R> = dwexpr::Result<EvaluationResult<R>>;
+pub type Reply<R> = dwexpr::Result<EvaluationResult<R>>;
 
 pub const TYPES: [(&str, ValueType); 9] = [
     ("generic", ValueType::Generic),
@@ -39,19 +39,23 @@ fn number_in(word: &str) -> u64 {
     }
 }
 
-fn type_in(word: &str) -> ValueType {
+pub fn type_in(word: &str) -> ValueType {
     TYPES.iter().find(|it| it.0 == word).expect("a type").1
 }
 
-fn value_in(word: &str) -> Value {
+pub fn value_in(word: &str) -> Value {
     let (value_type, number) = word.split_once(':').expect("a value has a type");
     Value::from_u64(type_in(value_type), number_in(number)).unwrap()
 }
 
+pub fn type_word(value_type: ValueType) -> String {
+    TYPES.iter().find(|it| it.1 == value_type).expect("a type").0.into()
+}
+
 pub fn value_word(value: Value) -> String {
-    let name = TYPES.iter().find(|it| it.1 == value.value_type()).expect("a type").0;
+    let name = type_word(value.value_type());
     let number = value.to_u64(u64::MAX).unwrap();
-    match name {
+    match name.as_str() {
         "generic" => format!("{name}:{number:#x}"),
         _ if name.starts_with('i') => format!("{name}:{}", number as i64),
         _ => format!("{name}:{number}"),
@@ -59,7 +63,7 @@ pub fn value_word(value: Value) -> String {
 }
 
 /// The word for a reader's remaining bytes.
-fn block_word<R: Reader>(mut reader: R) -> String {
+pub fn block_word<R: Reader>(mut reader: R) -> String {
     let bytes: Vec<u8> = std::iter::from_fn(|| reader.read_u8().ok()).collect();
     digits_of(&bytes)
 }
@@ -77,7 +81,7 @@ pub fn variant_of(name: &str) -> String {
     name.split('_').map(capitalized).collect()
 }
 
-fn fault(error: Error) -> String {
+pub fn fault(error: Error) -> String {
     let number = match error {
         Error::UnsupportedAddressSize(size) | Error::InvalidDerefSize(size) => Some(size.into()),
         Error::UnsupportedRegister(number) | Error::InvalidPieceSize(number) => Some(number),

@@ -1,0 +1,77 @@
+//! Each evaluation and each iterator ends, whatever the bytes are.
+
+use crate::cases::{Case, cases, vectors};
+use crate::decoded::case_of;
+use crate::said::{Reply, bytes_in};
+use crate::slice;
+use dwexpr::{
+    Encoding, Evaluation, EvaluationResult, Expression, Format, Reader, RunTimeEndian, Status, Value, ValueType,
+};
+
+/// Answers a request by the generic value 0, the number 0, the text of a DW_OP_nop or the type `U8`.
+fn answered<R: Reader>(it: &mut Evaluation<R>, request: EvaluationResult<R>, nop: &R) -> Reply<R> {
+    use EvaluationResult::*;
+    let zero = Value::Generic(0);
+    match request {
+        Complete => Ok(Complete),
+        RequiresMemory { .. } => it.resume_with_memory(zero),
+        RequiresRegister { .. } => it.resume_with_register(zero),
+        RequiresWasmLocal { .. } | RequiresWasmGlobal { .. } | RequiresWasmStack { .. } => {
+            it.resume_with_wasm_value(zero)
+        }
+        RequiresEntryValue(_) => it.resume_with_entry_value(zero),
+        RequiresFrameBase => it.resume_with_frame_base(0),
+        RequiresTls(_) => it.resume_with_tls(0),
+        RequiresCallFrameCfa => it.resume_with_call_frame_cfa(0),
+        RequiresParameterRef(_) => it.resume_with_parameter_ref(0),
+        RequiresRelocatedAddress(_) => it.resume_with_relocated_address(0),
+        RequiresIndexedAddress { .. } => it.resume_with_indexed_address(0),
+        RequiresAtLocation(_) => it.resume_with_at_location(nop.clone()),
+        RequiresBaseType(_) => it.resume_with_base_type(ValueType::U8),
+    }
+}
+
+/// Evaluates with as many operations, and expects the end after as many answers at most.
+fn assert_ends(text: &[u8], encoding: Encoding, order: RunTimeEndian, maximum: u32) {
+    let nop = slice(&[0x96], order);
+    let mut it = Evaluation::new(slice(text, order), encoding);
+    it.set_max_iterations(maximum);
+    let mut reply = it.evaluate();
+    for _ in 0..maximum {
+        let Ok(request) = reply else { break };
+        reply = answered(&mut it, request, &nop);
+    }
+    assert!(matches!(it.status(), Status::Complete | Status::Failed(_)), "{text:x?}");
+}
+
+#[test]
+fn each_text_of_at_most_two_bytes_ends() {
+    let encoding = Encoding { address_size: 4, format: Format::Dwarf32, version: 4 };
+    let bytes = || 0..=u8::MAX;
+    let texts = bytes().flat_map(|first| bytes().map(move |second| vec![first, second]));
+    let texts: Vec<_> = texts.chain(bytes().map(|byte| vec![byte])).chain([vec![]]).collect();
+    assert_eq!(texts.len(), 65_793);
+    texts.iter().for_each(|text| assert_ends(text, encoding, RunTimeEndian::Little, 16));
+}
+
+/// A case's texts: its own, and those that answer calls.
+fn texts(case: &Case) -> Vec<Vec<u8>> {
+    let steps = case.steps.as_deref().unwrap_or_default().lines();
+    let called = steps.filter_map(|step| step.strip_prefix("location ")).map(bytes_in);
+    called.chain([case.bytes.clone()]).collect()
+}
+
+#[test]
+fn each_front_of_a_text_ends() {
+    let vectors = vectors("decode");
+    for case in cases().into_iter().map(|it| it.1).chain(vectors.iter().map(case_of)) {
+        // Cutting off a long text takes too long.
+        for text in texts(&case).iter().filter(|it| it.len() <= 1000) {
+            for front in (0..=text.len()).map(|length| &text[..length]) {
+                let items = Expression(slice(front, case.order)).operations(case.encoding).take(front.len() + 1);
+                assert!(items.count() <= front.len(), "{front:x?}");
+                assert_ends(front, case.encoding, case.order, 1000);
+            }
+        }
+    }
+}

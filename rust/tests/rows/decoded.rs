@@ -1,0 +1,109 @@
+//! Decodes the operation of a vector, and compares every field.
+
+use crate::cases::Case;
+use crate::json::Json;
+use crate::said::{block_word, digits_of, fault, name_of, variant_of};
+use dwexpr::{DieReference, Error, Operation, Reader, ReaderOffset, RunTimeEndian};
+use std::collections::BTreeMap;
+use std::fmt::Display;
+
+/// Fields that aren't 0, by their names in `c/include/dwexpr.h`. A block's is its bytes.
+type Fields<'a> = BTreeMap<&'a str, String>;
+
+fn fields<'a>(all: impl IntoIterator<Item = (&'a str, String)>) -> Fields<'a> {
+    all.into_iter().filter(|it| it.1 != "0").collect()
+}
+
+fn field(name: &str, number: impl Display) -> (&str, String) {
+    (name, number.to_string())
+}
+
+fn fields_of<R: Reader>(operation: Operation<R>) -> Fields<'static> {
+    use Operation::*;
+    let place = |name, offset: R::Offset| field(name, offset.into_u64());
+    let block = |bytes: R| ("block", block_word(bytes));
+    fields(match operation {
+        Deref { size, base_type, space } => {
+            vec![field("deref_size", size), place("base_type", base_type.0), field("flag", u8::from(space))]
+        }
+        Pick { index } => vec![field("number", index)],
+        PlusConstant { value } | UnsignedConstant { value } => vec![field("number", value)],
+        SignedConstant { value } => vec![field("signed_number", value)],
+        Bra { target } | Skip { target } => vec![field("signed_number", target)],
+        Register { register } => vec![field("register_number", register.0)],
+        RegisterOffset { register, offset, base_type } => {
+            vec![field("register_number", register.0), field("signed_number", offset), place("base_type", base_type.0)]
+        }
+        FrameOffset { offset } => vec![field("signed_number", offset)],
+        Call { offset: DieReference::UnitRef(offset) } => vec![place("number", offset.0)],
+        Call { offset: DieReference::DebugInfoRef(offset) } => vec![place("number", offset.0), field("flag", 1)],
+        Piece { size_in_bits, bit_offset } => vec![
+            field("number", size_in_bits),
+            field("flag", u8::from(bit_offset.is_some())),
+            field("detail", bit_offset.unwrap_or(0)),
+        ],
+        ImplicitValue { data } => vec![block(data)],
+        EntryValue { expression } => vec![block(expression)],
+        ImplicitPointer { value, byte_offset } => vec![place("number", value.0), field("signed_number", byte_offset)],
+        ParameterRef { offset } => vec![place("number", offset.0)],
+        VariableValue { offset } => vec![place("number", offset.0)],
+        Address { address } => vec![field("number", address)],
+        AddressIndex { index } | ConstantIndex { index } => vec![place("number", index.0)],
+        TypedLiteral { base_type, value } => vec![place("base_type", base_type.0), block(value)],
+        Convert { base_type } | Reinterpret { base_type } => vec![place("base_type", base_type.0)],
+        WasmLocal { index } | WasmGlobal { index } | WasmStack { index } => vec![field("number", index)],
+        // The vector's kind says which it is.
+        _ => vec![],
+    })
+}
+
+fn wanted_fields<'a>(vector: &'a Json, bytes: &[u8]) -> Fields<'a> {
+    let others = ["in", "bytes", "kind", "gimli"];
+    let members = vector.members().iter().filter(|it| !others.contains(&it.0.as_str()));
+    fields(members.map(|(name, it)| match it {
+        Json::List(block) => {
+            let [place, length] = [0, 1].map(|at| block[at].text().parse::<usize>().unwrap());
+            (name.as_str(), digits_of(&bytes[place..place + length]))
+        }
+        _ => field(name, it.text()),
+    }))
+}
+
+pub fn case_of(vector: &Json) -> Case {
+    let text = |name| vector.get(name).map(Json::text);
+    let words: Vec<&str> = text("in").unwrap().split(' ').chain(text("bytes")).collect();
+    let wanted = match text("code") {
+        Some(code) => format!("fault {} {}", variant_of(code), text("detail").unwrap_or_default()),
+        None => variant_of(text("kind").unwrap()),
+    };
+    Case::of(&words, None, wanted.trim_end().into())
+}
+
+/// Expects an operation before two bytes to be as its vector says, and each of its fronts to be cut off.
+pub fn assert_decoded<R: Reader>(vector: &Json, read: &impl Fn(&[u8], RunTimeEndian) -> R) {
+    let bits = vector.get("bits").map(Json::text);
+    if bits.is_some_and(|bits| bits != R::Offset::BITS.to_string()) {
+        return;
+    }
+    let Case { encoding, order, mut bytes, wanted, .. } = case_of(vector);
+    let length = bytes.len();
+    // An operation that is cut off has to be at the end.
+    if wanted != "fault UnexpectedEof" {
+        bytes.extend([0x96; 2]);
+    }
+    let text = read(&bytes, order);
+    let mut rest = text.clone();
+    match Operation::parse(&mut rest, encoding) {
+        Err(Error::UnsupportedOffset) if bits.is_none() && R::Offset::BITS == 32 => {}
+        Err(error) => assert_eq!(fault(error), wanted, "{vector:?}"),
+        Ok(operation) => {
+            assert_eq!(name_of(&operation), wanted, "{vector:?}");
+            assert_eq!(fields_of(operation), wanted_fields(vector, &bytes), "{vector:?}");
+            assert_eq!(rest.offset_from(&text).into_u64(), length as u64, "{vector:?}");
+            for front in 0..length {
+                let cut_off = Operation::parse(&mut read(&bytes[..front], order), encoding);
+                assert!(matches!(cut_off, Err(Error::UnexpectedEof(_))), "{front} bytes of {vector:?}");
+            }
+        }
+    }
+}

@@ -49,10 +49,13 @@ fn wrapped(number: i128, bits: u32, is_signed: bool) -> i128 {
 
 /// The numbers, wrapped to values of each type.
 fn of_each_type(numbers: impl Fn(ValueType) -> Vec<i128>) -> Vec<Value> {
-    let values = TYPES.into_iter().flat_map(|it| numbers(it).into_iter().map(move |number| value_of(it, number)));
-    // Many numbers are the same value of a small type.
     let mut distinct = Vec::new();
-    values.for_each(|it| if !distinct.contains(&it) { distinct.push(it) });
+    for value in TYPES.into_iter().flat_map(|it| numbers(it).into_iter().map(move |number| value_of(it, number))) {
+        // Many numbers are the same value of a small type.
+        if !distinct.contains(&value) {
+            distinct.push(value);
+        }
+    }
     distinct
 }
 

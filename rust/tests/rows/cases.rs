@@ -1,9 +1,8 @@
 //! The rows and vectors of the program `dwexpr`, as cases.
 
-use crate::json::Json;
+use crate::json::{self, Json, text_of};
 use crate::said::{bytes_in, variant_of};
 use dwexpr::{Encoding, Format, RunTimeEndian};
-use std::fs;
 use std::path::Path;
 
 /// An expression to decode, or to evaluate by some steps.
@@ -24,22 +23,6 @@ impl Case {
             Encoding { address_size: address_size.parse().unwrap(), format, version: version.parse().unwrap() };
         let order = if order == "be" { RunTimeEndian::Big } else { RunTimeEndian::Little };
         Case { encoding, order, bytes: bytes_in(digits), steps, wanted }
-    }
-}
-
-/// The text of a row: a string, or parts that may repeat. `None` if it is bytes.
-fn text_of(json: &Json) -> Option<String> {
-    match json {
-        Json::Text(text) => Some(text.clone()),
-        Json::List(parts) => Some(parts.iter().map(part).collect()),
-        _ => None,
-    }
-}
-
-fn part(json: &Json) -> String {
-    match json {
-        Json::List(pair) => pair[0].text().repeat(pair[1].text().parse().unwrap()),
-        _ => json.text().into(),
     }
 }
 
@@ -72,23 +55,13 @@ fn case_of_vector(vector: &Json) -> Case {
     Case::of(&words, None, wanted)
 }
 
-fn json_in(path: &Path) -> Json {
-    Json::of(&fs::read_to_string(path).unwrap())
-}
-
 /// All cases, with their names. The folder is `tests`.
 pub fn cases(tests: &Path) -> Vec<(String, Case)> {
-    let vectors = json_in(&tests.join("vectors/decode.json"));
+    let vectors = json::read(&tests.join("vectors/decode.json"));
     let mut cases: Vec<_> =
         (0..).zip(vectors.items()).map(|(at, it)| (format!("vector {at}"), case_of_vector(it))).collect();
-    for file in fs::read_dir(tests.join("rows")).unwrap() {
-        let path = file.unwrap().path();
-        // An editor's file is none.
-        let name = path.file_name().unwrap().to_str().unwrap();
-        if name.starts_with('.') || !name.ends_with(".json") {
-            continue;
-        }
-        let rows = json_in(&path);
+    for path in json::files_in(&tests.join("rows")) {
+        let rows = json::read(&path);
         let named = |row: &Json| Some((format!("{}: {}", path.display(), row.get("name")?.text()), case_of(row)?));
         cases.extend(rows.items().iter().filter_map(named));
     }

@@ -322,25 +322,33 @@ static void append(char *to, const char *part, size_t times)
         strcat(to, part);
 }
 
+/* Each list is filled from the start, and after a request. */
 static void limits(void)
 {
-    for (size_t more = 0; more < 2; more++) {
+    static const char *const begins[][3] = {{"", "evaluate\n", ""}, {"9c13", "evaluate\ncfa 1\n", "cfa\n"}};
+    const size_t shorter_lists = beyond_limits;
+    for (unsigned i = 0; i < 2 * COUNT(begins); i++) {
+        const char *const *const begin = begins[i / 2];
+        const size_t more = i % 2;
         const char *end = more ? "fault StackFull\n" : "";
-        strcpy(name, "values"), strcpy(steps, "evaluate\n"), strcpy(output, end), digits[0] = 0;
+        strcpy(name, "values"), strcpy(digits, begin[0]), strcpy(steps, begin[1]), strcpy(output, begin[2]);
         append(digits, "35", DWEXPR_MAX_VALUES + more);
-        append(output, "complete\npiece none none address 0x5\nvalue generic:0x5\n", !more);
+        append(output, more ? end : "complete\npiece none none address 0x5\nvalue generic:0x5\n", 1);
         try_row();
-        strcpy(name, "pieces"), strcpy(output, more ? end : "complete\n"), digits[0] = 0;
+        strcpy(name, "pieces"), strcpy(digits, begin[0]), strcpy(output, begin[2]);
         append(digits, "9301", DWEXPR_MAX_PIECES + more);
+        append(output, more ? end : "complete\n", 1);
         append(output, "piece 8 none empty\n", more ? 0 : DWEXPR_MAX_PIECES);
         append(output, "value none\n", !more);
         try_row();
-        strcpy(name, "callers"), strcpy(digits, "98050096"), output[0] = 0;
+        strcpy(name, "callers"), strcpy(digits, begin[0]), strcpy(output, begin[2]);
+        append(digits, "98050096", 1);
         append(steps, "location 98050096\n", DWEXPR_MAX_CALLERS + more);
         append(output, "location unit 5\n", DWEXPR_MAX_CALLERS + 1);
         append(output, end, 1);
         try_row();
     }
+    check(beyond_limits == shorter_lists, "limits", "no list is shorter");
 }
 
 /* ---- texts of at most two bytes */

@@ -61,8 +61,13 @@ fn add_pages(sources: &mut Sources, folder: &str) {
     }
 }
 
-/// Enables the tests that need files outside of the repository, if a variable names them.
+/// Enables the tests that need files outside of the repository, if a variable names them, and the one that needs files
+/// outside of the package.
 fn allow_tests() {
+    println!("cargo::rustc-check-cfg=cfg(rows)");
+    if std::fs::exists("tests/rows").is_ok_and(|it| it) {
+        println!("cargo::rustc-cfg=rows");
+    }
     for (variable, cfg) in [("GIMLI_TESTS", "gimli_tests"), ("DWEXPR_ARCHIVE", "archive")] {
         println!("cargo::rerun-if-env-changed={variable}");
         println!("cargo::rustc-check-cfg=cfg({cfg})");

@@ -27,13 +27,15 @@
 //! - `gimli`: `GimliReader` reads from any `gimli::Reader`, and the types of both crates convert. It is for gimli 0.34.
 //!   To Cargo any other version of gimli is another crate, whose readers don't work here.
 //! - `small`: smaller code by `opt-level = "z"`.
-#![no_std]
-#![forbid(unsafe_code)]
+// Its unit test counts allocations, and so has an allocator.
+#![cfg_attr(not(test), no_std)]
+#![cfg_attr(not(test), forbid(unsafe_code))]
 #![warn(missing_docs)]
 
 #[cfg(feature = "alloc")]
 extern crate alloc;
 // The sources name `std`, and use only what `core` has.
+#[cfg(not(test))]
 extern crate core as std;
 
 // The module `sources`, which the build script writes. Each line has the same number as in the proved source.
@@ -47,6 +49,10 @@ mod lists;
 mod casts;
 #[cfg(feature = "gimli")]
 mod conversions;
+// It implements sealed traits. The rows that it runs over aren't in a package.
+#[cfg(all(test, rows, feature = "alloc", target_pointer_width = "64"))]
+#[path = "../tests/cost.rs"]
+mod cost;
 mod errors;
 mod evaluation;
 #[cfg(feature = "alloc")]

@@ -2,6 +2,7 @@
 
 #[cfg(feature = "gimli")]
 mod clones;
+mod ends;
 mod evaluations;
 mod generic;
 mod integers;

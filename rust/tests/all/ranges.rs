@@ -115,6 +115,16 @@ fn a_list_holds_what_was_put_there_until_a_restart() {
     }
 }
 
+/// The list on the heap has no capacity. These values take half a gigabyte of addresses.
+#[test]
+#[cfg(target_pointer_width = "64")]
+fn a_list_holds_many_values() {
+    let text = vec![0x31; (1 << 24) + 1];
+    let mut it = evaluation(&text);
+    assert_eq!(it.evaluate(), Ok(Complete));
+    assert_eq!(it.value_result(), Some(Value::Generic(1)));
+}
+
 /// A lent list takes one item per slot.
 #[test]
 fn a_lent_list_has_its_capacity() {

@@ -4,26 +4,29 @@ use super::{ENCODING, little, panics};
 use dwexpr::EvaluationResult::*;
 use dwexpr::{Error, Evaluation, EvaluationStorage, Location, Piece, Reader, SliceVec, StoreInSlices, Value};
 
-/// Two values, one caller and two pieces fit, and one more is refused; so it is after each restart.
+/// Two values, one caller and two pieces fit, and one more is refused; so it is after each restart, and after a request.
 fn has_limits_2_1_2<R: Reader, S: EvaluationStorage<R>>(mut it: Evaluation<R, S>, read: fn(&'static [u8]) -> R) {
     let call = &[0x98, 1, 0, 0x96];
+    // Each text follows DW_OP_call_frame_cfa and DW_OP_drop.
     for (text, called, wanted) in [
-        (&[0x31, 0x32][..], &[][..], Ok(2)),
-        (&[0x31, 0x32, 0x33], &[], Err(Error::StackFull)),
-        (&[0x93, 1, 0x93, 1], &[], Ok(0)),
-        (&[0x93, 1, 0x93, 1, 0x93, 1], &[], Err(Error::StackFull)),
-        (call, &[&[0x31][..]], Ok(1)),
-        (call, &[call, &[0x31]], Err(Error::StackFull)),
-        (&[0x31, 0x32, 0x22], &[], Ok(3)),
+        (&[0x9c, 0x13, 0x31, 0x32][..], &[][..], Ok(2)),
+        (&[0x9c, 0x13, 0x31, 0x32, 0x33], &[], Err(Error::StackFull)),
+        (&[0x9c, 0x13, 0x93, 1, 0x93, 1], &[], Ok(0)),
+        (&[0x9c, 0x13, 0x93, 1, 0x93, 1, 0x93, 1], &[], Err(Error::StackFull)),
+        (&[0x9c, 0x13, 0x98, 1, 0, 0x96], &[&[0x31][..]], Ok(1)),
+        (&[0x9c, 0x13, 0x98, 1, 0, 0x96], &[call, &[0x31]], Err(Error::StackFull)),
+        (&[0x9c, 0x13, 0x31, 0x32, 0x22], &[], Ok(3)),
     ] {
         it.restart(read(text), ENCODING);
-        let mut reply = it.evaluate();
+        assert!(matches!(it.evaluate(), Ok(RequiresCallFrameCfa)));
+        let mut reply = it.resume_with_call_frame_cfa(7);
         for bytes in called {
             assert!(matches!(reply, Ok(RequiresAtLocation(_))));
             reply = it.resume_with_at_location(read(bytes));
         }
         let value = |it: &Evaluation<R, S>| it.value_result().map_or(Ok(0), |value| value.to_u64(u64::MAX));
         assert_eq!(reply.and_then(|_| value(&it)), wanted, "{text:x?}");
+        assert!(wanted != Ok(0) || it.as_result().len() == 2);
     }
     assert!(matches!(it.as_result()[0].location, Location::Address { address: 3 }));
 }

@@ -1,9 +1,8 @@
 //! The files of rows and vectors, and the rows of the program `dwexpr` as cases.
 
-use crate::json::Json;
+use crate::json::{self, Json, text_of};
 use crate::said::bytes_in;
 use dwexpr::{Encoding, Format, RunTimeEndian};
-use std::fs;
 use std::path::Path;
 
 /// An expression to decode, or to evaluate by some steps.
@@ -29,22 +28,6 @@ impl Case {
     }
 }
 
-/// The text of a row: a string, or parts that may repeat. `None` if it is bytes.
-fn text_of(json: &Json) -> Option<String> {
-    match json {
-        Json::Text(text) => Some(text.clone()),
-        Json::List(parts) => Some(parts.iter().map(part).collect()),
-        _ => None,
-    }
-}
-
-fn part(json: &Json) -> String {
-    match json {
-        Json::List(pair) => pair[0].text().repeat(pair[1].text().parse().unwrap()),
-        _ => json.text().into(),
-    }
-}
-
 /// The case of a row. `None` if the row is about something else, such as words or steps that the program refuses.
 pub fn case_of(row: &Json) -> Option<Case> {
     if ["by", "program", "input_from", "output_to", "megabytes"].iter().any(|it| row.get(it).is_some()) {
@@ -66,18 +49,14 @@ fn tests() -> &'static Path {
     Path::new(concat!(env!("CARGO_MANIFEST_DIR"), "/tests"))
 }
 
-fn json_in(path: &Path) -> Json {
-    Json::of(&fs::read_to_string(path).unwrap())
-}
-
 /// Expects as many rows of a kind as there should be, so that none gets lost.
 fn assert_count(kind: &str, count: usize) {
-    assert_eq!(count as u64, json_in(&tests().join("counts.json")).number(kind), "in tests/counts.json: {kind}");
+    assert_eq!(count as u64, json::read(&tests().join("counts.json")).number(kind), "in tests/counts.json: {kind}");
 }
 
 /// The vectors of a kind.
 pub fn vectors(kind: &str) -> Vec<Json> {
-    let vectors = json_in(&tests().join(format!("vectors/{kind}.json"))).items().to_vec();
+    let vectors = json::read(&tests().join(format!("vectors/{kind}.json"))).items().to_vec();
     assert_count(kind, vectors.len());
     vectors
 }
@@ -85,14 +64,8 @@ pub fn vectors(kind: &str) -> Vec<Json> {
 /// All cases of `tests/rows`, with their names.
 pub fn cases() -> Vec<(String, Case)> {
     let (mut cases, mut count) = (Vec::new(), 0);
-    for file in fs::read_dir(tests().join("rows")).unwrap() {
-        let path = file.unwrap().path();
-        // An editor's file is none.
-        let name = path.file_name().unwrap().to_str().unwrap();
-        if name.starts_with('.') || !name.ends_with(".json") {
-            continue;
-        }
-        let rows = json_in(&path);
+    for path in json::files_in(&tests().join("rows")) {
+        let rows = json::read(&path);
         let named = |row: &Json| Some((format!("{}: {}", path.display(), row.get("name")?.text()), case_of(row)?));
         cases.extend(rows.items().iter().filter_map(named));
         count += rows.items().len();

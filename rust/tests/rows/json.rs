@@ -1,6 +1,8 @@
 //! The part of JSON that the rows use.
 
+use std::fs;
 use std::iter::Peekable;
+use std::path::{Path, PathBuf};
 use std::str::Chars;
 
 #[derive(Clone, Debug)]
@@ -37,6 +39,35 @@ impl Json {
 
     pub fn text(&self) -> &str {
         if let Json::Text(text) = self { text } else { panic!("{self:?} is no text") }
+    }
+}
+
+pub fn read(path: &Path) -> Json {
+    Json::of(&fs::read_to_string(path).unwrap())
+}
+
+/// The files of a folder. An editor's file is none.
+pub fn files_in(folder: &Path) -> Vec<PathBuf> {
+    let is_ours = |path: &PathBuf| {
+        let name = path.file_name().unwrap().to_str().unwrap();
+        !name.starts_with('.') && name.ends_with(".json")
+    };
+    fs::read_dir(folder).unwrap().map(|it| it.unwrap().path()).filter(is_ours).collect()
+}
+
+/// The text of a row: a string, or parts that may repeat. `None` if it is bytes.
+pub fn text_of(json: &Json) -> Option<String> {
+    match json {
+        Json::Text(text) => Some(text.clone()),
+        Json::List(parts) => Some(parts.iter().map(part).collect()),
+        _ => None,
+    }
+}
+
+fn part(json: &Json) -> String {
+    match json {
+        Json::List(pair) => pair[0].text().repeat(pair[1].text().parse().unwrap()),
+        _ => json.text().into(),
     }
 }
 

@@ -49,7 +49,7 @@ static void try_vector(const char *row)
     if (!read_expression(row, &encoding, digits))
         return;
     count++;
-    if (field(row, "bits") && number_of(row, "bits") != 8 * sizeof(size_t))
+    if (is_for_others(row))
         return;
     length = bytes_of(digits, bytes);
     for (size_t offset = 0; offset < 4; offset += 3) {

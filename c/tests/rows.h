@@ -82,6 +82,12 @@ static inline const char *read_text(const char *at, char *text)
     return at + 1;
 }
 
+/* Whether a vector is about offsets of another width than this machine's. */
+static inline int is_for_others(const char *row)
+{
+    return field(row, "bits") && number_of(row, "bits") != 8 * sizeof(size_t);
+}
+
 /* Reads the encoding and the digits of a row's words or of a vector. Returns whether it has such. */
 static inline int read_expression(const char *row, dwexpr_encoding *encoding, char *digits)
 {

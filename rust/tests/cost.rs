@@ -22,6 +22,7 @@ use std::path::Path;
 use std::{env, fs};
 
 #[path = "rows/json.rs"]
+#[allow(dead_code, reason = "the tests of rows call more of it")]
 mod json;
 
 const MOST_EXPRESSIONS: usize = 20_000;

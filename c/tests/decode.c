@@ -49,7 +49,7 @@ static void try_vector(const char *row)
     if (!read_expression(row, &encoding, digits))
         return;
     count++;
-    if (is_for_others(row))
+    if (is_for_other_offsets(row))
         return;
     length = bytes_of(digits, bytes);
     for (size_t offset = 0; offset < 4; offset += 3) {

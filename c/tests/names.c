@@ -197,7 +197,7 @@ static void check_vector(const char *row)
     uint8_t bytes[40];
     dwexpr_encoding encoding;
     const char *name;
-    if (!read_expression(row, &encoding, digits) || is_for_others(row))
+    if (!read_expression(row, &encoding, digits) || is_for_other_offsets(row))
         return;
     const size_t length = bytes_of(digits, bytes);
     name = dwexpr_opcode_name(bytes[0]);

@@ -83,7 +83,7 @@ static inline const char *read_text(const char *at, char *text)
 }
 
 /* Whether a vector is about offsets of another width than this machine's. */
-static inline int is_for_others(const char *row)
+static inline int is_for_other_offsets(const char *row)
 {
     return field(row, "bits") && number_of(row, "bits") != 8 * sizeof(size_t);
 }

@@ -54,6 +54,7 @@ counts! {
     Split "split",
     Skip "skip",
     Len "len",
+    // Each step of a run asks once.
     IsEmpty "is_empty",
     Empty "empty",
     OffsetFrom "offset_from",

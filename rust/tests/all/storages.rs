@@ -4,7 +4,7 @@ use super::{ENCODING, little, panics};
 use dwexpr::EvaluationResult::*;
 use dwexpr::{Error, Evaluation, EvaluationStorage, Location, Piece, Reader, SliceVec, StoreInSlices, Value};
 
-/// Two values, one caller and two pieces fit, and one more is refused; so it is after each restart, and after a request.
+/// Two values, one caller and two pieces fit after a request, and one more is refused; so it is after each restart.
 fn has_limits_2_1_2<R: Reader, S: EvaluationStorage<R>>(mut it: Evaluation<R, S>, read: fn(&'static [u8]) -> R) {
     let call = &[0x98, 1, 0, 0x96];
     // Each text follows DW_OP_call_frame_cfa and DW_OP_drop.

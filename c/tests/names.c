@@ -190,21 +190,23 @@ static void check_line(dwexpr_encoding encoding, const uint8_t *bytes, size_t le
     }
 }
 
-/* Checks the line of a vector, if a row is one. */
-static void check_vector(const char *row)
+/* Checks the line of a vector. Returns whether the row is one. */
+static size_t check_vector(const char *row)
 {
     char digits[80], wanted[200];
     uint8_t bytes[40];
     dwexpr_encoding encoding;
     const char *name;
+    size_t length;
     if (!read_expression(row, &encoding, digits) || is_for_other_offsets(row))
-        return;
-    const size_t length = bytes_of(digits, bytes);
+        return 0;
+    length = bytes_of(digits, bytes);
     name = dwexpr_opcode_name(bytes[0]);
     strcpy(wanted, name ? name : "fault");
     for (const char *at = field(row, "code") || !name ? "" : operands_of(name); *at; at++)
         add_field(wanted, *at, row, digits);
     check_line(encoding, bytes, length, wanted, 0);
+    return 1;
 }
 
 static void put_number(uint8_t bytes[3], uint32_t number)
@@ -240,15 +242,17 @@ static void check_long_lines(void)
 int main(int argc, char **argv)
 {
     static char row[1 << 12];
+    size_t count = 0;
     if (argc < 4)
         return 2;
-    check_line(LE8, (const uint8_t[]){0x06}, 1, "DW_OP_dup", sizeof "DW_OP_dup");
+    check_line(LE8, (const uint8_t[]){0x06}, 1, "DW_OP_dup", sizeof "DW_OP_dup"); /* which is DW_OP_deref */
     expect_failure(0);
     check_names(argv[1], "dwexpr_code", dwexpr_code_name, codes, COUNT(codes));
     check_names(argv[1], "dwexpr_request", dwexpr_request_name, requests, COUNT(requests));
     check_names(argv[1], "dwexpr_piece_kind", dwexpr_piece_name, pieces, COUNT(pieces));
     for (FILE *file = opened(argv[2]); fgets(row, sizeof row, file);)
-        check_vector(row);
+        count += check_vector(row);
+    check(count > 1500, "vectors", "there are many");
     for (int i = 3; i < argc; i++)
         check_opcodes(argv[i], i == 3);
     check_long_lines();

@@ -38,6 +38,56 @@ pub(crate) fn kind_of<R: Reader + Copy>(replied: &EvaluationResult<R>) -> Option
     })
 }
 
+/// Copies a request. The requests of most expressions are copied field by field: copying them whole makes evaluating
+/// libc and libm from C longer by 19% of gimli's time.
+#[inline(always)]
+fn copy_of_request<R: Reader + Copy>(request: &EvaluationResult<R>) -> EvaluationResult<R>
+    ensures { result ≡ request.now }
+{
+    if let EvaluationResult::RequiresRegister {
+        register,
+        base_type,
+    } = request
+    {
+        return EvaluationResult::RequiresRegister {
+            register: *register,
+            base_type: *base_type,
+        };
+    }
+    if let EvaluationResult::RequiresFrameBase = request {
+        return EvaluationResult::RequiresFrameBase;
+    }
+    if let EvaluationResult::RequiresEntryValue(expression) = request {
+        return EvaluationResult::RequiresEntryValue(copy_of(expression));
+    }
+    copy_of_rare_request(request)
+}
+
+/// Copies a request that few expressions make.
+#[inline(always)]
+fn copy_of_rare_request<R: Reader + Copy>(request: &EvaluationResult<R>) -> EvaluationResult<R>
+    ensures { result ≡ request.now }
+{
+    if let EvaluationResult::RequiresMemory {
+        address,
+        size,
+        space: None,
+        base_type,
+    } = request
+    {
+        return EvaluationResult::RequiresMemory {
+            address: *address,
+            size: *size,
+            space: None,
+            base_type: *base_type,
+        };
+    }
+    if let EvaluationResult::RequiresCallFrameCfa = request {
+        return EvaluationResult::RequiresCallFrameCfa;
+    }
+    copy_of(request)
+}
+
 /// The reply of a machine that doesn't run.
 #[inline(always)]
 pub(crate) fn reply<R: Reader + Copy, S: EvaluationStorage<R>>(
@@ -51,7 +101,7 @@ pub(crate) fn reply<R: Reader + Copy, S: EvaluationStorage<R>>(
     ensures admits { IfOk result (λ replied. Admits replied machine.now.status) }
 {
     match machine.state() {
-        EvaluationState::Waiting(request) => Ok(copy_of(request)),
+        EvaluationState::Waiting(request) => Ok(copy_of_request(request)),
         EvaluationState::Failed(error) => Err(*error),
         _ => Ok(EvaluationResult::Complete),
     }

@@ -12,18 +12,18 @@ returns-in-Waiting-clause-reply g c =
     let text = g.R.Reader.text in
     let number = g.R.Offset.ReaderOffset.number in
     let is = sym c.state.ensures.1 ∙ ap (λ s. status_of text number s c.state.ensures.0) c.in-Waiting.is in
-    rw c.copy_of.ensures (subst (IsReplied (ok_reply text number c.in-Waiting.request)) (sym is) (result_replied text number c.state.ensures.0 c.in-Waiting.request))
+    rw c.copy_of_request.ensures (subst (IsReplied (ok_reply text number c.in-Waiting.request)) (sym is) (result_replied text number c.state.ensures.0 c.in-Waiting.request))
 
 pub returns-in-Waiting-clause-ends : goal.returns-in-Waiting-clause-ends
 returns-in-Waiting-clause-ends g c =
     let text = g.R.Reader.text in
     let number = g.R.Offset.ReaderOffset.number in
     let is = sym c.state.ensures.1 ∙ ap (λ s. status_of text number s c.state.ensures.0) c.in-Waiting.is in
-    rw c.copy_of.ensures (subst (IsEndedBy (Ok c.in-Waiting.request)) (sym is) (result_ends text number c.state.ensures.0 c.in-Waiting.request))
+    rw c.copy_of_request.ensures (subst (IsEndedBy (Ok c.in-Waiting.request)) (sym is) (result_ends text number c.state.ensures.0 c.in-Waiting.request))
 
 pub returns-in-Waiting-clause-admits : goal.returns-in-Waiting-clause-admits
 returns-in-Waiting-clause-admits g c =
     let text = g.R.Reader.text in
     let number = g.R.Offset.ReaderOffset.number in
     let is = sym c.state.ensures.1 ∙ ap (λ s. status_of text number s c.state.ensures.0) c.in-Waiting.is in
-    rw c.copy_of.ensures (subst (Admits c.in-Waiting.request) (sym is) (result_admits text number c.state.ensures.0 c.in-Waiting.request))
+    rw c.copy_of_request.ensures (subst (Admits c.in-Waiting.request) (sym is) (result_admits text number c.state.ensures.0 c.in-Waiting.request))

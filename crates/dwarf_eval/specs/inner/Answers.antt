@@ -1,9 +1,11 @@
 -- What a machine is given as an answer, what it waits for, and how it ended.
-use Rattle.std.specs.Prelude.{◌≡◌, Result, Ok, Err}
+use Rattle.std.specs.Prelude.{◌≡◌, Option, Some, None, Result, Ok, Err}
 use Rattle.dwarf_base.specs.declared.errors.Error.{Error}
 use Rattle.dwarf_base.specs.Reads.{Text}
 use Rattle.dwarf_meaning.specs.Inputs.{fresh_state, with_settings, with_status}
+use Rattle.dwarf_meaning.specs.declared.kinds.WaitingKind.{WaitingKind}
 use Rattle.dwarf_meaning.specs.declared.kinds.WaitingKind.TheVariants as kind
+use Rattle.dwarf_meaning.specs.Kinds.{kind_of_request}
 use Rattle.dwarf_meaning.specs.Requests as requests
 use Rattle.dwarf_meaning.specs.Rest as rest
 use Rattle.dwarf_meaning.specs.Rest.{Start, Running, RequestStatus, CompleteStatus, FaultStatus}
@@ -31,6 +33,11 @@ answer_of text (given.BaseType value_type) = requests.BaseTypeAnswer value_type
 abbrev pub IsWaiting : rest.Status → Type 0
 IsWaiting (RequestStatus request on_answer) = Unit {0}
 IsWaiting _ = ⊥
+
+-- the kind of the open request, if there is one
+abbrev pub open_kind : rest.Status → Option WaitingKind
+open_kind (RequestStatus request on_answer) = Some (kind_of_request request)
+open_kind _ = None
 
 -- by the status: the machine doesn't run; at the start it is fresh, except for its settings
 abbrev pub IsAtRestBy : rest.State → rest.Status → Type 0

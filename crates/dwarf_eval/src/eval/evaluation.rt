@@ -7,7 +7,7 @@ ghost use Rattle.dwarf_meaning.specs.Kinds.{kind_of_answer};
 ghost use Rattle.dwarf_meaning.specs.Requests as requests;
 ghost use Rattle.dwarf_meaning.specs.Rest.{Start};
 ghost use Rattle.dwarf_eval.specs.Permits.{Admits, AnswersWith, IsOpenFor, Permits, Shows};
-ghost use Rattle.dwarf_eval.specs.inner.Answers.{answer_of};
+ghost use Rattle.dwarf_eval.specs.inner.Answers.{answer_of, open_kind};
 ghost use Rattle.dwarf_eval.specs.Evaluation.{Evaluates, HasResult, IsAddressSize, IsClosed, IsComplete, fresh_state, with_maximum, with_object, with_status};
 ghost use Rattle.dwarf_meaning.specs.Stores.{setup_of};
 ghost use Rattle.dwarf_op.specs.Views.{piece_of};
@@ -83,6 +83,17 @@ impl<R: Reader + Copy, S: EvaluationStorage<R>> Evaluation<R, S> {
         self.machine.restart(bytecode, encoding);
     }
 
+    /// The kind of the open request, if there is one.
+    #[inline(always)]
+    fn open_kind(&self) -> Option<WaitingKind>
+        ensures { result ≡ open_kind self.now.status }
+    {
+        match self.machine.state() {
+            EvaluationState::Waiting(request) => kind_of(request),
+            _ => None,
+        }
+    }
+
     /// Where the evaluation stands, and so which calls it allows.
     pub fn status(&self) -> Status
         ensures shows { Shows self.now.status result }
@@ -108,10 +119,9 @@ impl<R: Reader + Copy, S: EvaluationStorage<R>> Evaluation<R, S> {
     pub fn is_open_for(&self, kind: WaitingKind) -> bool
         ensures { (result ≡ true) ↔ IsOpenFor kind self.now.status }
     {
-        match self.machine.state() {
-            EvaluationState::Waiting(request) => kind_of(request).is_some_and(|open| open == kind),
-            EvaluationState::Failed(_) => true,
-            _ => false,
+        match self.open_kind() {
+            Some(open) => open == kind,
+            None => matches!(self.machine.state(), EvaluationState::Failed(_)),
         }
     }
 

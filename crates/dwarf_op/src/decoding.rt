@@ -1,7 +1,7 @@
 //! Decodes the operation at the front of a text, by the table of opcodes.
 
 ghost use Rattle.std.specs.Prelude.{◌≡◌, ◌<◌, ◌≤◌, length, OnOk};
-ghost use Rattle.dwarf_base.specs.Reads.{Reads};
+ghost use Rattle.dwarf_base.specs.Reads.{Reads, format_at};
 ghost use Rattle.dwarf_meaning.specs.Decoding.{operation_at};
 ghost use Rattle.dwarf_meaning.specs.Opcodes.{Unsigned, row_of, sized_block, wasm_row};
 ghost use Rattle.dwarf_meaning.specs.Operands.{Bytes, Leb128, Any, Offset, ref_size};
@@ -13,8 +13,8 @@ ghost use Rattle.dwarf_op.specs.Views.{operation_of};
 use crate::operations::{DieReference, Operation};
 use dwarf_base::constants::*;
 use dwarf_base::{
-    DebugAddrIndex, DebugInfoOffset, DwOp, Encoding, Error, Reader, ReaderOffset, Register, Result,
-    UnitOffset, constants,
+    DebugAddrIndex, DebugInfoOffset, DwOp, Encoding, Error, Format, Reader, ReaderOffset, Register,
+    Result, UnitOffset, constants,
 };
 
 // The first and last opcode of each range.
@@ -184,9 +184,7 @@ fn read_row<R: Reader + Copy>(opcode: u8, bytes: &mut R, encoding: Encoding) -> 
             offset: DieReference::UnitRef(UnitOffset(R::Offset::from_u32(bytes.read_u32()?))),
         },
         DW_OP_call_ref => Operation::Call {
-            offset: DieReference::DebugInfoRef(DebugInfoOffset(bytes.read_offset(
-                encoding.format,
-            )?)),
+            offset: DieReference::DebugInfoRef(debug_info_offset(bytes, encoding.format)?),
         },
         DW_OP_form_tls_address | DW_OP_GNU_push_tls_address => Operation::TLS,
         DW_OP_call_frame_cfa => Operation::CallFrameCFA,
@@ -203,10 +201,10 @@ fn read_row<R: Reader + Copy>(opcode: u8, bytes: &mut R, encoding: Encoding) -> 
             byte_offset: bytes.read_sleb128()?,
         },
         DW_OP_addrx | DW_OP_GNU_addr_index => Operation::AddressIndex {
-            index: DebugAddrIndex(offset(bytes)?),
+            index: address_index(bytes)?,
         },
         DW_OP_constx | DW_OP_GNU_const_index => Operation::ConstantIndex {
-            index: DebugAddrIndex(offset(bytes)?),
+            index: address_index(bytes)?,
         },
         DW_OP_entry_value | DW_OP_GNU_entry_value => Operation::EntryValue {
             expression: long_block(bytes)?,
@@ -215,23 +213,23 @@ fn read_row<R: Reader + Copy>(opcode: u8, bytes: &mut R, encoding: Encoding) -> 
         DW_OP_regval_type | DW_OP_GNU_regval_type => Operation::RegisterOffset {
             register: register_number(bytes)?,
             offset: 0,
-            base_type: UnitOffset(offset(bytes)?),
+            base_type: base_type(bytes)?,
         },
         DW_OP_deref_type | DW_OP_GNU_deref_type => Operation::Deref {
             size: bytes.read_u8()?,
-            base_type: UnitOffset(offset(bytes)?),
+            base_type: base_type(bytes)?,
             space: false,
         },
         DW_OP_xderef_type => Operation::Deref {
             size: bytes.read_u8()?,
-            base_type: UnitOffset(offset(bytes)?),
+            base_type: base_type(bytes)?,
             space: true,
         },
         DW_OP_convert | DW_OP_GNU_convert => Operation::Convert {
-            base_type: UnitOffset(offset(bytes)?),
+            base_type: base_type(bytes)?,
         },
         DW_OP_reinterpret | DW_OP_GNU_reinterpret => Operation::Reinterpret {
-            base_type: UnitOffset(offset(bytes)?),
+            base_type: base_type(bytes)?,
         },
         DW_OP_WASM_location => wasm_location(bytes)?,
         DW_OP_GNU_uninit => Operation::Uninitialized,
@@ -239,7 +237,7 @@ fn read_row<R: Reader + Copy>(opcode: u8, bytes: &mut R, encoding: Encoding) -> 
             offset: UnitOffset(R::Offset::from_u32(bytes.read_u32()?)),
         },
         DW_OP_GNU_variable_value => Operation::VariableValue {
-            offset: DebugInfoOffset(bytes.read_offset(encoding.format)?),
+            offset: debug_info_offset(bytes, encoding.format)?,
         },
         _ => return Err(Error::InvalidExpression(DwOp(opcode))),
     })
@@ -253,6 +251,39 @@ fn offset<R: Reader + Copy>(bytes: &mut R) -> Result<R::Offset>
         (unsigned_in R.Offset.BITS (R.text bytes.old) (Leb128, Offset)) }
 {
     R::Offset::from_u64(bytes.read_uleb128()?)
+}
+
+/// Reads the offset of a base type's entry in the unit.
+#[tactic(auto, using(dwarf_base::proofs::Suffixes::suffix_trans))]
+#[inline(always)]
+fn base_type<R: Reader + Copy>(bytes: &mut R) -> Result<UnitOffset<R::Offset>>
+    ensures { Reads (λ base_type. R.Offset.number base_type.0) (R.text bytes.old) (R.text bytes.new) result
+        (unsigned_in R.Offset.BITS (R.text bytes.old) (Leb128, Offset)) }
+{
+    Ok(UnitOffset(offset(bytes)?))
+}
+
+/// Reads an index into `.debug_addr`.
+#[tactic(auto, using(dwarf_base::proofs::Suffixes::suffix_trans))]
+#[inline(always)]
+fn address_index<R: Reader + Copy>(bytes: &mut R) -> Result<DebugAddrIndex<R::Offset>>
+    ensures { Reads (λ index. R.Offset.number index.0) (R.text bytes.old) (R.text bytes.new) result
+        (unsigned_in R.Offset.BITS (R.text bytes.old) (Leb128, Offset)) }
+{
+    Ok(DebugAddrIndex(offset(bytes)?))
+}
+
+/// Reads the offset of an entry in `.debug_info`.
+#[tactic(auto, using(dwarf_base::proofs::Suffixes::suffix_trans))]
+#[inline(always)]
+fn debug_info_offset<R: Reader + Copy>(
+    bytes: &mut R,
+    format: Format,
+) -> Result<DebugInfoOffset<R::Offset>>
+    ensures { Reads (λ entry. R.Offset.number entry.0) (R.text bytes.old) (R.text bytes.new) result
+        (format_at (R.text bytes.old).is_big format R.Offset.BITS (R.text bytes.old).bytes) }
+{
+    Ok(DebugInfoOffset(bytes.read_offset(format)?))
 }
 
 /// Reads an unsigned LEB128 number that is the number of a register.
@@ -321,7 +352,7 @@ fn typed_literal<R: Reader + Copy>(bytes: &mut R) -> Result<Operation<R>>
         (Unsigned (Leb128, Offset) λ base_type. sized_block (Bytes 1, Any) (TypedLiteral base_type))) }
 {
     Ok(Operation::TypedLiteral {
-        base_type: UnitOffset(offset(bytes)?),
+        base_type: base_type(bytes)?,
         value: short_block(bytes)?,
     })
 }

@@ -18,10 +18,10 @@ use Rattle.dwarf_meaning.specs.RowWords.{dwarf4}
 use Rattle.dwarf_meaning.specs.Rest.{State, Status, RequestStatus, FaultStatus}
 use Rattle.dwarf_meaning.specs.Steps.{Step, Log, Reply, outcome_of, Allows, AllAllowed, step_replies, after_step, after_steps, replies_of}
 use Rattle.dwarf_meaning.specs.Refusals.{Limits, Refusal, Never, After, HasFreeList, MayPick}
-use Rattle.dwarf_laws.specs.Agreement as agreeing
-use Rattle.dwarf_laws.specs.Agreement.{Both, nothing, something, AgreeingSteps, AgreeingLogs, AgreeingOutcomes}
+use Rattle.dwarf_meaning.specs.Agreement as agreeing
+use Rattle.dwarf_meaning.specs.Agreement.{Both, nothing, something, AgreeingSteps, AgreeingLogs, AgreeingOutcomes}
 use Rattle.dwarf_laws.specs.TwoRuns.{NoneIsFull, AreAlike, AreComparable}
-use Rattle.dwarf_laws.proofs.Pairs.{Pairwise, none, more, zipped, pairs, get_both}
+use Rattle.dwarf_meaning.proofs.Pairs.{Pairwise, none, more, zipped, pairs, get_both}
 use Rattle.dwarf_laws.proofs.Evaluations.{two_runs}
 use Rattle.dwarf_replay.specs.Replays.{log_at, IsInRequest, IsInFault, StandsAt}
 use Rattle.dwarf_expr.specs.Twins.{AreTwins, MayReplay, AreComparableReplays, open_texts, StatesStandAlike, unstarted, in_request, in_fault, in_completion, IsFront, DoesAllWith, FindsMisplaced, FindsNoRoom, ReplayAlike, TwoReplays}

@@ -15,7 +15,7 @@ use Rattle.dwarf_meaning.specs.RowWords.{text, dwarf4}
 use Rattle.dwarf_meaning.specs.Rest.{State, Start, RequestStatus, CompleteStatus, FaultStatus}
 use Rattle.dwarf_meaning.specs.Steps.{Step, Reply}
 use Rattle.dwarf_meaning.specs.Refusals.{Refusal, HasFreeList}
-use Rattle.dwarf_laws.specs.Agreement.{Both, AgreeingNumbers, AgreeingSteps, AgreeingSettings, AgreeingPieces}
+use Rattle.dwarf_meaning.specs.Agreement.{Both, AgreeingNumbers, AgreeingSteps, AgreeingSettings, AgreeingPieces}
 use Rattle.dwarf_laws.specs.TwoRuns.{NoneIsFull}
 use Rattle.dwarf_replay.specs.Replays.{DoesAll, StopsAt, OverflowsAt}
 

@@ -12,7 +12,7 @@ ghost use Rattle.dwarf_meaning.specs.Meaning.{Outcome};
 ghost use Rattle.dwarf_meaning.specs.RowWords.{dwarf4};
 ghost use Rattle.dwarf_meaning.specs.Steps.{Step, Evaluate, RequestReply, FaultReply};
 ghost use Rattle.std.specs.List.{AllZip};
-ghost use Rattle.dwarf_laws.specs.Agreement.{AgreeingSteps};
+ghost use Rattle.dwarf_meaning.specs.Agreement.{AgreeingSteps};
 ghost use Rattle.dwarf_laws.specs.Inlining.{CallSite, outer_text, inlined_text};
 ghost use Rattle.dwarf_laws.specs.LawRows.{IsWorked, started_steps};
 ghost use Rattle.dwarf_expr.specs.Inlined.{MayInline, InlinedReplay};

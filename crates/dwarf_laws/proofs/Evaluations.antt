@@ -14,10 +14,10 @@ use Rattle.std.specs.Option.{IfSome}
 use Rattle.dwarf_meaning.proofs.OutcomeByInputs.{outcome_from}
 use Rattle.dwarf_meaning.specs.Steps.{Step, Evaluate, Resume, Log, outcome_of, Awaits, Allows, inputs_after, after, Reply, reply, replies, step_replies, after_step, replies_of, empty_log}
 use Rattle.dwarf_meaning.specs.Refusals.{Limits, Refusal}
-use Rattle.dwarf_laws.specs.Agreement.{Both, nothing, something, AgreeingAnswers, AgreeingSteps, initial_value, object_address, max_iterations, evaluate, resume, AgreeingFirsts, AgreeingInputs, AgreeingLogs, AgreeingOutcomes, requests}
+use Rattle.dwarf_meaning.specs.Agreement.{Both, nothing, something, AgreeingAnswers, AgreeingSteps, initial_value, object_address, max_iterations, evaluate, resume, AgreeingFirsts, AgreeingInputs, AgreeingLogs, AgreeingOutcomes, requests}
 use Rattle.dwarf_laws.specs.TwoRuns.{NoneIsFull, StandAlike, AreAlike, TwoRuns}
-use Rattle.dwarf_laws.proofs.Pairs.{Pairwise, none, more, pairs}
-use Rattle.dwarf_laws.proofs.Actions.{same_kinds}
+use Rattle.dwarf_meaning.proofs.Pairs.{Pairwise, none, more, pairs}
+use Rattle.dwarf_meaning.proofs.Actions.{same_kinds}
 use Rattle.dwarf_laws.proofs.Holdings.{either, pushing_either}
 use Rattle.dwarf_laws.proofs.Meanings.{meaning_both}
 

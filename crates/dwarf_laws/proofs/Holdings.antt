@@ -12,11 +12,10 @@ use Rattle.dwarf_meaning.specs.Requests.{Request, OnAnswer}
 use Rattle.dwarf_meaning.specs.Acts.{Act}
 use Rattle.dwarf_meaning.specs.Stores.{Setup, address_bits, Store, Last, Nothing, Plain, Pieced, Pushed, Called, Located, push_value, push_piece, push_caller, push_values, Next, Goes, RequestNext, FaultNext, next_at, do_act}
 use Rattle.dwarf_meaning.specs.Refusals.{Limits, Refusal, Never, After, refusal_after_push, refusal_after_input, push_with_room}
-use Rattle.dwarf_laws.specs.Agreement.{AgreeingSettings, AgreeingLocations, AgreeingPieces}
+use Rattle.dwarf_meaning.specs.Agreement.{AgreeingSettings, AgreeingLocations, AgreeingPieces, AgreeingActs, pushes, branches, locates, ends_piece, request_act, fault_act}
 use Rattle.dwarf_meaning.specs.RowWords.{no_limits}
 use Rattle.dwarf_laws.proofs.Calm.{calm}
-use Rattle.dwarf_laws.proofs.Pairs.{Pairwise, none, more, zipped, snoc_both, if_pair}
-use Rattle.dwarf_laws.proofs.Actions.{AgreeingActs, pushes, branches, locates, ends, asks, refuses}
+use Rattle.dwarf_meaning.proofs.Pairs.{Pairwise, none, more, pairs, zipped, snoc_both, if_pair}
 
 pub data AgreeingLasts (w : ℕ) : Last → Last → Type 0 where
   both_nothing : AgreeingLasts w Nothing Nothing
@@ -257,13 +256,17 @@ module _ (m : Mode) (setup : Setup) (limits : Limits) (pushing : Pushing m setup
 
   pub done_both : (place len : ℕ) (a b : Act) (s t : Store) → AgreeingActs w a b → (m.Same → a ≡ b) → AgreeingStores m w s t
       → AgreeingNexts m w (do_act setup place len a s) (do_act other place len b t)
-  done_both place len a b s t (pushes r p) i h =
-      goes_both place _ _ (push_values_both _ _ _ _ p (λ k. let e = i k in cc) (changed h r both_plain (λ k. let e = i k in ((cc), refl))))
-  done_both place len a b s t (branches r) i h =
-      if_pair (AgreeingNexts m w) _ _ _ _ _ _ refl fails (goes_on (changed h r both_plain (λ k. let e = i k in ((cc), refl))))
-  done_both place len a b s t (locates r l) i h = goes_on (changed h r (both_located l) (λ k. let e = i k in ((cc), (cc))))
-  done_both place len a b s t (ends r p) i h =
-      goes_both place _ _ (push_piece_both _ _ _ _ p (λ k. let e = i k in cc) (changed h r both_pieced (λ k. let e = i k in ((cc), refl))))
-  done_both place len a b s t (asks r) i h =
-      request_next (changed h r h.last (λ k. let e = i k in ((cc), ap (λ (u : Store). u.last) (h.same k))))
-  done_both place len a b s t refuses i h = fails
+  done_both place len a b s t (pushes {rest = rest} {other = below} {pushed = pushed} {others = others} r p) i h =
+      goes_both place _ _ (push_values_both _ _ _ _ (pairs pushed others p) (λ k. let e = i k in cc)
+      (changed h (pairs rest below r) both_plain (λ k. let e = i k in ((cc), refl))))
+  done_both place len a b s t (branches {rest = rest} {other = below} r) i h =
+      if_pair (AgreeingNexts m w) _ _ _ _ _ _ refl fails
+      (goes_on (changed h (pairs rest below r) both_plain (λ k. let e = i k in ((cc), refl))))
+  done_both place len a b s t (locates {rest = rest} {other = below} r l) i h =
+      goes_on (changed h (pairs rest below r) (both_located l) (λ k. let e = i k in ((cc), (cc))))
+  done_both place len a b s t (ends_piece {rest = rest} {other = below} r p) i h =
+      goes_both place _ _ (push_piece_both _ _ _ _ p (λ k. let e = i k in cc)
+      (changed h (pairs rest below r) both_pieced (λ k. let e = i k in ((cc), refl))))
+  done_both place len a b s t (request_act {rest = rest} {other = below} r) i h =
+      request_next (changed h (pairs rest below r) h.last (λ k. let e = i k in ((cc), ap (λ (u : Store). u.last) (h.same k))))
+  done_both place len a b s t fault_act i h = fails

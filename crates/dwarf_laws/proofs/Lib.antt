@@ -1,5 +1,3 @@
-pub mod Pairs
-pub mod Actions
 pub mod Holdings
 pub mod Meanings
 pub mod Evaluations

@@ -12,10 +12,10 @@ use Rattle.dwarf_meaning.specs.Acts.{Act, EndsPiece, act, Use, use_of}
 use Rattle.dwarf_meaning.specs.Stores.{Setup, address_bits, Store, Last, Next, Nothing, Plain, Located}
 use Rattle.dwarf_meaning.specs.Run.{Position, End, CompleteEnd, RequestEnd, FaultEnd, Course, only_end, prepend, Continues, return_to_caller, after_push, enter_callee, run_callee, after_answer, with_input, await_answer, after_operation, read, can_count, count_one, do_operation, turn_counted, counted_act, located_act, turn_by, turn, out_of_turns, run_for, enough_turns, run}
 use Rattle.dwarf_meaning.specs.Refusals.{Limits, Refusal, Never}
-use Rattle.dwarf_laws.specs.Agreement.{AgreeingInputs, Both, nothing, something, AgreeingNumbers, AgreeingFirsts, AgreeingLocations, AgreeingPieces, AgreeingOutcomes, requests, faults, completions}
+use Rattle.dwarf_meaning.specs.Agreement.{AgreeingActs, AgreeingUses, pushes_answer, calls, fault_use, AgreeingInputs, Both, nothing, something, AgreeingNumbers, AgreeingFirsts, AgreeingLocations, AgreeingPieces, AgreeingOutcomes, requests, faults, completions}
 use Rattle.dwarf_laws.proofs.Calm.{calm}
-use Rattle.dwarf_laws.proofs.Pairs.{Pairwise, none, more, if_pair, zipped, top_pair}
-use Rattle.dwarf_laws.proofs.Actions.{AgreeingActs, located_both, uses_refl, AgreeingUses, gives, calls, denies, act_both, same_kinds, use_both, same_addresses}
+use Rattle.dwarf_meaning.proofs.Pairs.{Pairwise, none, more, pairs, if_pair, zipped, top_pair}
+use Rattle.dwarf_meaning.proofs.Actions.{located_both, uses_refl, act_both, same_kinds, use_both, same_addresses}
 use Rattle.dwarf_laws.proofs.Holdings.{Mode, Pushing, AgreeingLasts, both_nothing, both_plain, both_pushed, both_called, both_located, AgreeingStores, AgreeingResults, results, refusals, result_first, result_second, AgreeingNexts, goes_on, request_next, fails, next_first, next_second, changed, push_value_both, push_frame_both, done_both, push_piece_both}
 use Rattle.dwarf_value.specs.declared.types.Value.{Value}
 use Rattle.dwarf_value.specs.Values.{Agree, to_u64_of}
@@ -163,13 +163,13 @@ module _ (m : Mode) (setup : Setup) (limits : Limits) (pushing : Pushing m setup
         → AgreeingUses w u u' → (m.Same → u ≡ u') → AgreeingStores m w s t → AgreeingLists m w inputs inputs'
         → AgreeingCourses m w (after_answer go setup position depth u s inputs)
         (after_answer go' other position depth u' t inputs')
-    used_both position depth u u' s t inputs inputs' (gives r a) x h i =
+    used_both position depth u u' s t inputs inputs' (pushes_answer {rest = rest} {other = below} r a) x h i =
         resumed_both position depth inputs inputs' _ _ i
         (push_value_both m setup limits pushing _ _ _ _ a (λ k. let e = x k in cc)
-        (changed h r both_pushed (λ k. let e = x k in ((cc), refl))))
+        (changed h (pairs rest below r) both_pushed (λ k. let e = x k in ((cc), refl))))
     used_both position depth u u' s t inputs inputs' (calls {text = callee}) x h i = called_both position depth callee
         callee.bytes s t inputs inputs' h i
-    used_both position depth u u' s t inputs inputs' denies x h i = ended_both m w _ _ fail_both
+    used_both position depth u u' s t inputs inputs' fault_use x h i = ended_both m w _ _ fail_both
 
     asked_both : (position : Position) (depth : ℕ) (request : Request) (on_answer : OnAnswer) (s t : Store)
         (inputs inputs' : List Input) → AgreeingStores m w s t → Pairwise (AgreeingInputs w) inputs inputs'

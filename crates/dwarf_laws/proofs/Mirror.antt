@@ -15,7 +15,7 @@ use Rattle.dwarf_meaning.specs.Stores.{Setup, address_bits, Store, Last, Pushed,
 use Rattle.dwarf_meaning.specs.Run.{Position, End, CompleteEnd, RequestEnd, FaultEnd, Course, only_end, prepend, Continues, return_to_caller, run_callee, after_answer, await_answer, after_operation, read, can_count, count_one, do_operation, turn_counted, counted_act, located_act, turn_by, turn, out_of_turns, run_for, enough_turns, run}
 use Rattle.dwarf_laws.specs.Inlining.{in_force}
 use Rattle.dwarf_meaning.proofs.Turns.{run_turn}
-use Rattle.dwarf_laws.proofs.Pairs.{if_pair}
+use Rattle.dwarf_meaning.proofs.Pairs.{if_pair}
 use Rattle.dwarf_laws.proofs.Jumps.{AllJumps, jumps_by, act_jumps}
 use Rattle.dwarf_laws.proofs.Calm.{free, calm, ahead, NextBoth, goes_both, request_both, fails_both, Lands, done_both, located_both}
 

@@ -17,8 +17,8 @@ use Rattle.dwarf_value.specs.declared.types.Value.{Value}
 use Rattle.dwarf_value.specs.Values.{Agree}
 use Rattle.dwarf_meaning.specs.Meaning.{Outcome, RequestOutcome, FaultOutcome, CompleteOutcome}
 use Rattle.dwarf_value.proofs.Agreements.{Agree-Generic}
-use Rattle.dwarf_laws.specs.Agreement.{Both, nothing, something, AgreeingOutcomes}
-use Rattle.dwarf_laws.specs.Agreement as agreeing
+use Rattle.dwarf_meaning.specs.Agreement.{Both, nothing, something, AgreeingOutcomes}
+use Rattle.dwarf_meaning.specs.Agreement as agreeing
 use Rattle.dwarf_laws.specs.Inlining as alike
 
 -- ---- the premises on a call's place, from what is read of the bytes

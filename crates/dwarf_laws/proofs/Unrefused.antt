@@ -8,8 +8,8 @@ use Rattle.dwarf_meaning.specs.Stores.{Setup, address_bits}
 use Rattle.dwarf_meaning.specs.Meaning.{Outcome, FaultOutcome, First, meaning}
 use Rattle.dwarf_meaning.specs.Refusals.{Limits, Refusal, Never}
 use Rattle.dwarf_meaning.specs.RowWords.{no_limits}
-use Rattle.dwarf_laws.specs.Agreement.{Both, nothing, something, AgreeingAnswers, value, number, location, base_type, AgreeingSettings, AgreeingInputs}
-use Rattle.dwarf_laws.proofs.Pairs.{paired_refl}
+use Rattle.dwarf_meaning.specs.Agreement.{Both, nothing, something, AgreeingAnswers, value, number, location, base_type, AgreeingSettings, AgreeingInputs}
+use Rattle.dwarf_meaning.proofs.Pairs.{paired_refl}
 use Rattle.dwarf_laws.proofs.Holdings.{calmed, Pushing, pushing_calmed}
 use Rattle.dwarf_laws.proofs.Meanings.{AgreeUnlessFull, agree, full_first, full_second, courses_both, course_both}
 

@@ -9,7 +9,7 @@ use Rattle.dwarf_meaning.specs.Meaning.{Outcome, FaultOutcome, First, course_of,
 use Rattle.dwarf_meaning.specs.Steps.{Step, Evaluate, Resume, outcome_of, AllAllowed, after_steps, Reply, replies_of, empty_log}
 use Rattle.dwarf_meaning.specs.RowWords.{text, no_limits, dwarf4, unset}
 use Rattle.dwarf_meaning.specs.Refusals.{Refusal, Never}
-use Rattle.dwarf_laws.specs.Agreement.{AgreeingSteps, AgreeingOutcomes}
+use Rattle.dwarf_meaning.specs.Agreement.{AgreeingSteps, AgreeingOutcomes}
 use Rattle.dwarf_laws.specs.Inlining.{CallSite, outer_text, inlined_text, with_answer, StandsIn, IsInlinable, LeadsToCall, EndAlike}
 use Rattle.dwarf_base.specs.declared.errors.Error.TheVariants.{InvalidPiece}
 use Rattle.dwarf_value.specs.declared.types.Value.{Value}

@@ -1,4 +1,3 @@
-pub mod Agreement
 pub mod TwoRuns
 pub mod Inlining
 pub mod LawRows

@@ -9,7 +9,7 @@ use Rattle.dwarf_meaning.specs.Run.{Position}
 use Rattle.dwarf_meaning.specs.Meaning.{First, course_of}
 use Rattle.dwarf_meaning.specs.Steps.{Step, Log, outcome_of, Allows, AllAllowed, after_steps, Reply, FaultReply, replies, replies_of}
 use Rattle.dwarf_meaning.specs.Refusals.{Limits, Refusal}
-use Rattle.dwarf_laws.specs.Agreement.{Both, AgreeingSteps, AgreeingLogs, AgreeingOutcomes}
+use Rattle.dwarf_meaning.specs.Agreement.{Both, AgreeingSteps, AgreeingLogs, AgreeingOutcomes}
 
 -- no push was refused
 abbrev pub NoneIsFull : List Reply → Type 0

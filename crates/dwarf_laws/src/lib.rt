@@ -6,7 +6,7 @@ mod rows;
 
 ghost use Rattle.std.specs.Prelude.{ℕ};
 ghost use Rattle.dwarf_meaning.specs.Steps.{empty_log};
-ghost use Rattle.dwarf_laws.specs.Agreement.{AgreeingLogs};
+ghost use Rattle.dwarf_meaning.specs.Agreement.{AgreeingLogs};
 ghost use Rattle.dwarf_laws.specs.Inlining.{Inlining};
 ghost use Rattle.dwarf_laws.specs.TwoRuns.{TwoRuns};
 

@@ -13,3 +13,5 @@ pub mod Effects
 pub mod Limited
 pub mod Callees
 pub mod OutcomeByInputs
+pub mod Pairs
+pub mod Actions

@@ -19,3 +19,4 @@ pub mod Bounds
 pub mod Steps
 pub mod RowWords
 pub mod RunLaws
+pub mod Agreement

@@ -5,13 +5,17 @@ ghost use Rattle.dwarf_base.specs.declared.common.Encoding.{Encoding};
 ghost use Rattle.dwarf_base.specs.Faults.{Fault};
 ghost use Rattle.dwarf_base.specs.Fronts.{ReadsExactly, TakesFront};
 ghost use Rattle.dwarf_base.specs.Reads.{Text};
+ghost use Rattle.dwarf_value.specs.declared.types.Value.{Value};
+ghost use Rattle.dwarf_value.specs.Laws.{IsWidth};
+ghost use Rattle.dwarf_meaning.specs.Acts.{act, use_of};
+ghost use Rattle.dwarf_meaning.specs.Agreement.{Both, AgreeingActs, AgreeingAnswers, AgreeingNumbers, AgreeingStacks, AgreeingUses};
 ghost use Rattle.dwarf_meaning.specs.Operations.{Operation};
 ghost use Rattle.dwarf_meaning.specs.Operands.{Context};
 ghost use Rattle.dwarf_meaning.specs.Decoding.{operation_at, operation_in};
 ghost use Rattle.dwarf_meaning.specs.Spelling.{Spells, Malformed};
 ghost use Rattle.dwarf_meaning.specs.Splitting.{Splitting};
 ghost use Rattle.dwarf_meaning.specs.DecodeLaws.{AreBytes, BranchesNear, IsDecided, SplitsOnce, IsSplitting, IsDecodingFault};
-ghost use Rattle.dwarf_meaning.specs.Requests.{Input};
+ghost use Rattle.dwarf_meaning.specs.Requests.{Answer, Input, OnAnswer};
 ghost use Rattle.dwarf_meaning.specs.Stores.{Setup, IsWithin, Store};
 ghost use Rattle.dwarf_meaning.specs.Run.{Position, Course, most_operations, turn, run_for, enough_turns, run, return_to_callers};
 ghost use Rattle.dwarf_meaning.specs.Meaning.{IsOver, First, outcome_of_end, meaning};
@@ -100,4 +104,20 @@ pub fn run_laws()
         (outcome_of_end setup (run setup text place depth s inputs).end) }
     ensures callees_of_meaning { (setup : Setup) (refusal : Refusal) (text : Text) (first : First)
         (inputs : List Input) → OutcomeOpen inputs text (meaning setup refusal text first inputs) }
+{}
+
+/// Laws of agreeing stacks: bits above the address size change nothing that an operation or an answer does.
+///
+/// It does nothing. Its contract states these laws. On stacks whose values agree one by one, with agreeing addresses of
+/// the described object, each operation makes the same request, branch, piece or fault, and leaves and pushes agreeing
+/// values. Agreeing answers to one request push agreeing values, call the same text, or are the same fault.
+pub fn agreement_laws()
+    ensures operations { (w : ℕ) (object other : Option ℕ) (op : Operation)
+        (values others : List Value) → Both (AgreeingNumbers w) object other
+        → AgreeingStacks w values others
+        → AgreeingActs w (act w object op values) (act w other op others) }
+    ensures answers { (w : ℕ) (on_answer : OnAnswer) (answer another : Answer)
+        (values others : List Value) → IsWidth w → AgreeingAnswers w answer another
+        → AgreeingStacks w values others
+        → AgreeingUses w (use_of w on_answer answer values) (use_of w on_answer another others) }
 {}

@@ -6,5 +6,5 @@ mod laws;
 mod rows;
 
 pub use kinds::WaitingKind;
-pub use laws::{decode_laws, run_laws};
+pub use laws::{agreement_laws, decode_laws, run_laws};
 pub use rows::worked_rows;

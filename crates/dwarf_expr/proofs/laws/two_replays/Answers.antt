@@ -16,7 +16,7 @@ use Rattle.dwarf_meaning.specs.Refusals.{After}
 use Rattle.dwarf_meaning.specs.Inputs.{fresh_state}
 use Rattle.dwarf_meaning.specs.RowWords.{text, dwarf4, open_at}
 use Rattle.dwarf_meaning.proofs.Turns.{few_turns}
-use Rattle.dwarf_laws.specs.Agreement.{number, evaluate, resume}
+use Rattle.dwarf_meaning.specs.Agreement.{number, evaluate, resume}
 use Rattle.dwarf_laws.specs.LawRows.{started_steps}
 use Rattle.dwarf_expr.specs.Twins.{DoesAllWith}
 use Rattle.dwarf_expr.proofs.Twins.{two_replays, may_replay}

@@ -1,6 +1,6 @@
 -- Inputs and outcomes of two evaluations agree if they differ only above the address size (DWARF 5, sections 2.5.1 and
 -- 2.6.1).
-use Rattle.std.specs.Prelude.{ℕ, ◌%◌, ◌^◌, ◌≡◌, List, Option, Some, None}
+use Rattle.std.specs.Prelude.{ℕ, ℤ, ◌%◌, ◌^◌, ◌≡◌, List, Option, Some, None}
 use Rattle.std.specs.List.{AllZip}
 use Rattle.dwarf_base.specs.Faults.{Fault}
 use Rattle.dwarf_base.specs.Reads.{Text}
@@ -9,7 +9,8 @@ use Rattle.dwarf_value.specs.declared.types.ValueType.{ValueType}
 use Rattle.dwarf_value.specs.Values.{Agree}
 use Rattle.dwarf_meaning.specs.Locations.{Location, HoldsValue, Piece}
 use Rattle.dwarf_meaning.specs.declared.kinds.WaitingKind.{WaitingKind}
-use Rattle.dwarf_meaning.specs.Requests.{Request, Answer, ValueAnswer, NumberAnswer, LocationAnswer, BaseTypeAnswer, Settings, Input}
+use Rattle.dwarf_meaning.specs.Requests.{Request, OnAnswer, Answer, ValueAnswer, NumberAnswer, LocationAnswer, BaseTypeAnswer, Settings, Input}
+use Rattle.dwarf_meaning.specs.Acts.{Act, Pushes, Branches, Locates, EndsPiece, RequestAct, FaultAct, Use, PushesAnswer, Calls, FaultUse}
 use Rattle.dwarf_meaning.specs.Run.{Position}
 use Rattle.dwarf_meaning.specs.Meaning.{Outcome, RequestOutcome, FaultOutcome, CompleteOutcome, First}
 use Rattle.dwarf_meaning.specs.Steps.{Step, InitialValue, ObjectAddress, MaxIterations, Evaluate, Resume, Log}
@@ -83,3 +84,30 @@ pub data AgreeingOutcomes (w : ℕ) : Outcome → Outcome → Type 0 where
   completions : {pieces others : List Piece} {value other : Option Value}
       → AllZip (AgreeingPieces w) pieces others → Both (Agree w) value other
       → AgreeingOutcomes w (CompleteOutcome pieces value) (CompleteOutcome others other)
+
+-- ---- what operations and answers do
+
+-- values that agree, one by one
+abbrev pub AgreeingStacks : (w : ℕ) → (values others : List Value) → Type 0
+AgreeingStacks w = AllZip (Agree w)
+
+-- the same, but for the values of the stacks and those that are pushed or in a location, which agree
+pub data AgreeingActs (w : ℕ) : Act → Act → Type 0 where
+  pushes : {rest other pushed others : List Value} → AgreeingStacks w rest other → AgreeingStacks w pushed others
+      → AgreeingActs w (Pushes rest pushed) (Pushes other others)
+  branches : {rest other : List Value} {target : ℤ} → AgreeingStacks w rest other
+      → AgreeingActs w (Branches rest target) (Branches other target)
+  locates : {rest other : List Value} {first second : Location} → AgreeingStacks w rest other
+      → AgreeingLocations w first second → AgreeingActs w (Locates rest first) (Locates other second)
+  ends_piece : {rest other : List Value} {first second : Piece} → AgreeingStacks w rest other
+      → AgreeingPieces w first second → AgreeingActs w (EndsPiece rest first) (EndsPiece other second)
+  request_act : {rest other : List Value} {request : Request} {on_answer : OnAnswer} → AgreeingStacks w rest other
+      → AgreeingActs w (RequestAct rest request on_answer) (RequestAct other request on_answer)
+  fault_act : {fault : Fault} → AgreeingActs w (FaultAct fault) (FaultAct fault)
+
+-- agreeing values on agreeing stacks, the same called text, or the same fault
+pub data AgreeingUses (w : ℕ) : Use → Use → Type 0 where
+  pushes_answer : {rest other : List Value} {x y : Value} → AgreeingStacks w rest other → Agree w x y
+      → AgreeingUses w (PushesAnswer rest x) (PushesAnswer other y)
+  calls : {text : Text} → AgreeingUses w (Calls text) (Calls text)
+  fault_use : {fault : Fault} → AgreeingUses w (FaultUse fault) (FaultUse fault)

@@ -10,7 +10,7 @@ use Rattle.dwarf_value.specs.Values.{Agree}
 use Rattle.dwarf_value.specs.Laws.{AgreeingResults, values, errors}
 use Rattle.dwarf_value.proofs.Agreements.{Agree-refl}
 use Rattle.dwarf_meaning.specs.Acts.{on_top, on_result}
-use Rattle.dwarf_laws.specs.Agreement.{Both, nothing, something}
+use Rattle.dwarf_meaning.specs.Agreement.{Both, nothing, something}
 
 -- ---- lists and options
 

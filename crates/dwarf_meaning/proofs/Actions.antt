@@ -1,9 +1,7 @@
 -- Operations and answers on agreeing stacks.
-use Rattle.std.proofs.Common.{ℕ, ◌≡◌, ap, refl, subst, ◌==◌, ℤ, true, false, List, [], ◌∷◌, Option, None, Result}
+use Rattle.std.proofs.Common.{ℕ, ◌≡◌, ap, refl, subst, true, false, List, [], ◌∷◌, Option, None, Result}
 use Rattle.dwarf_base.specs.declared.errors.Error.{Error}
-use Rattle.dwarf_base.specs.Faults.{Fault}
 use Rattle.dwarf_base.specs.Numbers.{residue}
-use Rattle.dwarf_base.specs.Reads.{Text}
 use Rattle.dwarf_value.specs.declared.types.Value.{Value}
 use Rattle.dwarf_value.specs.Values.{type_of, Agree, to_u64_of, from_u64_of, unary_of, binary_of, Plus}
 use Rattle.dwarf_value.specs.Laws.{IsWidth, AgreeingResults}
@@ -11,15 +9,15 @@ use Rattle.dwarf_value.proofs.Agreements.{Agree-refl, Agree-Generic, Agree-sums,
 use Rattle.dwarf_value.proofs.ValueLaws.{reinterpret_of-Agree}
 use Rattle.dwarf_meaning.specs.Operations as operation
 use Rattle.dwarf_meaning.specs.Operations.{Operation}
-use Rattle.dwarf_meaning.specs.Locations.{Location, AtAddress, Piece}
+use Rattle.dwarf_meaning.specs.Locations.{Location, AtAddress}
 use Rattle.dwarf_meaning.specs.Requests.{Request, RequiresMemory, RequiresTls, OnAnswer, Push, Add, Parse, Convert, Answer}
 use Rattle.dwarf_meaning.specs.Kinds.{kind_of_answer}
-use Rattle.dwarf_meaning.specs.Acts.{on_top, on_result, Act, Pushes, Branches, Locates, EndsPiece, RequestAct, FaultAct, underflow, unary, binary, act, Use, PushesAnswer, Calls, FaultUse, use_of}
+use Rattle.dwarf_meaning.specs.Acts.{on_top, on_result, Act, Pushes, RequestAct, underflow, unary, binary, act, Use, PushesAnswer, Calls, FaultUse, use_of}
 use Rattle.dwarf_meaning.specs.Stores.{Store}
 use Rattle.dwarf_meaning.specs.Run.{located_act}
 use Rattle.dwarf_meaning.specs.Agreement as agreeing
 use Rattle.dwarf_meaning.specs.Agreement.{Both, AgreeingNumbers, AgreeingAnswers, AgreeingLocations, same, AgreeingStacks, AgreeingActs, pushes, branches, locates, ends_piece, request_act, fault_act, AgreeingUses, pushes_answer, calls, fault_use}
-use Rattle.dwarf_meaning.proofs.Pairs.{Pairwise, none, more, pairs, zipped, paired_refl, get_both, if_pair, top_pair, some_pair, answer_pair, read_pair, answers_agree}
+use Rattle.dwarf_meaning.proofs.Pairs.{Pairwise, more, zipped, paired_refl, get_both, if_pair, top_pair, some_pair, answer_pair, read_pair, answers_agree}
 
 -- after locations that agree
 pub located_both : (w : ℕ) (s t : Store) {location location' : Location} → AgreeingLocations w location location'

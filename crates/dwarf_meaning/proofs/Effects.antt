@@ -1,10 +1,9 @@
 -- What an operation does, and what is done with an answer, in outline.
-use Rattle.std.proofs.Common.{ℕ, suc, ℤ, ◌≡◌, ◌==◌, nat_lt, ◌+◌, ◌*◌, ◌≤◌, ◌⊎◌, inl, inr, true, false, List, [], ◌∷◌, length, Option, Result, Ok, Err, arith, refl}
+use Rattle.std.proofs.Common.{ℕ, suc, ℤ, ◌≡◌, nat_lt, ◌+◌, ◌*◌, ◌≤◌, ◌⊎◌, inl, inr, Bool, cond, true, false, List, [], ◌∷◌, length, Option, Result, Ok, Err, arith, refl}
 use Rattle.std.proofs.lemmas.Bool.{cond_both}
 use Rattle.dwarf_base.specs.declared.errors.Error.{Error}
 use Rattle.dwarf_base.specs.Faults.{Fault}
 use Rattle.dwarf_value.specs.declared.types.Value.{Value}
-use Rattle.dwarf_value.specs.Values.{to_u64_of}
 use Rattle.dwarf_meaning.specs.Operations as operation
 use Rattle.dwarf_meaning.specs.Operations.{Operation}
 use Rattle.dwarf_meaning.specs.Locations.{Location, Empty, InRegister, AtAddress, HoldsValue, HoldsBytes, PointsInto, Piece}
@@ -64,6 +63,11 @@ module _ {op : Operation} where
       top_is values _ (λ y below e. top_is below _ (λ x rest f.
       answer_both (IsActOf op (length values)) (call x y) FaultAct (push rest) (λ fault. refuses) (λ z. pushes (omega (arith, e, f)) (omega (arith, e, f)))))
 
+branch_is : (target : ℤ) (is_zero : Bool) (rest : List Value) (n : ℕ) → length rest ≤ n
+    → IsActOf (operation.Bra target) n (cond is_zero (Pushes rest []) (Branches rest target))
+branch_is target true rest n fewer = pushes fewer (omega (arith, fewer))
+branch_is target false rest n fewer = branches fewer (inl refl)
+
 pub act_is : (bits : ℕ) (object : Option ℕ) (op : Operation) (values : List Value) → IsActOf op (length values) (act bits object op values)
 unfolding act
 act_is bits object operation.Drop values = top_is values _ (λ x rest e. pushes (omega (arith, e)) (omega (arith, e)))
@@ -79,9 +83,7 @@ act_is bits object (operation.UnsignedConstant value) values = push_is values _
 act_is bits object (operation.SignedConstant value) values = push_is values _
 act_is bits object operation.PushObjectAddress values =
     some_both (IsActOf operation.PushObjectAddress (length values)) object _ _ refuses (λ address. push_is values _)
-act_is bits object (operation.Bra target) values =
-    top_is values _ (λ x rest e.
-    cond_both (to_u64_of bits x == 0) _ _ (IsActOf (operation.Bra target) (length values)) (λ f. pushes (omega (arith, e)) (omega (arith, e))) (λ f. branches (omega (arith, e)) (inl refl)))
+act_is bits object (operation.Bra target) values = top_is values _ (λ x rest e. branch_is target _ rest (length values) (omega (arith, e)))
 act_is bits object (operation.Skip target) values = branches (omega arith) (inr refl)
 act_is bits object operation.Nop values = pushes (omega arith) (omega arith)
 act_is bits object (operation.VariableValue offset) values = refuses

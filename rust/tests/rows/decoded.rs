@@ -69,14 +69,17 @@ fn wanted_fields<'a>(vector: &'a Json, bytes: &[u8]) -> Fields<'a> {
     }))
 }
 
+/// The case of a vector: an operation, or an evaluation by the steps of its input.
 pub fn case_of(vector: &Json) -> Case {
     let text = |name| vector.get(name).map(Json::text);
     let words: Vec<&str> = text("in").unwrap().split(' ').chain(text("bytes")).collect();
-    let wanted = match text("code") {
-        Some(code) => format!("fault {} {}", variant_of(code), text("detail").unwrap_or_default()),
-        None => variant_of(text("kind").unwrap()),
+    let wanted = match (text("output"), text("code"), text("detail")) {
+        (Some(output), ..) => output.into(),
+        (None, Some(code), None) => format!("fault {}", variant_of(code)),
+        (None, Some(code), Some(detail)) => format!("fault {} {detail}", variant_of(code)),
+        (None, None, _) => variant_of(text("kind").unwrap()),
     };
-    Case::of(&words, None, wanted.trim_end().into())
+    Case::of(&words, text("input").map(String::from), wanted)
 }
 
 /// Expects an operation before two bytes to be as its vector says, and each of its fronts to be cut off.

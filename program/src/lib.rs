@@ -12,3 +12,12 @@ mod kit;
 
 pub use host::HostRuntime;
 pub use sources::program::main;
+
+/// What tests call.
+#[doc(hidden)]
+pub mod parts {
+    pub use crate::kit::alloc::Global;
+    pub use crate::kit::{String, Vec};
+    pub use crate::sources::program::*;
+    pub use crate::sources::replay::{Answer, Step};
+}

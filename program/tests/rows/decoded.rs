@@ -21,17 +21,17 @@ pub fn fault_of(error: Error) -> String {
 }
 
 /// Fields that aren't 0, by their names in `c/include/dwexpr.h`. A block's is its bytes.
-type Fields<'a> = BTreeMap<&'a str, String>;
+pub type Fields<'a> = BTreeMap<&'a str, String>;
 
-fn fields<'a>(all: impl IntoIterator<Item = (&'a str, String)>) -> Fields<'a> {
+pub fn fields<'a>(all: impl IntoIterator<Item = (&'a str, String)>) -> Fields<'a> {
     all.into_iter().filter(|it| it.1 != "0").collect()
 }
 
-fn field(name: &str, number: impl Display) -> (&str, String) {
+pub fn field(name: &str, number: impl Display) -> (&str, String) {
     (name, number.to_string())
 }
 
-fn fields_of<R: Reader>(operation: Operation<R>) -> Fields<'static> {
+pub fn fields_of<R: Reader>(operation: Operation<R>) -> Fields<'static> {
     use Operation::*;
     let place = |name, offset: R::Offset| field(name, offset.into_u64());
     let block = |bytes: R| ("block", format!("{:x?}", bytes_of(bytes).slice()));

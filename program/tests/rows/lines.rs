@@ -109,10 +109,10 @@ pub fn operations<R: Reader>(bytes: &[u8], encoding: Encoding, read: impl Fn(&[u
 }
 
 /// Takes a step, which panics if it is out of turn. A setting has no reply.
-pub fn take<R: Reader, S: EvaluationStorage<R>>(
+pub fn take<'a, R: Reader, S: EvaluationStorage<R>>(
     it: &mut Evaluation<R, S>,
-    step: &Step<Bytes<'_>>,
-    read: impl Fn(&[u8]) -> R,
+    step: &Step<Bytes<'a>>,
+    read: impl Fn(&'a [u8]) -> R,
 ) -> Option<Reply<R>> {
     Some(match *step {
         Step::InitialValue(value) => {
@@ -145,10 +145,10 @@ pub fn take<R: Reader, S: EvaluationStorage<R>>(
 
 /// The lines of `dwexpr eval`: each reply, up to a step out of turn, and the pieces and the value if the evaluation is
 /// complete.
-pub fn evaluation<R: Reader, S: EvaluationStorage<R>>(
+pub fn evaluation<'a, R: Reader, S: EvaluationStorage<R>>(
     it: &mut Evaluation<R, S>,
-    steps: &[Step<Bytes<'_>>],
-    read: impl Fn(&[u8]) -> R,
+    steps: &[Step<Bytes<'a>>],
+    read: impl Fn(&'a [u8]) -> R,
 ) -> String {
     it.set_max_iterations(MAXIMUM);
     printed(|to| {

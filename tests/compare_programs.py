@@ -8,7 +8,6 @@ of input and of output are compared at least. The seed is fixed.
 The last line is `N passed, M failed`, of the runs. It wants both programs.
 """
 
-import argparse
 import concurrent.futures
 import os
 import random
@@ -83,6 +82,4 @@ def main(count):
 
 
 if __name__ == "__main__":
-    parser = argparse.ArgumentParser(description=__doc__, formatter_class=argparse.RawDescriptionHelpFormatter)
-    parser.add_argument("count", type=int)
-    checks.end_with(lambda: main(parser.parse_args().count), __doc__)
+    checks.end_with(main, __doc__, "count")

@@ -4,8 +4,11 @@
 //! refused. It also takes a stream that is closed as an empty one. So these are calls of the C library.
 
 use crate::kit::alloc::Global;
-use crate::kit::io::{Error, Read, Result, Write};
+use crate::kit::io::{Error, IsTerminal, Read, Result, Write};
 use std::ffi::{CStr, c_char, c_int, c_void};
+
+#[cfg(not(unix))]
+compile_error!("the program is for Unix systems");
 
 const SIGPIPE: c_int = 13;
 const SIG_IGN: usize = 1;
@@ -14,6 +17,7 @@ unsafe extern "C" {
     fn read(file: c_int, bytes: *mut c_void, length: usize) -> isize;
     fn write(file: c_int, bytes: *const c_void, length: usize) -> isize;
     fn signal(signal: c_int, handler: usize) -> usize;
+    safe fn isatty(file: c_int) -> c_int;
 }
 
 /// What the process has from the system.
@@ -85,5 +89,11 @@ impl Write for Stream {
 
     fn flush(&mut self) -> Result<()> {
         Ok(())
+    }
+}
+
+impl IsTerminal for Stream {
+    fn is_terminal(&self) -> bool {
+        isatty(self.0) == 1
     }
 }

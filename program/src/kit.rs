@@ -111,6 +111,12 @@ pub mod io {
     use crate::host::{HostRuntime, Stream};
     pub use std::io::{Error, ErrorKind, Result, Write};
 
+    /// What may be a terminal.
+    pub trait IsTerminal {
+        /// Whether it is one.
+        fn is_terminal(&self) -> bool;
+    }
+
     /// The most bytes that `read_to_end` asks for at once.
     const CHUNK: usize = 1 << 13;
 

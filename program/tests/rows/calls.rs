@@ -35,7 +35,7 @@ const BINARY: [(&str, Binary); 17] = [
 
 fn bytes_in(row: &Json) -> Vec<u8, Global> {
     let digits = row.get("bytes").unwrap().text();
-    bytes_of(Global, if digits.is_empty() { "-" } else { digits }).ok().expect("pairs of digits")
+    bytes_of(Global, if digits.is_empty() { "-" } else { digits }).expect("pairs of digits")
 }
 
 fn value_in(row: &Json, name: &str) -> Value {

@@ -100,11 +100,13 @@ pub fn operations<R: Reader>(bytes: &[u8], encoding: Encoding, read: impl Fn(&[u
             let spelling = Word::Bytes(EndianSlice::new(&bytes[place..end], RunTimeEndian::Little));
             match item {
                 Ok(Some(it)) => put_numbered_line(to, place as u64, &[spelling, Word::Name(it.name())])?,
-                Ok(None) => return Ok(assert_eq!(place, bytes.len())),
+                Ok(None) => break,
                 Err(error) => print_fault_at(to, place as u64, error)?,
             }
             place = end;
         }
+        assert_eq!(place, bytes.len());
+        Ok(())
     })
 }
 

@@ -8,7 +8,7 @@ include!(concat!(env!("OUT_DIR"), "/lib.rs"));
 use dwexpr as library;
 
 mod host;
-mod kit;
+pub mod kit;
 
 pub use host::HostRuntime;
 pub use sources::program::main;

@@ -13,7 +13,7 @@ const CRATES: &[(&str, &str)] = &[("dwarf_replay", "replay"), ("dwexpr", "progra
 const LEFT_OUT: &[&str] = &["dwarf_replay/src/equality.rt", "dwarf_replay/src/tests", "dwexpr/src/tests.rt"];
 /// The sources of the archive for C that have a struct each.
 const STRUCTS: [&str; 6] = ["answers", "encodings", "operations", "outcomes", "pieces", "settings"];
-const ALLOWED: &str = "#![allow(dead_code, unused_imports, clippy::all)]";
+const ALLOWED: &str = "#![allow(dead_code, unused_imports, unused_variables, non_upper_case_globals, clippy::all)]";
 
 /// Links tests to the archive for C that a variable names, and takes its structs from its sources.
 fn link_archive(top: &Path) {

@@ -47,7 +47,6 @@ CODE = {
     "ImplicitValue { bytes }",
     "if text.bytes.is_empty() { &[] } else { text.bytes }",
     # The Rust crate's evaluation takes no allocator, and its steps are cloned.
-    "StoreOnHeap<A>",
     "Evaluation::new( alloc, text,",
     "steps[index]",
     # The last error of the sources is the only one that is left.

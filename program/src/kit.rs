@@ -6,7 +6,7 @@ pub use std::fmt;
 /// What the sources name without an import.
 pub(crate) mod prelude {
     pub(crate) use super::alloc::AllocError;
-    pub(crate) use super::{String, Vec};
+    pub(crate) use super::{Drop, String, Vec};
     pub(crate) use crate::host::HostRuntime;
     pub(crate) use std::str;
 }
@@ -164,6 +164,50 @@ pub mod io {
     }
 }
 
+/// The lists of an evaluation.
+pub mod store {
+    use super::Vec;
+    use crate::library::{Piece, Reader, Value};
+    use std::marker::PhantomData;
+
+    pub use crate::library::EvaluationStorage;
+
+    /// Keeps them on the heap.
+    pub struct StoreOnHeap<A>(PhantomData<A>);
+
+    impl<R: Reader, A> EvaluationStorage<R> for StoreOnHeap<A> {
+        type Stack = std::vec::Vec<Value>;
+        type ExpressionStack = std::vec::Vec<(R, R)>;
+        type Result = std::vec::Vec<Piece<R>>;
+    }
+
+    /// A list that may refuse an item.
+    pub trait ArrayLike {
+        /// What it has.
+        type Item;
+
+        /// Appends an item.
+        ///
+        /// # Errors
+        ///
+        /// The item, if the list has no room.
+        fn push(&mut self, item: Self::Item) -> Result<(), Self::Item>;
+    }
+
+    impl<T, A> ArrayLike for Vec<T, A> {
+        type Item = T;
+
+        fn push(&mut self, item: T) -> Result<(), T> {
+            Vec::push(self, item)
+        }
+    }
+}
+
+/// Any type may be dropped.
+pub trait Drop {}
+
+impl<T: ?Sized> Drop for T {}
+
 /// A list on the heap.
 pub struct Vec<T, A = alloc::Global> {
     items: std::vec::Vec<T>,
@@ -209,27 +253,6 @@ impl<T, A> std::ops::Deref for Vec<T, A> {
 impl<T, A> std::ops::DerefMut for Vec<T, A> {
     fn deref_mut(&mut self) -> &mut std::vec::Vec<T> {
         &mut self.items
-    }
-}
-
-/// A list that may refuse an item.
-pub trait ArrayLike {
-    /// What it has.
-    type Item;
-
-    /// Appends an item.
-    ///
-    /// # Errors
-    ///
-    /// The item, if the list has no room.
-    fn push(&mut self, item: Self::Item) -> Result<(), Self::Item>;
-}
-
-impl<T, A> ArrayLike for Vec<T, A> {
-    type Item = T;
-
-    fn push(&mut self, item: T) -> Result<(), T> {
-        Vec::push(self, item)
     }
 }
 

@@ -40,6 +40,9 @@ pub fn texts_of(row: &Json) -> Option<(Vec<String>, String, String)> {
 /// The case of a row. `None` if the row is about something else, such as words or steps that the program refuses.
 pub fn case_of(row: &Json) -> Option<Case> {
     let (words, input, wanted) = texts_of(row)?;
+    if !["eval", "ops"].contains(&words.first()?.as_str()) {
+        return None;
+    }
     let case = Case::of(words.iter().map(String::as_str), &input, wanted)?;
     Some(Case { is_wrong: row.get("wrong").is_some(), ..case })
 }

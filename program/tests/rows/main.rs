@@ -25,8 +25,8 @@ impl Case {
     fn lines<R: Reader>(&self, read: impl Fn(&[u8]) -> R) -> String {
         let (bytes, encoding) = (self.asked.bytes.as_slice(), self.asked.context.encoding);
         match self.asked.command {
-            Command::Eval => lines::evaluation(&mut Evaluation::new(read(bytes), encoding), &self.steps, read),
             Command::Ops => lines::operations(bytes, encoding, read),
+            _ => lines::evaluation(&mut Evaluation::new(read(bytes), encoding), &self.steps, read),
         }
     }
 }

@@ -145,7 +145,7 @@ def rooted(path, text):
     module = place_of(path).split("/")[0]
     root = "crate\n:\n:\nsources\n:\n:\n"
     text = re.sub(r"(?<!\$\n)^crate\n(?=:\n)", f"{root}{module}\n", text, flags=re.MULTILINE)
-    return re.sub(r"^dwarf_(\w+)\n(?=:\n)", rf"{root}\1\n", text, flags=re.MULTILINE).replace("$\n", "")
+    return re.sub(r"^dwarf_(\w+)\n(?=:\n)", rf"{root}\1\n", text, flags=re.MULTILINE).replace("$\ncrate\n", "crate\n")
 
 
 def plain(text):

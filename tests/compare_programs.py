@@ -1,11 +1,11 @@
 #!/usr/bin/env python3
-"""Compares the program that Cargo builds with the proved one on made-up words and lines: compare_programs.py COUNT
+"""Compares another build of the program with the proved one on made-up words and lines: compare_programs.py COUNT
 
 Each run is a row of tests/rows in which digits, words and lines are changed, dropped, doubled or exchanged with those of
 other rows. Both have to print the same, also to standard error, and to end with the same status. COUNT is how many lines
 of input and of output are compared at least. The seed is fixed.
 
-The last line is `N passed, M failed`, of the runs. It wants both programs.
+The last line is `N passed, M failed`, of the runs. It wants the proved program, and DWEXPR_PROGRAM names the other one.
 """
 
 import concurrent.futures
@@ -17,7 +17,6 @@ import checks
 import run_rows
 from commands import TOP
 
-BY_CARGO = TOP / "target/release/dwexpr"
 # What may stand in a word, a line or an expression, besides what rows have.
 BYTES = [b"", b" ", b"+", b"-", b"0x", b"0", b"18446744073709551616", b"\xff", b"\r", b":", b"u8:256", b"i8:-128"]
 # Rows that take a second, or say more than words and input.
@@ -62,7 +61,7 @@ def end_of(program, words, given):
     return ran.returncode, ran.stdout, ran.stderr
 
 
-def compare(case, program=BY_CARGO):
+def compare(case, program=run_rows.PROGRAM):
     """Whether both end alike; what they print, and the number of lines."""
     ends = [end_of(it, *case) for it in (program, run_rows.PROVED)]
     lines = case[1].count(b"\n") + ends[0][1].count(b"\n")

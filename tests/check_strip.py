@@ -1,6 +1,6 @@
 #!/usr/bin/env python3
-"""Judges what the build scripts of the Rust crate, of the library for C and of the program make of the proved sources, by
-a second reader, which goes by tokens.
+"""Judges what the build scripts of the Rust crate, of the library for C and of the program make of the proved sources,
+by a second reader, which goes by tokens.
 
 - Each file that is written has the tokens of its source without contracts and after the rows, docs too, and as many
   lines.
@@ -87,7 +87,7 @@ WRONG_IN_PROGRAM = {
     "a token of code is deleted": [("program/lines.rs", "Some(u64::from(size))", "Some(size)")],
     "a status is another": [("program/endings.rs", "Ok(MISUSED)", "Ok(FAILED)")],
     "a row changes code": [
-        ("rows/program", "# The Rust", "crates/dwexpr/src/endings.rt\n- MISUSED: u8 = 2\n+ MISUSED: u8 = 1\n\n# The Rust"),
+        ("rows/program", "# The", "crates/dwexpr/src/endings.rt\n- MISUSED: u8 = 2\n+ MISUSED: u8 = 1\n\n# The"),
         ("program/endings.rs", "MISUSED: u8 = 2", "MISUSED: u8 = 1"),
     ],
 }

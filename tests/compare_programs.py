@@ -1,9 +1,9 @@
 #!/usr/bin/env python3
 """Compares another build of the program with the proved one on made-up words and lines: compare_programs.py COUNT
 
-Each run is a row of tests/rows in which digits, words and lines are changed, dropped, doubled or exchanged with those of
-other rows. Both have to print the same, also to standard error, and to end with the same status. COUNT is how many lines
-of input and of output are compared at least. The seed is fixed.
+Each run is a row of tests/rows in which digits, words and lines are changed, dropped, doubled or exchanged with those
+of other rows. Both have to print the same, also to standard error, and to end with the same status. COUNT is how many
+lines of input and of output are compared at least. The seed is fixed.
 
 The last line is `N passed, M failed`, of the runs. It wants the proved program, and DWEXPR_PROGRAM names the other one.
 """
@@ -36,7 +36,8 @@ def changed(text, others):
     at, end = sorted(random.randrange(len(text) + 1) for _ in "12")
     other = random.choice(random.choice([BYTES, others]))
     start, stop = sorted(random.randrange(len(other) + 1) for _ in "12")
-    return random.choice([other, text[:at] + other[start:stop] + text[end:], text[:at] + b"%x" % (at % 16) + text[at + 1 :]])
+    mixed, digit = text[:at] + other[start:stop] + text[end:], b"%x" % (at % 16)
+    return random.choice([other, mixed, text[:at] + digit + text[at + 1 :]])
 
 
 def made_up():

@@ -16,8 +16,8 @@ it stands. A row may say besides
 Each vector of tests/vectors/decode.json is a row too: `dwexpr ops` lists its operation by its name, or its fault. One
 with `bits` is about offsets of another width.
 
-It wants the program that `bin/build` or `rt ci` has built. If DWEXPR_PROGRAM names another build of the program, that is
-run, and no script of the repository is. The last line is `N passed, M failed`.
+It wants the program that `bin/build` or `rt ci` has built. If DWEXPR_PROGRAM names another build of the program, that
+is run, and no script of the repository is. The last line is `N passed, M failed`.
 """
 
 import json

@@ -1,8 +1,8 @@
 //! Compares an archive for C with the Rust crate in one process: the proved one, or the library that rustc builds. The
 //! variable DWEXPR_ARCHIVE names it; without it, nothing is compared.
 //!
-//! Both decode and evaluate the rows, all texts of at most two bytes, lists that are full, and made-up cases. Each field
-//! that C is given has to be what the crate's result says, and 0 if it says nothing.
+//! Both decode and evaluate the rows, all texts of at most two bytes, full lists, and made-up cases. Each field that C
+//! is given has to be what the crate's result says, and 0 if it says nothing.
 #![cfg(archive)]
 
 mod calls;

@@ -1,4 +1,4 @@
-//! Decodes and evaluates by the calls of the Rust crate, over any reader and lists, and gives the lines that the program
+//! Decodes and evaluates by the Rust crate's calls, over any reader and lists, and gives the lines that the program
 //! prints.
 
 use dwexpr::{

@@ -1,6 +1,6 @@
 #!/usr/bin/env python3
-"""Judges what the build scripts of the Rust crate and of the library for C make of the proved sources, by a second
-reader, which goes by tokens.
+"""Judges what the build scripts of the Rust crate, of the library for C and of the program make of the proved sources,
+by a second reader, which goes by tokens.
 
 - Each file that is written has the tokens of its source without contracts and after the rows, docs too, and as many
   lines.
@@ -46,11 +46,23 @@ CODE = {
     "bytes: long_block",
     "ImplicitValue { bytes }",
     "if text.bytes.is_empty() { &[] } else { text.bytes }",
+    # The Rust crate's evaluation takes no allocator, and its steps are cloned.
+    "Evaluation::new( alloc, text,",
+    "steps[index]",
+    # The last error of the sources is the only one that is left.
+    'Error::StackFull => ("StackFull", None),',
 }
-# What each file ends with.
-ADDED = "use crate::casts::{IntoSigned as _, IntoUnsigned as _};\n"
-# Of each package its build script, its folder and its rows.
-PACKAGES = {"rust": ("rust/build/main.rs", ".", ["both", "rust"]), "c": ("c/build.rs", "c", ["both", "c"])}
+# What a file ends with.
+CASTS = "use crate::casts::{IntoSigned as _, IntoUnsigned as _};\n"
+# Of each package its build script, its folder, its rows, and what it adds to each file.
+PACKAGES = {
+    "rust": ("rust/build/main.rs", ".", ["both", "rust"], CASTS),
+    "c": ("c/build.rs", "c", ["both", "c"], CASTS),
+    "program": ("program/build.rs", "program", ["program"], "use crate::kit::prelude::*;\n"),
+}
+# The crates whose modules have other names than theirs without `dwarf_`, and other roots than `lib.rt`.
+CRATES = {"c": "dwexpr_c", "program": "dwexpr"}
+ROOTS = {"program": "main"}
 CLAUSE_OF_FROM = "ensures { Returns (λ r. r.0) result (register_of register) }"
 MAXIMUM = ("self.iteration >= self.max_iterations", "self.iteration >= self.max_iterations - 1")
 # Changes that are refused: of what is written, of rows, or of sources.
@@ -70,6 +82,14 @@ WRONG = {
         ("base/constants.rs", "DwOp(0x03)", "DwOp(0x04)"),
     ],
     "a clone that does something": [("crates/dwarf_op/src/operations.rt", "Ok(*self)", "Ok(self.copied())")],
+}
+WRONG_IN_PROGRAM = {
+    "a token of code is deleted": [("program/lines.rs", "Some(u64::from(size))", "Some(size)")],
+    "a status is another": [("program/endings.rs", "Ok(MISUSED)", "Ok(FAILED)")],
+    "a row changes code": [
+        ("rows/program", "# The", "crates/dwexpr/src/endings.rt\n- MISUSED: u8 = 2\n+ MISUSED: u8 = 1\n\n# The"),
+        ("program/endings.rs", "MISUSED: u8 = 2", "MISUSED: u8 = 1"),
+    ],
 }
 
 
@@ -106,12 +126,26 @@ def apply(rows, codes):
             raise Wrong(f"a row is met {met} times: {place}: {old}")
 
 
+def place_of(path):
+    """Where a source is written, in the module that its crate becomes."""
+    crate, file = re.fullmatch(r"crates/(\w+)/src/(.*)\.rt", path).groups()
+    module = next((it for it in CRATES if CRATES[it] == crate), crate.removeprefix("dwarf_"))
+    return f"{module}/{'mod' if file == ROOTS.get(module, 'lib') else file}.rs"
+
+
+def path_of(place):
+    """The source of what is written."""
+    module, file = place.removesuffix(".rs").split("/", 1)
+    file = ROOTS.get(module, "lib") if file == "mod" else file
+    return f"crates/{CRATES.get(module, f'dwarf_{module}')}/src/{file}.rt"
+
+
 def rooted(path, text):
     """Paths begin at the module that a crate becomes."""
-    module = re.match(r"crates/[a-z]+_(\w+)", path)[1]
+    module = place_of(path).split("/")[0]
     root = "crate\n:\n:\nsources\n:\n:\n"
     text = re.sub(r"(?<!\$\n)^crate\n(?=:\n)", f"{root}{module}\n", text, flags=re.MULTILINE)
-    return re.sub(r"^dwarf_(\w+)\n(?=:\n)", rf"{root}\1\n", text, flags=re.MULTILINE).replace("$\n", "")
+    return re.sub(r"^dwarf_(\w+)\n(?=:\n)", rf"{root}\1\n", text, flags=re.MULTILINE).replace("$\ncrate\n", "crate\n")
 
 
 def plain(text):
@@ -128,15 +162,16 @@ def differ(what, ours, theirs):
 
 def judge(package, texts):
     """Refuses texts, by their paths, of which what is written isn't that of the sources and rows."""
-    rows = [row for name in PACKAGES[package][2] for row in rows_in(texts[f"rows/{name}"])]
+    _, _, names, added = PACKAGES[package]
+    rows = [row for name in names for row in rows_in(texts[f"rows/{name}"])]
     proved, changed, written = {}, {}, {}
     for path in [it for it in texts if it.startswith("crates/")]:
         proved[path] = changed[path] = CONTRACT.sub("", code(texts[path]))
-        place = re.sub(r"crates/[a-z]+_(\w+)/src/(.*)\.rt", r"\1/\2.rs", path).replace("/lib.rs", "/mod.rs")
+        place = place_of(path)
         text = texts[place]
-        if text.count("\n") != texts[path].count("\n") + 1 or not text.endswith(ADDED):
+        if text.count("\n") != texts[path].count("\n") + 1 or not text.endswith(added):
             raise Wrong(f"{place} has other lines")
-        written[path] = code(text.removesuffix(ADDED))
+        written[path] = code(text.removesuffix(added))
         if re.search(r"^pub\nfn\n\w+_unchecked$", written[path], re.MULTILINE):
             raise Wrong(f"{place}: what has a precondition is public")
     apply(rows, changed)
@@ -150,7 +185,7 @@ def judge(package, texts):
 
 def texts_of(package, folder):
     """What the build script of a package writes, without pages of docs, and what it reads."""
-    script, home, rows = PACKAGES[package]
+    script, home, rows, _ = PACKAGES[package]
     out = folder / package
     commands.run("rustc", "--edition=2024", TOP / script, "-o", f"{out}.script")
     out.mkdir()
@@ -161,9 +196,7 @@ def texts_of(package, folder):
     for file in sorted((out / "sources").rglob("*/*.rs")):
         place = str(file.relative_to(out / "sources"))
         texts[place] = re.sub(r'#\[doc = "(?:[^"\\]|\\.)*"\] ', "", file.read_text(encoding="utf-8"))
-        path = "crates/dwexpr_" if place.startswith("c/") else "crates/dwarf_"
-        path += place.replace("/", "/src/", 1).replace(".rs", ".rt").replace("src/mod.rt", "src/lib.rt")
-        texts[path] = (TOP / path).read_text(encoding="utf-8")
+        texts[path_of(place)] = (TOP / path_of(place)).read_text(encoding="utf-8")
     return texts
 
 
@@ -180,8 +213,8 @@ def main():
         for package in PACKAGES:
             texts = texts_of(package, folder)
             said = refused(package, texts)
-            expect(len(texts) > 80 and not said, f"{package}: {said}")
-            for name, changes in WRONG.items():
+            expect(len(texts) > 30 and not said, f"{package}: {said}")
+            for name, changes in (WRONG_IN_PROGRAM if package == "program" else WRONG).items():
                 other = dict(texts)
                 for file, old, new in changes:
                     other[file] = other[file].replace(old, new, 1)

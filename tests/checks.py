@@ -31,9 +31,11 @@ def expect_failure(check, *words):
         print(f"FAILED {check.__name__} takes what is wrong on purpose: {words}"[:400])
 
 
-def end_with(main, doc):
-    """Ends with the count. The script takes no words but --help, which prints this text."""
-    argparse.ArgumentParser(description=doc, formatter_class=argparse.RawDescriptionHelpFormatter).parse_args()
-    main()
+def end_with(main, doc, *numbers):
+    """Ends with the count. The script takes as many words, which are numbers, and --help, which prints this text."""
+    parser = argparse.ArgumentParser(description=doc, formatter_class=argparse.RawDescriptionHelpFormatter)
+    for name in numbers:
+        parser.add_argument(name, type=int)
+    main(**vars(parser.parse_args()))
     print(f"{passed} passed, {failed} failed")
     sys.exit(failed > 0)

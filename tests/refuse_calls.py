@@ -9,8 +9,9 @@ tests/rows/refused_calls.json.
   status is 1.
 - A read or a write that a signal interrupts changes nothing.
 
-Writes are tried twice: with the buffer of standard output, which the kit's library empties, and without memory for it,
-where the program hands each text to the system itself. A refused read or write is named on standard error.
+The proved program's writes are tried twice: with the buffer of standard output, which the kit's library empties, and
+without memory for it, where the program hands each text to the system itself. Another build of the program, which
+DWEXPR_PROGRAM names, has no buffer. A refused read or write is named on standard error.
 
 The last line is `N passed, M failed`, of the runs. It wants cc.
 """
@@ -63,7 +64,7 @@ def attempt(library, row, failure, refused, allowed, wanted):
     checks.expect(printed in allowed and wanted in said, name, f"{printed}, {said}")
 
 
-def tries(buffer):
+def tries(buffers):
     """Each row, the error and the calls that are refused, all that may be printed then, and what is said."""
     for row in MANY:
         for number in range(1, ALLOCATIONS + 1):
@@ -76,7 +77,7 @@ def tries(buffer):
             for failure in READ_ERRORS:
                 yield FEW[0] | {"input": text}, failure, {"READ": number}, [("", 1)], "standard input can't be read: "
     for row in FEW:
-        for other in ({}, buffer):
+        for other in ({}, *buffers):
             for number in range(1, len(row["output"]) + 1):
                 refused, before = {**other, "WRITE": number}, row["output"][: number - 1]
                 for failure in (errno.EIO, errno.EPIPE, 0):
@@ -90,10 +91,10 @@ def main():
     with commands.temporary() as folder:
         library = folder / "refuse.so"
         commands.run("cc", "-O1", "-shared", "-fPIC", commands.TOP / "tests/refuse.c", "-o", library)
-        # The first allocation that the program can do without is that of its buffer of standard output.
-        buffers = ({"ALLOCATION": number} for number in range(1, ALLOCATIONS))
-        buffer = next(it for it in buffers if run(library, FEW[0], 0, it)[0] == whole(FEW[0]))
-        for words in tries(buffer):
+        # The first allocation that the proved program can do without is that of its buffer of standard output.
+        numbers = ({"ALLOCATION": number} for number in range(1, ALLOCATIONS))
+        buffers = (it for it in numbers if run(library, FEW[0], 0, it)[0] == whole(FEW[0]))
+        for words in tries([next(buffers)] if run_rows.PROGRAM == run_rows.PROVED else []):
             attempt(library, *words)
         checks.expect_failure(attempt, library, FEW[0], 0, {}, [(FEW[0]["output"], 1)], "")
         checks.expect_failure(attempt, library, FEW[0], 0, {}, [("", 0)], "")

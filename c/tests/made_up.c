@@ -9,7 +9,7 @@
  *
  * With BESIDE, the new evaluation is one of another library: the proved archive, whose calls are named
  * `proved_dwexpr_*` then. Only here two libraries take texts that are lost, arguments that aren't allowed, and too
- * little room for pieces: the Rust crate, which tests/beside_archive compares with the archive, has none of these. */
+ * little room for pieces: the Rust crate, which program/tests/archive compares with the archive, has none of these. */
 #define _DEFAULT_SOURCE
 #include <sys/mman.h>
 

@@ -112,11 +112,9 @@ static inline int read_expression(const char *row, dwexpr_encoding *encoding, ch
     return 1;
 }
 
-/* The names that an enum of the header gives to its numbers, without a prefix. Some comments say that a fault carries a
- * number. */
+/* The names that an enum of the header gives to its numbers, without a prefix. */
 struct name {
     char text[40];
-    int carries;
 };
 
 enum { NAMES = 100 };
@@ -132,7 +130,6 @@ static inline void read_names(const char *header, const char *of_enum, const cha
         if (!is_within || sscanf(line, "    %79[A-Z_0-9] = %u,", entry, &number) != 2 || number >= NAMES)
             continue;
         snprintf(names[number].text, sizeof names->text, "%.39s", entry + strlen(prefix));
-        names[number].carries = strstr(line, "carries") != NULL;
     }
     fclose(file);
 }

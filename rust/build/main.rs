@@ -68,12 +68,9 @@ fn allow_tests() {
     if std::fs::exists("tests/rows").is_ok_and(|it| it) {
         println!("cargo::rustc-cfg=rows");
     }
-    for (variable, cfg) in [("GIMLI_TESTS", "gimli_tests"), ("DWEXPR_ARCHIVE", "archive")] {
-        println!("cargo::rerun-if-env-changed={variable}");
-        println!("cargo::rustc-check-cfg=cfg({cfg})");
-        if std::env::var_os(variable).is_some() {
-            println!("cargo::rustc-cfg={cfg}");
-        }
+    println!("cargo::rerun-if-env-changed=GIMLI_TESTS\ncargo::rustc-check-cfg=cfg(gimli_tests)");
+    if std::env::var_os("GIMLI_TESTS").is_some() {
+        println!("cargo::rustc-cfg=gimli_tests");
     }
 }
 

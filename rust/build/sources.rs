@@ -97,7 +97,8 @@ impl Sources {
                     continue;
                 }
                 let path = format!("crates/{path}");
-                let place = if place.ends_with("lib.rt") { Path::new("mod.rs") } else { &place.with_extension("rs") };
+                let is_root = place.ends_with("lib.rt") || place.ends_with("main.rt");
+                let place = if is_root { Path::new("mod.rs") } else { &place.with_extension("rs") };
                 let (text, preconditions) = commented(&read(&file));
                 sources.push(Source { path, module, place: place.to_owned(), text, preconditions });
             }

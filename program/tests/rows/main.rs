@@ -1,16 +1,16 @@
-//! Runs the rows and vectors of the program `dwexpr` over each reader. They have to give what the program gives.
+//! Runs the rows on the program's `run`. The Rust crate has to give the same lines over each reader, and the vectors.
 
 mod bounds;
 mod calls;
 mod cases;
 mod decoded;
 mod json;
+mod lines;
 mod lists;
-mod packages;
-mod said;
 
-use cases::{Case, cases, vectors};
+use cases::{Case, cases, rows, texts_of, vectors, words_of};
 use dwexpr::{EndianSlice, Error, Evaluation, Reader, ReaderOffset, ReaderOffsetId, Result, RunTimeEndian};
+use dwexpr_cli::parts::{Command, Global, run};
 use std::collections::VecDeque;
 use std::marker::PhantomData;
 use std::rc::Rc;
@@ -22,10 +22,11 @@ fn slice(bytes: &[u8], order: RunTimeEndian) -> EndianSlice<'static, RunTimeEndi
 
 impl Case {
     /// The lines that the case gives over a reader.
-    fn said<R: Reader>(&self, read: impl Fn(&[u8]) -> R) -> String {
-        match &self.steps {
-            Some(steps) => said::evaluation(&mut Evaluation::new(read(&self.bytes), self.encoding), steps, read),
-            None => said::operations(&self.bytes, self.encoding, read, said::name_of),
+    fn lines<R: Reader>(&self, read: impl Fn(&[u8]) -> R) -> String {
+        let (bytes, encoding) = (self.asked.bytes.as_slice(), self.asked.context.encoding);
+        match self.asked.command {
+            Command::Ops => lines::operations(bytes, encoding, read),
+            _ => lines::evaluation(&mut Evaluation::new(read(bytes), encoding), &self.steps, read),
         }
     }
 }
@@ -90,7 +91,7 @@ impl<O: ReaderOffset> Reader for Own<O> {
 /// Expects each row and vector over a reader to be as it says. A step out of turn panics.
 fn assert_all<R: Reader>(read: impl Fn(&[u8], RunTimeEndian) -> R) {
     let cases = cases();
-    let said: Vec<String> = cases.iter().map(|it| it.1.said(|bytes| read(bytes, it.1.order))).collect();
+    let said: Vec<String> = cases.iter().map(|it| it.1.lines(|bytes| read(bytes, it.1.asked.context.order))).collect();
     let mut wrong = 0;
     for ((name, case), said) in cases.iter().zip(said) {
         // Offsets of 32 bits are too small for some cases, and branches wrap there.
@@ -104,7 +105,25 @@ fn assert_all<R: Reader>(read: impl Fn(&[u8], RunTimeEndian) -> R) {
 }
 
 #[test]
-fn rows_and_vectors_are_as_they_say() {
+fn the_program_prints_what_the_rows_say() {
+    let (mut count, mut wrong) = (0, 0);
+    for (path, row) in rows() {
+        let Some((words, input, wanted)) = texts_of(&row) else { continue };
+        let mut output = Vec::new();
+        let words = words_of(words.iter().map(String::as_str));
+        let status = run(Global, &words, input.as_bytes(), &mut &mut output);
+        let differs = output != wanted.as_bytes() || u64::from(status) != row.number("status");
+        let said = String::from_utf8_lossy(&output);
+        assert_eq!(differs, row.get("wrong").is_some(), "{path}: {row:?}: {said}, status {status}");
+        wrong += usize::from(differs);
+        count += 1;
+    }
+    assert!(count > 1900, "{count} rows have texts alone");
+    assert_eq!(wrong, 1, "one row is wrong on purpose");
+}
+
+#[test]
+fn the_crate_gives_the_same_over_each_reader() {
     assert_all(slice);
     assert_all(Own::<u64>::of);
     assert_all(Own::<u32>::of);
@@ -121,17 +140,4 @@ fn rows_and_vectors_are_as_they_say() {
             GimliReader(gimli::EndianRcSlice::new(bytes.into(), gimli::RunTimeEndian::from(order)))
         });
     }
-}
-
-/// Compares a million made-up cases.
-#[test]
-#[cfg_attr(not(archive), ignore = "the variable DWEXPR_ARCHIVE has to name the archive for C")]
-fn the_archive_gives_the_same() {
-    packages::run("beside_archive", &["run", "--release", "--quiet", "--", "1000000"]);
-}
-
-#[test]
-#[cfg_attr(not(gimli_tests), ignore = "the variable GIMLI_TESTS has to name a folder with gimli's own tests")]
-fn gimlis_own_tests_pass() {
-    packages::run("upstream", &["test", "--quiet", "--lib"]);
 }

@@ -1,10 +1,11 @@
 //! Made-up cases, and answers to what they ask.
 
-use crate::archive::{Answer, COMPLETE, Outcome};
-use dwexpr::{Encoding, EndianSlice, Format, RunTimeEndian};
+use crate::Subject;
+use crate::calls::{Outcome, Settings};
+use crate::shown::{COMPLETE, TYPES};
+use dwexpr::{Encoding, EndianSlice, Format, RunTimeEndian, Value};
+use dwexpr_cli::parts::{Bytes, DecodingContext, Step};
 use std::sync::LazyLock;
-
-pub type Text<'a> = EndianSlice<'a, RunTimeEndian>;
 
 /// A generator of numbers (xorshift, Marsaglia 2003). The same seed gives the same numbers in every run.
 #[derive(Clone, Debug)]
@@ -45,16 +46,10 @@ impl Numbers {
     }
 }
 
-/// An operation's line: its name, and in ascending order its numbers other than 0.
-pub fn line(name: &str, mut numbers: Vec<u64>) -> String {
-    numbers.sort();
-    numbers.into_iter().filter(|it| *it != 0).fold(name.to_owned(), |said, it| said + &format!(" {it}"))
-}
-
 /// The form of the operands of each opcode, as the header has it.
 static FORMS: LazyLock<[u8; 256]> = LazyLock::new(|| {
     let mut forms = [b'.'; 256];
-    let lines = include_str!("../../c/include/dwexpr_opcodes.h").lines();
+    let lines = include_str!("../../../c/include/dwexpr_opcodes.h").lines();
     for row in lines.filter_map(|line| line.trim().strip_prefix("row(0x")) {
         let opcode = usize::from_str_radix(&row[..2], 16).expect("a row begins with an opcode");
         forms[opcode] = row.split('\'').nth(1).expect("a row ends with a form").as_bytes()[0];
@@ -124,10 +119,19 @@ impl Case {
         }
     }
 
-    /// A text as the crate reads it.
-    pub fn read(&self, bytes: &[u8]) -> Text<'_> {
-        let text = self.texts.iter().find(|it| *it == bytes).expect("no other text is read");
-        EndianSlice::new(text, self.order)
+    /// What is evaluated.
+    pub fn subject(&self) -> Subject<'_> {
+        Subject {
+            context: DecodingContext { encoding: self.encoding, order: self.order },
+            texts: self.texts.iter().map(Vec::as_slice).collect(),
+            settings: Settings {
+                max_iterations: self.maximum,
+                has_object_address: self.object_address.is_some().into(),
+                has_initial_value: self.initial_value.is_some().into(),
+                object_address: self.object_address.unwrap_or(0),
+                initial_value: self.initial_value.unwrap_or(0),
+            },
+        }
     }
 
     /// Adds an operation with made-up operands.
@@ -195,22 +199,37 @@ impl Case {
     }
 
     /// The answer after an outcome, mostly to its request; `None` if no more are given.
-    pub fn answer(&self, given: usize, outcome: &Outcome, numbers: &mut Numbers) -> Option<Answer> {
-        /// The answer to each request; 0 if there is none.
-        const ANSWERS: [u32; 16] = [0, 0, 1, 2, 5, 6, 7, 11, 4, 8, 9, 10, 12, 3, 3, 3];
+    pub fn answer(&self, given: usize, outcome: &Outcome, numbers: &mut Numbers) -> Option<Step<Bytes<'_>>> {
         // An evaluation keeps a fault, and stays complete. That is tried now and then.
         let is_over = outcome.request <= COMPLETE;
         if given == 24 || (is_over && !numbers.one_in(16)) {
             return None;
         }
-        let any = numbers.below(12) as u32 + 1;
+        let any = numbers.below(15) as u32 + 2;
         let is_generic = !matches!(outcome.request, 8 | 12) && outcome.base_type == 0;
-        let wanted = if is_generic { 1 } else { self.home.into() };
-        Some(Answer {
-            kind: if is_over || numbers.one_in(48) { any } else { ANSWERS[outcome.request as usize] },
-            value_type: if numbers.one_in(8) { numbers.below(9) as u32 + 1 } else { wanted },
-            number: numbers.edge(),
-            text: numbers.below(self.texts.len()),
-        })
+        let wanted = if is_generic { 1 } else { usize::from(self.home) };
+        let value_type = TYPES[if numbers.one_in(8) { numbers.below(9) } else { wanted - 1 }];
+        let (number, text) = (numbers.edge(), &self.texts[numbers.below(self.texts.len())]);
+        let text = EndianSlice::new(text.as_slice(), self.order);
+        let request = if is_over || numbers.one_in(48) { any } else { outcome.request };
+        Some(answer_to(request, Value::from_u64(value_type, number).expect("it is a type of integers"), number, text))
+    }
+}
+
+/// The answer to a request, of what it asks for.
+pub fn answer_to<'a>(request: u32, value: Value, number: u64, text: Bytes<'a>) -> Step<Bytes<'a>> {
+    match request {
+        2 => Step::Memory(value),
+        3 => Step::Register(value),
+        4 => Step::FrameBase(number),
+        5 => Step::Tls(number),
+        6 => Step::CallFrameCfa(number),
+        7 => Step::AtLocation(text),
+        8 => Step::EntryValue(value),
+        9 => Step::ParameterRef(number),
+        10 => Step::RelocatedAddress(number),
+        11 => Step::IndexedAddress(number),
+        12 => Step::BaseType(value.value_type()),
+        _ => Step::WasmValue(value),
     }
 }

@@ -2,11 +2,12 @@
 
 use crate::cases::{Case, cases, vectors};
 use crate::decoded::case_of;
-use crate::said::{Reply, bytes_in};
+use crate::lines::Reply;
 use crate::slice;
 use dwexpr::{
     Encoding, Evaluation, EvaluationResult, Expression, Format, Reader, RunTimeEndian, Status, Value, ValueType,
 };
+use dwexpr_cli::parts::{DecodingContext, Step};
 
 /// Answers a request by the generic value 0, the number 0, the text of a DW_OP_nop or the type `U8`.
 fn answered<R: Reader>(it: &mut Evaluation<R>, request: EvaluationResult<R>, nop: &R) -> Reply<R> {
@@ -55,10 +56,10 @@ fn each_text_of_at_most_two_bytes_ends() {
 }
 
 /// A case's texts: its own, and those that answer calls.
-fn texts(case: &Case) -> Vec<Vec<u8>> {
-    let steps = case.steps.as_deref().unwrap_or_default().lines();
-    let called = steps.filter_map(|step| step.strip_prefix("location ")).map(bytes_in);
-    called.chain([case.bytes.clone()]).collect()
+fn texts(case: &Case) -> Vec<&[u8]> {
+    let called =
+        case.steps.iter().filter_map(|it| if let Step::AtLocation(text) = it { Some(text.slice()) } else { None });
+    called.chain([case.asked.bytes.as_slice()]).collect()
 }
 
 #[test]
@@ -68,9 +69,10 @@ fn each_front_of_a_text_ends() {
         // Cutting off a long text takes too long.
         for text in texts(&case).iter().filter(|it| it.len() <= 1000) {
             for front in (0..=text.len()).map(|length| &text[..length]) {
-                let items = Expression(slice(front, case.order)).operations(case.encoding).take(front.len() + 1);
+                let DecodingContext { encoding, order } = case.asked.context;
+                let items = Expression(slice(front, order)).operations(encoding).take(front.len() + 1);
                 assert!(items.count() <= front.len(), "{front:x?}");
-                assert_ends(front, case.encoding, case.order, 1000);
+                assert_ends(front, encoding, order, 1000);
             }
         }
     }

@@ -1,11 +1,12 @@
 //! Makes the calls that vectors say: on values, their types, masks of addresses, offsets and numbers.
 
 use crate::cases::vectors;
+use crate::decoded::{fault_of, variant_of};
 use crate::json::Json;
-use crate::said::{bytes_in, name_of, or_none, type_in, type_word, value_in, variant_of};
 use crate::slice;
 use dwexpr::constants::DwAte;
 use dwexpr::{Reader, ReaderOffset, Result, RunTimeEndian, Value, ValueType, is_addr_mask};
+use dwexpr_cli::parts::{Global, Vec, bytes_of, type_of, value_of};
 
 type Unary = fn(Value, u64) -> Result<Value>;
 type Binary = fn(Value, Value, u64) -> Result<Value>;
@@ -32,30 +33,39 @@ const BINARY: [(&str, Binary); 17] = [
     ("NE", Value::ne),
 ];
 
+fn bytes_in(row: &Json) -> Vec<u8, Global> {
+    let digits = row.get("bytes").unwrap().text();
+    bytes_of(Global, if digits.is_empty() { "-" } else { digits }).expect("pairs of digits")
+}
+
+fn value_in(row: &Json, name: &str) -> Value {
+    value_of(row.get(name).unwrap().text()).expect("a value")
+}
+
 /// What a call gives. Its kind is that of the operation, by C's header; without a kind it reads bytes.
-fn value_of(row: &Json) -> Result<Value> {
-    let text = |name| row.get(name).unwrap().text();
+fn result_of(row: &Json) -> Result<Value> {
+    let value_type = || type_of(row.get("type").unwrap().text()).expect("a type");
     let Some(kind) = row.get("kind").map(Json::text) else {
-        return Value::parse(type_in(text("type")), slice(&bytes_in(text("bytes")), RunTimeEndian::Little));
+        return Value::parse(value_type(), slice(&bytes_in(row), RunTimeEndian::Little));
     };
-    let (left, mask) = (value_in(text("left")), row.number("mask"));
+    let (left, mask) = (value_in(row, "left"), row.number("mask"));
     if let Some((_, call)) = UNARY.iter().find(|it| it.0 == kind) {
         return call(left, mask);
     }
     match kind {
-        "CONVERT" => left.convert(type_in(text("type")), mask),
-        "REINTERPRET" => left.reinterpret(type_in(text("type")), mask),
-        _ => BINARY.iter().find(|it| it.0 == kind).expect("a kind").1(left, value_in(text("right")), mask),
+        "CONVERT" => left.convert(value_type(), mask),
+        "REINTERPRET" => left.reinterpret(value_type(), mask),
+        _ => BINARY.iter().find(|it| it.0 == kind).expect("a kind").1(left, value_in(row, "right"), mask),
     }
 }
 
 #[test]
 fn values_are_as_their_vectors_say() {
     for row in vectors("values") {
-        match value_of(&row) {
-            Ok(value) => assert_eq!(value, value_in(row.get("value").expect("a fault").text()), "{row:?}"),
+        match result_of(&row) {
+            Ok(value) => assert_eq!(value, value_in(&row, "value"), "{row:?}"),
             Err(error) => {
-                assert_eq!(name_of(&error), variant_of(row.get("code").expect("a value").text()), "{row:?}")
+                assert_eq!(fault_of(error), variant_of(row.get("code").expect("a value").text()), "{row:?}")
             }
         }
     }
@@ -63,19 +73,19 @@ fn values_are_as_their_vectors_say() {
 
 /// The answer of a call that isn't on values.
 fn answer_of(row: &Json) -> String {
-    let word = |result: Result<u64>| result.map_or_else(|error| name_of(&error), |number| number.to_string());
+    let word = |result: Result<u64>| result.map_or_else(fault_of, |number| number.to_string());
     match row.get("call").unwrap().text() {
         "is_addr_mask" => is_addr_mask(row.number("mask")).to_string(),
         "from_encoding" => {
             let encoding = DwAte(row.number("encoding") as u8);
-            or_none(ValueType::from_encoding(encoding, row.number("size")), type_word)
+            let word = |it: ValueType| format!("{it:?}").to_lowercase();
+            ValueType::from_encoding(encoding, row.number("size")).map_or("none".into(), word)
         }
         "u32_from_u64" => word(<u32 as ReaderOffset>::from_u64(row.number("number")).map(u64::from)),
         "read_fixed" => {
             let is_big = row.get("order").unwrap().text() == "be";
             let order = if is_big { RunTimeEndian::Big } else { RunTimeEndian::Little };
-            let bytes = bytes_in(row.get("bytes").unwrap().text());
-            word(slice(&bytes, order).read_fixed(row.number("size") as u8))
+            word(slice(&bytes_in(row), order).read_fixed(row.number("size") as u8))
         }
         call => panic!("the call {call}"),
     }

@@ -2,26 +2,39 @@
 
 use crate::cases::Case;
 use crate::json::Json;
-use crate::said::{block_word, digits_of, fault, name_of, variant_of};
+use crate::lines::{bytes_of, fault};
 use dwexpr::{DieReference, Error, Operation, Reader, ReaderOffset, RunTimeEndian};
 use std::collections::BTreeMap;
 use std::fmt::Display;
 
-/// Fields that aren't 0, by their names in `c/include/dwexpr.h`. A block's is its bytes.
-type Fields<'a> = BTreeMap<&'a str, String>;
+/// The variant in a name of C's header: `PlusConstant` for `PLUS_CONSTANT`.
+pub fn variant_of(name: &str) -> String {
+    let capitalized = |word: &str| {
+        if matches!(word, "TLS" | "CFA") { word.into() } else { word[..1].to_owned() + &word[1..].to_lowercase() }
+    };
+    name.split('_').map(capitalized).collect()
+}
 
-fn fields<'a>(all: impl IntoIterator<Item = (&'a str, String)>) -> Fields<'a> {
+/// The name of a fault, and its number.
+pub fn fault_of(error: Error) -> String {
+    fault(error).trim_start_matches("fault ").trim_end().into()
+}
+
+/// Fields that aren't 0, by their names in `c/include/dwexpr.h`. A block's is its bytes.
+pub type Fields<'a> = BTreeMap<&'a str, String>;
+
+pub fn fields<'a>(all: impl IntoIterator<Item = (&'a str, String)>) -> Fields<'a> {
     all.into_iter().filter(|it| it.1 != "0").collect()
 }
 
-fn field(name: &str, number: impl Display) -> (&str, String) {
+pub fn field(name: &str, number: impl Display) -> (&str, String) {
     (name, number.to_string())
 }
 
-fn fields_of<R: Reader>(operation: Operation<R>) -> Fields<'static> {
+pub fn fields_of<R: Reader>(operation: Operation<R>) -> Fields<'static> {
     use Operation::*;
     let place = |name, offset: R::Offset| field(name, offset.into_u64());
-    let block = |bytes: R| ("block", block_word(bytes));
+    let block = |bytes: R| ("block", format!("{:x?}", bytes_of(bytes).slice()));
     fields(match operation {
         Deref { size, base_type, space } => {
             vec![field("deref_size", size), place("base_type", base_type.0), field("flag", u8::from(space))]
@@ -63,7 +76,7 @@ fn wanted_fields<'a>(vector: &'a Json, bytes: &[u8]) -> Fields<'a> {
     fields(members.map(|(name, it)| match it {
         Json::List(block) => {
             let [place, length] = [0, 1].map(|at| block[at].text().parse::<usize>().unwrap());
-            (name.as_str(), digits_of(&bytes[place..place + length]))
+            (name.as_str(), format!("{:x?}", &bytes[place..place + length]))
         }
         _ => field(name, it.text()),
     }))
@@ -72,14 +85,15 @@ fn wanted_fields<'a>(vector: &'a Json, bytes: &[u8]) -> Fields<'a> {
 /// The case of a vector: an operation, or an evaluation by the steps of its input.
 pub fn case_of(vector: &Json) -> Case {
     let text = |name| vector.get(name).map(Json::text);
-    let words: Vec<&str> = text("in").unwrap().split(' ').chain(text("bytes")).collect();
+    let command = if vector.get("input").is_some() { "eval" } else { "ops" };
+    let words = [command].into_iter().chain(text("in").unwrap().split(' ')).chain(text("bytes"));
     let wanted = match (text("output"), text("code"), text("detail")) {
         (Some(output), ..) => output.into(),
-        (None, Some(code), None) => format!("fault {}", variant_of(code)),
-        (None, Some(code), Some(detail)) => format!("fault {} {detail}", variant_of(code)),
+        (None, Some(code), None) => variant_of(code),
+        (None, Some(code), Some(detail)) => format!("{} {detail}", variant_of(code)),
         (None, None, _) => variant_of(text("kind").unwrap()),
     };
-    Case::of(&words, text("input").map(String::from), wanted)
+    Case::of(words, text("input").unwrap_or(""), wanted).expect("the program takes its words")
 }
 
 /// Expects an operation before two bytes to be as its vector says, and each of its fronts to be cut off.
@@ -88,19 +102,20 @@ pub fn assert_decoded<R: Reader>(vector: &Json, read: &impl Fn(&[u8], RunTimeEnd
     if bits.is_some_and(|bits| bits != R::Offset::BITS.to_string()) {
         return;
     }
-    let Case { encoding, order, mut bytes, wanted, .. } = case_of(vector);
+    let Case { asked, wanted, .. } = case_of(vector);
+    let (encoding, order, mut bytes) = (asked.context.encoding, asked.context.order, asked.bytes.to_vec());
     let length = bytes.len();
     // An operation that is cut off has to be at the end.
-    if wanted != "fault UnexpectedEof" {
+    if wanted != "UnexpectedEof" {
         bytes.extend([0x96; 2]);
     }
     let text = read(&bytes, order);
     let mut rest = text.clone();
     match Operation::parse(&mut rest, encoding) {
         Err(Error::UnsupportedOffset) if bits.is_none() && R::Offset::BITS == 32 => {}
-        Err(error) => assert_eq!(fault(error), wanted, "{vector:?}"),
+        Err(error) => assert_eq!(fault_of(error), wanted, "{vector:?}"),
         Ok(operation) => {
-            assert_eq!(name_of(&operation), wanted, "{vector:?}");
+            assert_eq!(operation.name(), wanted, "{vector:?}");
             assert_eq!(fields_of(operation), wanted_fields(vector, &bytes), "{vector:?}");
             assert_eq!(rest.offset_from(&text).into_u64(), length as u64, "{vector:?}");
             for front in 0..length {

@@ -9,6 +9,7 @@
 - docs/DIFFERENCES.md names exactly the public names that gimli doesn't have, and the types with a default. DWEXPR_GIMLI
   names a folder with gimli 0.34; without it, the page may have too few names.
 - c/include/dwexpr.h asserts the place of each field, as docs/PROOFS.md says.
+- All files that name the version name one. The manual page has no fault that groff knows, if that is there.
 
 It prints a line for each failure. The last line is `N passed, M failed`.
 """
@@ -16,6 +17,8 @@ It prints a line for each failure. The last line is `N passed, M failed`.
 import fnmatch
 import os
 import re
+import shutil
+import subprocess
 
 import checks
 from checks import expect
@@ -92,6 +95,31 @@ def figures(page, text):
             expect(same, f"{page} names {' and '.join(named)}, and {path} has {known}")
 
 
+# What names the version, and how.
+VERSIONS = {
+    "Cargo.toml": r'^version = "(.*)"',
+    "c/Cargo.toml": r'^version = "(.*)"',
+    "c/include/dwexpr.h": r'^#define DWEXPR_VERSION "(.*)"',
+    "crates/dwexpr/src/help.rt": r'"dwexpr (.*)\\n"',
+    "man/dwexpr.1": r'^\.TH .* "dwexpr (.*?)"',
+}
+
+
+def versions(wanted):
+    for path, pattern in VERSIONS.items():
+        found = re.findall(pattern, read(path), re.MULTILINE)
+        expect(found == [wanted], f"{path} has the version {found}, and CHANGELOG.md {wanted}")
+
+
+def manual(page):
+    if not shutil.which("groff"):
+        print("left out: the manual page: there is no groff")
+        return
+    words = ["groff", "-ww", "-man", "-t", "-Tutf8", "-z"]
+    said = subprocess.run(words, input=page, capture_output=True, text=True, check=False).stderr
+    expect(not said, "man/dwexpr.1", said)
+
+
 # What is wrong on purpose.
 WRONG = [
     (paths, "`tests/nothing.py`"),
@@ -134,6 +162,12 @@ def main():
     for page in sorted(place for place in PLACES if place.endswith(".md")):
         for check in (paths, links, blocks, figures):
             check(page, read(page))
+    versions(re.search(r"^## (.*)$", read("CHANGELOG.md"), re.MULTILINE)[1])
+    checks.expect_failure(versions, "0.0.0")
+    page = read("man/dwexpr.1")
+    manual(page)
+    if shutil.which("groff"):
+        checks.expect_failure(manual, f"{page}.nothing\n")
     page = read("docs/DIFFERENCES.md")
     differences("docs/DIFFERENCES.md", page)
     checks.expect_failure(differences, "docs/DIFFERENCES.md", page.replace("`copy_of`", "`copy`"))

@@ -3,7 +3,9 @@
 tests/rows/refused_calls.json.
 
 - Allocations: a run whose Nth is refused has to print the answers that it gives with ample memory, up to one of them,
-  and then `fault StackFull` for that call and each later one, or `no memory`; and it has to end with status 1.
+  and then `fault StackFull` for that call and each later one, or `no memory`; and it has to end with status 1. A trace
+  has to print the lines that it gives with ample memory, up to one of them, and then `no memory`, or all operations and
+  then the fault at the end.
 - Reads, of a byte each: if one is refused, by any error but an interruption, nothing is printed, and the status is 1.
 - Writes, of a byte each: if one is refused, or takes no byte, nothing is printed after the bytes before it, and the
   status is 1.
@@ -24,14 +26,16 @@ import checks
 import commands
 import run_rows
 
-# More allocations than a run has.
+# More allocations than a run has, and than a trace has.
 ALLOCATIONS = 60
+OF_TRACE = 400
 READ_ERRORS = [error for error in errno.errorcode if error != errno.EINTR]
 # The rows whose lists grow, and those that print each kind of line, of which the first completes.
 ROWS = run_rows.rows_in("rows/refused_calls.json")
 ROWS = [row | {it: run_rows.bytes_of(row[it]).decode() for it in ("input", "output")} for row in ROWS]
 MANY = [row for row in ROWS if row["name"].startswith("many ")]
 FEW = [row for row in ROWS if row not in MANY]
+TRACES = [row for row in ROWS if row["words"][0] == "trace"]
 
 
 def run(library, row, failure, refused):
@@ -57,6 +61,15 @@ def cut(row):
         yield "".join(lines[:known]) + "fault StackFull\n" * (steps - known), 1
 
 
+def cut_trace(row):
+    """What a trace may print without an allocation, and its status."""
+    lines = row["output"].splitlines(keepends=True)
+    for known in range(len(lines) + 1):
+        yield "".join(lines[:known]) + "no memory\n", 1
+    operations = "".join(line for line in lines if "\t" in line)
+    yield f"{operations}{len(row['words'][-1]) // 2}\tfault StackFull\n", 1
+
+
 def attempt(library, row, failure, refused, allowed, wanted):
     """Tries a row while these calls are refused."""
     printed, said = run(library, row, failure, refused)
@@ -70,6 +83,10 @@ def tries(buffers):
         for number in range(1, ALLOCATIONS + 1):
             # The first allocation is needed, and the last isn't made.
             allowed = [*cut(row)] * (number < ALLOCATIONS) + [whole(row)] * (number > 1)
+            yield row, 0, {"ALLOCATION": number}, allowed, ""
+    for row in TRACES:
+        for number in range(1, OF_TRACE + 1):
+            allowed = [*cut_trace(row)] * (number < OF_TRACE) + [whole(row)] * (number > 1)
             yield row, 0, {"ALLOCATION": number}, allowed, ""
     # Neither a byte nor the end, which the last read finds, can be read.
     for text in ("", "evaluate\n", "nonsense\n"):

@@ -6,7 +6,7 @@ output is a text; `{"hex": ..}`, its bytes as digits; or a list of parts, each a
 it stands. A row may say besides
 - `program`: the program's name, the word before its words;
 - `input_from`: in place of an input, a `directory`, whose read fails, or a pipe that stays `open` and gives nothing;
-- `output_to`: a device, such as one on which every write fails;
+- `output_to`: a device, such as one on which every write fails, or a `terminal`;
 - `megabytes`: how much memory the program may have;
 - `error`: all of standard error;
 - `output_pattern` or `error_pattern`: a regular expression for it;
@@ -26,6 +26,7 @@ import pathlib
 import re
 import resource
 import subprocess
+import tty
 
 import checks
 from commands import TOP
@@ -58,13 +59,16 @@ def bytes_of(text):
 
 
 def ends_of(row):
-    """What the program reads from and writes to, in the words of `subprocess`."""
+    """What the program reads from and writes to, in the words of `subprocess`, and the `screen` of its terminal."""
     ends = {"stdout": subprocess.PIPE, "stderr": subprocess.PIPE}
     if "input" in row:
         ends["input"] = bytes_of(row["input"])
     else:
         ends["stdin"] = os.open("/", os.O_RDONLY) if row["input_from"] == "directory" else os.pipe()[0]
-    if "output_to" in row:
+    if row.get("output_to") == "terminal":
+        ends["screen"], ends["stdout"] = os.openpty()
+        tty.setraw(ends["stdout"])
+    elif "output_to" in row:
         ends["stdout"] = os.open(row["output_to"], os.O_WRONLY)
     if "megabytes" in row:
         limits = [row["megabytes"] << 20] * 2
@@ -82,12 +86,14 @@ def run(group, row):
     program = str(TOP / row["by"] if "by" in row else PROGRAM)
     words = [bytes_of(row.get("program", program)), *map(bytes_of, row["words"])]
     name = f"{group}: {row['name']}"
+    ends = ends_of(row)
+    screen = ends.pop("screen", None)
     try:
-        ran = subprocess.run(words, executable=program, timeout=60, **ends_of(row))
+        ran = subprocess.run(words, executable=program, timeout=60, cwd=TOP, **ends)
     except subprocess.TimeoutExpired as error:
         checks.expect(False, name, error)
         return
-    output = ran.stdout or b""
+    output = os.read(screen, 1 << 16) if screen else ran.stdout or b""
     good = is_wanted(row, "output", output) and is_wanted(row, "error", ran.stderr) and ran.returncode == row["status"]
     checks.expect(good, name, f"{output[-200:]} {ran.stderr[-200:]}, status {ran.returncode}")
 

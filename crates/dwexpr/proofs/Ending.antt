@@ -1,8 +1,10 @@
 -- What the program ends with, by what its parts end with, and of an evaluation that was replayed.
-use Rattle.std.proofs.Common.{◌≡◌, inl, inr, ℕ, List, [], ◌++◌, append-nil, Option, Some, None, Result, Err, refl, sym, ◌∙◌, ap, subst, ◌⊎◌, zero, suc, ◌∷◌, take, length, ◌<◌, ◌^◌, arith}
-use Rattle.std.specs.Prelude.{IsSome, slice_get}
-use Rattle.dwexpr.specs.Program.{EndsInvocation}
-use Rattle.dwexpr.specs.Endings.{no_memory, misplaced_step}
+use Rattle.std.proofs.Common.{◌≡◌, inl, inr, ℕ, List, [], ◌++◌, append-nil, Option, Some, None, Result, Err, refl, sym, ◌∙◌, ap, subst, ◌⊎◌, zero, suc, ◌∷◌, take, length, ◌<◌, ◌≤◌, ◌^◌, arith}
+use Rattle.std.specs.Prelude.{IfOk, IsSome, Ok, slice_get}
+use Rattle.dwexpr.specs.Program.{EndsInvocation, EvaluatesInput}
+use Rattle.dwarf_base.specs.declared.common.Encoding.{Encoding}
+use Rattle.dwexpr.specs.declared.words.BadWords.{BadWords}
+use Rattle.dwexpr.specs.Endings.{Ending, no_memory, misplaced_step}
 use Rattle.dwexpr.specs.Words.{Invocation}
 use Rattle.std.proofs.lemmas.List.{append_assoc, append_cancel_left, length-map, take_all}
 use Rattle.std.proofs.lemmas.Option.{slice_get_within, slice_get_past}
@@ -24,17 +26,29 @@ use Rattle.dwarf_replay.specs.declared.steps.Replayed.{Replayed}
 use Rattle.dwarf_replay.specs.declared.steps.Replayed.TheVariants as replayed
 use Rattle.dwarf_replay.specs.declared.steps.Step.{Step}
 use Rattle.dwexpr.specs.Evaluates.{EndsAt, IsCall, all_done, not_allowed, without_memory, EvaluatesSteps, EvaluatesSaid, after_replies, outcome_ending}
-use Rattle.dwexpr.specs.inner.Readings.{bad_steps, ReadsSteps}
+use Rattle.dwexpr.specs.inner.Readings.{bad_invocation, bad_steps, unread_input, ReadsInput, ReadsSteps}
 use Rattle.dwexpr.specs.declared.hexadecimal.InputFault.{InputFault}
 use Rattle.dwexpr.specs.declared.hexadecimal.InputFault.TheVariants as fault
 use Rattle.dwexpr.specs.declared.steps.BadLine.{BadLine}
-use Rattle.dwexpr.specs.inner.Outputs.{HasLine, ending_of, state_ending}
+use Rattle.dwexpr.specs.inner.Outputs.{HasLine, WritesEnding, ending_of, state_ending}
 
 -- ---- words
 
-pub ends_without_memory : (left : Option (List ℕ)) (asked : Option Invocation) → IsSome asked → EndsInvocation asked left no_memory
+ends_without_memory : (left : Option (List ℕ)) (asked : Option Invocation) → IsSome asked → EndsInvocation asked left no_memory
 ends_without_memory left (Some asked) some = inr refl
 ends_without_memory left None some = cc some
+
+pub ends_refused : {X : Type 0} (view : X → Invocation) (left : Option (List ℕ)) (asked : Option Invocation) (refused : InputFault BadWords)
+    → ReadsInput view asked (Err refused) → EndsInvocation asked left (bad_invocation refused)
+ends_refused view left asked (fault.Bad words) e = rw e refl
+ends_refused view left asked fault.NoMemory some = ends_without_memory left asked some
+
+-- ---- the input
+
+pub ends_unread : {E : Type 0} (encoding : Encoding) (text : Text) (left : Option (List ℕ)) (refused : InputFault E)
+    → EvaluatesInput encoding text left (unread_input refused)
+ends_unread encoding text left (fault.Bad error) = inr (inl refl)
+ends_unread encoding text left fault.NoMemory = inr (inr refl)
 
 -- ---- an evaluation
 
@@ -145,6 +159,36 @@ has_line text number limit old new steps given (replayed.Misplaced index) few w 
     let inside = slice_get_within (steps_of text steps) index w.step w.is_next in
     omega (arith, length-map steps (step_of text), inside, few)
 has_line text number limit old new steps given _ few w = tt
+
+-- ---- statuses
+
+status_at_most : (x : State) (status : Status) → (state_ending x status).status ≤ 2
+status_at_most x (CompleteStatus value) = omega arith
+status_at_most x (FaultStatus error) = omega arith
+status_at_most x _ = omega arith
+
+pub ending_at_most : {R O : Type 0} (x : State) (ended : Replayed R O) → (ending_of x ended).status ≤ 2
+ending_at_most x replayed.Done = status_at_most x x.status
+ending_at_most x (replayed.Misplaced index) = omega arith
+ending_at_most x (replayed.NoRoom index answer) = omega arith
+
+pub unread_at_most : {E : Type 0} (refused : InputFault E) → (unread_input refused).status ≤ 2
+unread_at_most (fault.Bad error) = omega arith
+unread_at_most fault.NoMemory = omega arith
+
+pub bad_invocation_at_most : (refused : InputFault BadWords) → (bad_invocation refused).status ≤ 2
+bad_invocation_at_most (fault.Bad words) = omega arith
+bad_invocation_at_most fault.NoMemory = omega arith
+
+pub bad_steps_at_most : (refused : InputFault BadLine) → (bad_steps refused).status ≤ 2
+bad_steps_at_most (fault.Bad line) = omega arith
+bad_steps_at_most fault.NoMemory = omega arith
+
+-- so is one that is returned after an ending
+pub at_most : {E : Type 0} (old new : Option (List ℕ)) (ending : Ending) (result : Result ℕ E) → ending.status ≤ 2
+    → WritesEnding old new ending result → IfOk result (λ status. status ≤ 2)
+at_most old new ending (Ok status) fits w = rw w.1 fits
+at_most old new ending (Err error) fits w = tt
 
 -- ---- what lines say
 

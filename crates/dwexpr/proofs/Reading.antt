@@ -18,7 +18,8 @@ use Rattle.dwexpr.specs.StepLines.{numeral_in, below, within, number_in, integer
 use Rattle.hex.specs.Hex.{decode_of, is_hex_digit}
 use Rattle.hex.specs.declared.error.FromHexError.{FromHexError}
 use Rattle.hex.proofs.HexLemmas.{decode_of-digits, decode_of-ok}
-use Rattle.dwexpr.specs.Words.{bytes_in, invocation_in}
+use Rattle.std.specs.Prelude.{slice_get}
+use Rattle.dwexpr.specs.Words.{bytes_in, extra_in, invocation_in, named_extra_in}
 use Rattle.std.specs.Str.{IsUtf8, is_utf8}
 use Rattle.std.proofs.lemmas.Str.{IsUtf8-from_is_utf8}
 use Rattle.dwarf_meaning.specs.Steps.{Step}
@@ -231,3 +232,14 @@ pub no_lines : (most : ℕ) (left : List ℕ) → true ≡ (length left == 0) �
 no_lines zero left e = refl
 no_lines (suc most) [] e = refl
 no_lines (suc most) (byte ∷ left) e = absurd (omega (arith, eqb-true _ _ (sym e)))
+
+-- ---- the first word
+
+pub first_asks : {X : Type 0} (view : X → List ℕ) (words : List X) (first : X) → slice_get words 0 ≡ Some first
+    → extra_in (map view words) ≡ named_extra_in (view first)
+first_asks view [] first e = absurd (cc)
+first_asks view (word ∷ words) first e = let same : word ≡ first = cc in ap (λ w. named_extra_in (view w)) same
+
+pub nothing_asks : {X : Type 0} (view : X → List ℕ) (words : List X) → slice_get words 0 ≡ None → extra_in (map view words) ≡ None
+nothing_asks view [] e = refl
+nothing_asks view (word ∷ words) e = absurd (cc)

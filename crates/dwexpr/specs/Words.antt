@@ -10,6 +10,8 @@ use Rattle.dwarf_base.specs.declared.byte_order.RunTimeEndian.TheVariants.{Littl
 use Rattle.dwexpr.specs.declared.words.Command.{Command}
 use Rattle.dwexpr.specs.declared.words.Command.TheVariants.{Ops, Eval}
 use Rattle.dwexpr.specs.declared.words.DecodingContext.{DecodingContext}
+use Rattle.dwexpr.specs.declared.words.Extra.{Extra}
+use Rattle.dwexpr.specs.declared.words.Extra.TheVariants.{Help, Version, Trace}
 
 -- ---- HEX
 
@@ -73,3 +75,16 @@ abbrev pub invocation_in : List (List ℕ) → Option Invocation
 invocation_in (command ∷ size ∷ offsets ∷ version ∷ order ∷ hexadecimal ∷ []) =
     invocation_by (command_in command) (decoding_context_in size offsets version order) (bytes_in hexadecimal)
 invocation_in _ = None
+
+-- ---- what isn't a command
+
+-- what a first word asks for besides the commands
+abbrev pub named_extra_in : List ℕ → Option Extra
+named_extra_in word =
+    lookup (bytes_eq word) ((codes "-h", Help) ∷ (codes "--help", Help) ∷ (codes "-V", Version)
+    ∷ (codes "--version", Version) ∷ (codes "trace", Trace) ∷ [])
+
+-- the same of the first of these words
+abbrev pub extra_in : List (List ℕ) → Option Extra
+extra_in [] = None
+extra_in (word ∷ words) = named_extra_in word

@@ -68,10 +68,10 @@ impl Display for BadWords<'_> {
     fn fmt<W: fmt::Write>(&self, f: &mut Formatter<W>) -> fmt::Result {
         let (number, word, expected) = match *self {
             BadWords::Count(count) => {
-                let expected = "6, ops or eval and ADDR OFFSET VERSION ORDER HEX";
+                let expected = "6, eval, trace or ops and ADDR OFFSET VERSION ORDER HEX";
                 return write!(f, "{count} words: expected {expected}");
             }
-            BadWords::Command(word) => (1, word, "ops or eval"),
+            BadWords::Command(word) => (1, word, "eval, trace or ops"),
             BadWords::AddressSize(word) => (2, word, "the size of an address in bytes, 1 to 8"),
             BadWords::OffsetSize(word) => (3, word, "the size of an offset in bytes, 4 or 8"),
             BadWords::Version(word) => (4, word, "the version of DWARF, 2 to 5"),

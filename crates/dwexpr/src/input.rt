@@ -1,10 +1,12 @@
 //! The input, and its lines.
 
-ghost use Rattle.std.specs.Prelude.{◌≡◌, ◌==◌, ◌<◌, length};
+ghost use Rattle.std.specs.Prelude.{◌≡◌, ◌==◌, ◌<◌, IfOk, IfSome, length};
 ghost use Rattle.std.specs.List.{position};
 ghost use Rattle.std.specs.Str.Lines.{strip_carriage_return};
 ghost use Rattle.dwexpr.specs.StepLines as spec;
 
+use crate::hexadecimal::InputFault;
+use std::alloc::Allocator;
 use std::io;
 use std::io::Read;
 
@@ -22,6 +24,26 @@ impl<I: Read> Read for WatchedReader<I> {
         let read = self.reader.read(buf);
         self.failed = read.is_err();
         read
+    }
+}
+
+/// Reads the whole input. Both a failed read and a list that can't grow may report a lack of memory. The reader knows
+/// which it was.
+pub(crate) fn read_all<A: Allocator, I: Read + Drop>(
+    alloc: A,
+    reader: I,
+) -> Result<Vec<u8, A>, InputFault<io::Error>>
+    ensures { IfOk result (λ input. IfSome (I.remaining reader) (λ bytes. input.items ≡ bytes)) }
+{
+    let mut input = Vec::new(alloc);
+    let mut watched = WatchedReader {
+        reader,
+        failed: false,
+    };
+    match watched.read_to_end(&mut input) {
+        Ok(_) => Ok(input),
+        Err(error) if watched.failed => Err(InputFault::Bad(error)),
+        Err(_) => Err(InputFault::NoMemory),
     }
 }
 

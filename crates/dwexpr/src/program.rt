@@ -2,7 +2,7 @@
 
 ghost use Rattle.dwarf_eval.specs.Evaluation.{IsAddressSize};
 ghost use Rattle.std.specs.IoError.{error_kind};
-ghost use Rattle.std.specs.Prelude.{◌≡◌, ◌<◌, ◌-◌, ◌^◌, length, map, None, string_bytes};
+ghost use Rattle.std.specs.Prelude.{◌≡◌, ◌<◌, ◌≤◌, ◌-◌, ◌^◌, IfOk, length, map, None, string_bytes};
 ghost use Rattle.std.specs.Result.{result_unwrap_or};
 ghost use Rattle.dwarf_base.specs.EndianSlice.{slice_text};
 ghost use Rattle.dwarf_base.specs.ByteOrder.{is_big_of};
@@ -11,7 +11,8 @@ ghost use Rattle.dwarf_replay.specs.Replays.{replies_in, steps_of};
 ghost use Rattle.dwarf_meaning.specs.Steps.{empty_log};
 ghost use Rattle.dwarf_meaning.specs.Stores.{setup_of};
 ghost use Rattle.dwexpr.specs.Evaluates.{EvaluatesSteps, EvaluatesLines};
-ghost use Rattle.dwexpr.specs.inner.Readings.{bad_steps};
+ghost use Rattle.dwexpr.specs.inner.Readings.{bad_invocation, bad_steps, unread_input};
+ghost use Rattle.dwexpr.specs.Words.{extra_in};
 ghost use Rattle.dwexpr.specs.Lines.{piece_lines, reply_lines};
 ghost use Rattle.dwexpr.specs.Program.{EndsFor, EvaluatesInput, Exits};
 ghost use Rattle.dwexpr.specs.inner.Outputs.{
@@ -26,12 +27,14 @@ ghost use Rattle.dwexpr.specs.Endings.{Ending, complete_ending};
 
 use crate::endings::{DONE, FAILED, bad_step, bad_words, misplaced_step, no_memory};
 use crate::explaining::Output;
+use crate::help::{print_help, print_version};
 use crate::hexadecimal::InputFault;
-use crate::input::{WatchedReader, line_at};
+use crate::input::{line_at, read_all};
 use crate::lines::{print_piece, print_reply, print_value_line};
 use crate::listing::print_operations;
 use crate::steps::{BadLine, BadStep, steps_in};
-use crate::words::{Command, DecodingContext, invocation_of};
+use crate::tracing::{Frame, Halt, Layout, print_done, print_last_reply};
+use crate::words::{BadWords, Command, DecodingContext, Extra, extra_of, invocation_of, traced_of};
 use crate::writing::Bytes;
 use dwarf_base::EndianSlice;
 use dwarf_eval::eval::{Evaluation, Status};
@@ -187,6 +190,20 @@ fn run_lines<'a, A: Allocator + Copy + 'a, W: Output>(
     }
 }
 
+/// Explains a failed read, or prints that memory for the input was refused.
+fn refuse_input<W: Output>(output: &mut W, fault: InputFault<io::Error>) -> io::Result<u8>
+    ensures { WritesEnding (W.contents output.old) (W.contents output.new) (unread_input fault)
+        result }
+{
+    match fault {
+        InputFault::Bad(error) => {
+            output.complain(format_args!("standard input can't be read: {error}"));
+            Ok(FAILED)
+        }
+        InputFault::NoMemory => no_memory(output),
+    }
+}
+
 /// Reads the input, and evaluates the bytes by its steps.
 fn run_eval<A: Allocator + Copy, I: Read + Drop, W: Output>(
     alloc: A,
@@ -201,19 +218,24 @@ fn run_eval<A: Allocator + Copy, I: Read + Drop, W: Output>(
         (record { bytes = bytes.now; is_big = is_big_of context.order }) (I.remaining reader) ending
         × WritesEnding (W.contents output.old) (W.contents output.new) ending result }
 {
-    let mut lines = Vec::new(alloc);
-    // Both a failed read and a list that can't grow may report a lack of memory. The reader knows which it was.
-    let mut input = WatchedReader {
-        reader,
-        failed: false,
-    };
-    match input.read_to_end(&mut lines) {
-        Ok(_) => run_lines(alloc, bytes, context, lines.as_slice(), output),
-        Err(error) if input.failed => {
-            output.complain(format_args!("standard input can't be read: {error}"));
-            Ok(FAILED)
+    match read_all(alloc, reader) {
+        Ok(lines) => run_lines(alloc, bytes, context, lines.as_slice(), output),
+        Err(fault) => refuse_input(output, fault),
+    }
+}
+
+/// Prints that the words are wrong, and explains which one, or prints that memory was refused.
+fn refuse_invocation<W: Output>(output: &mut W, fault: InputFault<BadWords<'_>>) -> io::Result<u8>
+    ensures { WritesEnding (W.contents output.old) (W.contents output.new) (bad_invocation fault.entry)
+        result }
+{
+    match fault {
+        InputFault::Bad(words) => {
+            let printed = bad_words(output);
+            output.complain(words);
+            printed
         }
-        Err(_) => no_memory(output),
+        InputFault::NoMemory => no_memory(output),
     }
 }
 
@@ -235,12 +257,111 @@ fn run_words<A: Allocator + Copy, I: Read + Drop, W: Output>(
                 run_eval(alloc, asked.bytes.as_slice(), asked.context, input, output)
             }
         },
-        Err(InputFault::Bad(words)) => {
-            let printed = bad_words(output);
-            output.complain(words);
-            printed
-        }
-        Err(InputFault::NoMemory) => no_memory(output),
+        Err(fault) => refuse_invocation(output, fault),
+    }
+}
+
+/// Evaluates the bytes by the steps, which `lines` spell, and prints how that ends: the last reply, and then the pieces
+/// and the value.
+fn print_verdict<'a, A: Allocator + Copy, W: Output>(
+    alloc: A,
+    bytes: &'a [u8],
+    context: DecodingContext,
+    steps: &[Step<Bytes<'a>>],
+    lines: &[u8],
+    layout: Layout,
+    frame: Frame<'a>,
+    output: &mut W,
+) -> io::Result<u8>
+    requires address_size { IsAddressSize context.encoding.address_size }
+    requires few { length steps.now < 2 ^ 63 }
+    ensures { IfOk result (λ status. status ≤ 2) }
+{
+    let text = EndianSlice::new(bytes, context.order);
+    let mut evaluation: Evaluation<_, StoreOnHeap<A>> = Evaluation::new(
+        alloc,
+        text,
+        context.encoding,
+    );
+    let mut answers = Vec::new(alloc);
+    let replayed = replay(&mut evaluation, steps, &mut answers);
+    if let Some(reply) = answers.last() {
+        print_last_reply(output, layout, frame, *reply)?;
+    }
+    print_end(output, &evaluation, replayed, lines)
+}
+
+/// Traces the evaluation of the bytes by the steps, which `lines` spell.
+fn trace<'a, A: Allocator + Copy, W: Output>(
+    alloc: A,
+    bytes: &'a [u8],
+    context: DecodingContext,
+    steps: &[Step<Bytes<'a>>],
+    lines: &[u8],
+    layout: Layout,
+    output: &mut W,
+) -> io::Result<u8>
+    requires address_size { IsAddressSize context.encoding.address_size }
+    requires few { length steps.now < 2 ^ 63 }
+    ensures { IfOk result (λ status. status ≤ 2) }
+{
+    match print_done(alloc, bytes, context, steps, layout, output) {
+        Ok(frame) => print_verdict(alloc, bytes, context, steps, lines, layout, frame, output),
+        Err(Halt::NoMemory) => no_memory(output),
+        Err(Halt::Unwritten(error)) => Err(error),
+    }
+}
+
+/// Reads the lines as steps, and traces the evaluation of the bytes by them.
+fn trace_lines<'a, A: Allocator + Copy + 'a, W: Output>(
+    alloc: A,
+    bytes: &'a [u8],
+    context: DecodingContext,
+    lines: &[u8],
+    layout: Layout,
+    output: &mut W,
+) -> io::Result<u8>
+    requires { IsAddressSize context.encoding.address_size }
+    ensures { IfOk result (λ status. status ≤ 2) }
+{
+    match steps_in(alloc, context.order, lines) {
+        Ok(steps) => trace(
+            alloc,
+            bytes,
+            context,
+            steps.as_slice(),
+            lines,
+            layout,
+            output,
+        ),
+        Err(fault) => refuse_lines(output, fault),
+    }
+}
+
+/// Reads the input, and traces the evaluation of the bytes by its steps.
+fn run_trace<A: Allocator + Copy, I: Read + Drop, W: Output>(
+    alloc: A,
+    words: &[String<A>],
+    reader: I,
+    layout: Layout,
+    output: &mut W,
+) -> io::Result<u8>
+    ensures { IfOk result (λ status. status ≤ 2) }
+{
+    let asked = match traced_of(alloc, words) {
+        Ok(asked) => asked,
+        Err(fault) => return refuse_invocation(output, fault),
+    };
+    match read_all(alloc, reader) {
+        Ok(lines) => trace_lines(
+            alloc,
+            asked.bytes.as_slice(),
+            asked.context,
+            lines.as_slice(),
+            layout,
+            output,
+        ),
+        Err(fault) => refuse_input(output, fault),
     }
 }
 
@@ -276,7 +397,7 @@ pub(crate) fn run_without_words<W: Output>(error: io::Error, output: &mut W) -> 
     status_of(printed, output)
 }
 
-/// Runs the program on the words after its name, and returns its exit status.
+/// Runs `ops` or `eval` on the words after the program's name, and returns the exit status. Other words are bad.
 ///
 /// `ops ADDR OFFSET VERSION ORDER HEX` lists the operations in the bytes HEX: the place, the bytes and the name of
 /// each, or the place and the fault if there is one. `eval ADDR OFFSET VERSION ORDER HEX` evaluates the bytes HEX by
@@ -298,5 +419,32 @@ pub fn run<A: Allocator + Copy, I: Read + Drop, W: Output>(
         × Exits (W.contents output.old) (W.contents output.new) ending result }
 {
     let printed = run_words(alloc, words, input, output);
+    status_of(printed, output)
+}
+
+/// Runs the program on the words after its name, and returns its exit status.
+///
+/// `--help` and `--version` print how the program is used, and its version. `trace` takes the words and the steps of
+/// `eval`. It prints each operation that is done, and the stack after it, and ends with the last lines of `eval` and
+/// its status. What it prints isn't proved. All other words are for [`run`].
+pub fn run_program<A: Allocator + Copy, I: Read + Drop, W: Output>(
+    alloc: A,
+    words: &[String<A>],
+    input: I,
+    layout: Layout,
+    output: &mut W,
+) -> u8
+    ensures { extra_in (map string_bytes words.now) ≡ None → (ending : Ending)
+        × EndsFor (map string_bytes words.now) (I.remaining input) ending
+        × Exits (W.contents output.old) (W.contents output.new) ending result }
+{
+    let Some(extra) = extra_of(words) else {
+        return run(alloc, words, input, output);
+    };
+    let printed = match extra {
+        Extra::Help => print_help(output),
+        Extra::Version => print_version(output),
+        Extra::Trace => run_trace(alloc, words, input, layout, output),
+    };
     status_of(printed, output)
 }

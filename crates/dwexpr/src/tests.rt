@@ -1,5 +1,6 @@
 //! Tests of `run` with std's reader and writer, and with readers and writers that fail after every number of bytes.
-use crate::program::run;
+use crate::program::{run, run_program};
+use crate::tracing::Layout;
 use std::alloc::{AllocError, Global};
 use std::io;
 use std::io::{ErrorKind, Read, Write};
@@ -179,6 +180,47 @@ fn failing_readers_and_writers(rt: HostRuntime) -> Result<(), AllocError> {
                 expect(&rt, rt.alloc(), row.words, (input, usize::MAX), (&[], 1))?;
             }
         }
+    }
+    Ok(())
+}
+
+/// A trace, of which nothing else says what it prints.
+static TRACED: Row = Row {
+    words: "trace 4 4 4 le 9805009c22",
+    input: Some("evaluate\nlocation 33\ncfa 1\n"),
+    output: "0\t980500\tDW_OP_call2 5\t-\n\
+        2:0\t33\tDW_OP_lit3\tgeneric:0x3\n\
+        3\t9c\tDW_OP_call_frame_cfa\tgeneric:0x3 generic:0x1\n\
+        4\t22\tDW_OP_plus\tgeneric:0x4\n\
+        complete\npiece none none address 0x4\nvalue generic:0x4\n",
+    status: 0,
+};
+
+#[test]
+fn trace_to_failing_writers(rt: HostRuntime) -> Result<(), AllocError> {
+    let printed = TRACED.output.as_bytes();
+    let words = words_in(rt.alloc(), TRACED.words)?;
+    for room in 0..=printed.len() {
+        let mut output = Sink {
+            taken: Vec::new(rt.alloc()),
+            room,
+        };
+        let ended = run_program(
+            rt.alloc(),
+            words.as_slice(),
+            TRACED.input.unwrap_or("").as_bytes(),
+            Layout::Tabs,
+            &mut &mut output,
+        );
+        let status = if room < printed.len() {
+            1
+        } else {
+            TRACED.status
+        };
+        assert!(rt;
+            output.taken.as_slice() == &printed[..room] && ended == status,
+            "{room}"
+        );
     }
     Ok(())
 }

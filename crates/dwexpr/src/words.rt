@@ -3,7 +3,7 @@
 ghost use Rattle.dwarf_eval.specs.Evaluation.{IsAddressSize};
 ghost use Rattle.std.specs.Prelude.{◌≡◌, ◌<◌, ◌≤◌, IfErr, IfOk, None, map, string_bytes};
 ghost use Rattle.std.specs.Result.{result_ok};
-ghost use Rattle.dwexpr.specs.Words.{address_size_in, command_in, format_in, invocation_in, order_in, decoding_context_in, version_in};
+ghost use Rattle.dwexpr.specs.Words.{address_size_in, command_in, extra_in, named_extra_in, format_in, invocation_in, order_in, decoding_context_in, version_in};
 ghost use Rattle.dwexpr.specs.inner.Readings.{ReadsInput, asked_by, texts_of};
 
 use crate::hexadecimal::{InputFault, bytes_or};
@@ -75,6 +75,39 @@ fn command_of(word: &str) -> Result<Command, BadWords<'_>>
         "ops" => Ok(Command::Ops),
         "eval" => Ok(Command::Eval),
         _ => Err(BadWords::Command(word)),
+    }
+}
+
+/// What the program does besides its commands.
+#[derive(Clone, Copy, Debug, PartialEq, Eq)]
+pub(crate) enum Extra {
+    /// Print how it is used.
+    Help,
+    /// Print its version.
+    Version,
+    /// Trace an evaluation.
+    Trace,
+}
+
+/// What a first word asks for besides the commands.
+fn named_extra(word: &str) -> Option<Extra>
+    ensures { result ≡ named_extra_in word.now }
+{
+    match word {
+        "-h" | "--help" => Some(Extra::Help),
+        "-V" | "--version" => Some(Extra::Version),
+        "trace" => Some(Extra::Trace),
+        _ => None,
+    }
+}
+
+/// What the first word asks for besides the commands.
+pub(crate) fn extra_of<A: Allocator>(words: &[String<A>]) -> Option<Extra>
+    ensures { result ≡ extra_in (map string_bytes words.now) }
+{
+    match words.first() {
+        Some(word) => named_extra(word.as_str()),
+        None => None,
     }
 }
 
@@ -185,4 +218,24 @@ pub(crate) fn invocation_of<A: Allocator>(
         context,
         bytes,
     })
+}
+
+/// An expression, and how its bytes are read.
+#[derive(Drop)]
+pub(crate) struct Expression<A: Allocator> {
+    pub(crate) context: DecodingContext,
+    pub(crate) bytes: Vec<u8, A>,
+}
+
+/// The expression that the words after `trace` spell.
+pub(crate) fn traced_of<A: Allocator>(
+    alloc: A,
+    words: &[String<A>],
+) -> Result<Expression<A>, InputFault<BadWords<'_>>>
+    ensures { IfOk result (λ asked. IsAddressSize asked.context.encoding.address_size) }
+{
+    let words = six_words(words)?;
+    let context = decoding_context_of(words)?;
+    let bytes = bytes_or(alloc, words.bytes, BadWords::Bytes(words.bytes))?;
+    Ok(Expression { context, bytes })
 }

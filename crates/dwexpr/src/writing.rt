@@ -36,7 +36,7 @@ fn put<W: Write>(output: &mut W, bytes: &[u8]) -> io::Result<()>
     Err(io::Error::from(ErrorKind::Interrupted))
 }
 
-fn put_text<W: Write>(output: &mut W, text: &str) -> io::Result<()>
+pub(crate) fn put_text<W: Write>(output: &mut W, text: &str) -> io::Result<()>
     ensures { Prints (W.contents output.old) (W.contents output.new) text.now result }
 {
     put(output, text.as_bytes())
@@ -75,7 +75,7 @@ fn place_digits(buffer: &mut [u8; 64], base: u64, number: u64) -> usize
     start
 }
 
-fn put_digits<W: Write>(output: &mut W, base: u64, number: u64) -> io::Result<()>
+pub(crate) fn put_digits<W: Write>(output: &mut W, base: u64, number: u64) -> io::Result<()>
     requires least { 2 ≤ base }
     requires most { base ≤ 16 }
     ensures { Prints (W.contents output.old) (W.contents output.new) (digits base false number)
@@ -87,7 +87,12 @@ fn put_digits<W: Write>(output: &mut W, base: u64, number: u64) -> io::Result<()
 }
 
 /// Writes the prefix, and the number in lower case digits of this base.
-fn put_number<W: Write>(output: &mut W, prefix: &str, base: u64, number: u64) -> io::Result<()>
+pub(crate) fn put_number<W: Write>(
+    output: &mut W,
+    prefix: &str,
+    base: u64,
+    number: u64,
+) -> io::Result<()>
     requires least { 2 ≤ base }
     requires most { base ≤ 16 }
     ensures { Prints (W.contents output.old) (W.contents output.new)
@@ -98,7 +103,7 @@ fn put_number<W: Write>(output: &mut W, prefix: &str, base: u64, number: u64) ->
 }
 
 /// Writes the prefix, a minus sign if the number is negative, and decimal digits.
-fn put_integer<W: Write>(output: &mut W, prefix: &str, number: i64) -> io::Result<()>
+pub(crate) fn put_integer<W: Write>(output: &mut W, prefix: &str, number: i64) -> io::Result<()>
     ensures { Prints (W.contents output.old) (W.contents output.new)
         (prefix.now ++ signed_decimal number) result }
 {
@@ -110,7 +115,7 @@ fn put_integer<W: Write>(output: &mut W, prefix: &str, number: i64) -> io::Resul
     }
 }
 
-fn put_value<W: Write>(output: &mut W, value: Value) -> io::Result<()>
+pub(crate) fn put_value<W: Write>(output: &mut W, value: Value) -> io::Result<()>
     ensures { Prints (W.contents output.old) (W.contents output.new) (value_word value) result }
 {
     match value {
@@ -127,7 +132,7 @@ fn put_value<W: Write>(output: &mut W, value: Value) -> io::Result<()>
 }
 
 /// Writes two lower case digits per byte, or `-` for no bytes.
-fn put_bytes<W: Write>(output: &mut W, bytes: Bytes<'_>) -> io::Result<()>
+pub(crate) fn put_bytes<W: Write>(output: &mut W, bytes: Bytes<'_>) -> io::Result<()>
     ensures { Prints (W.contents output.old) (W.contents output.new)
         (bytes_word (slice_bytes bytes.entry)) result }
 {
@@ -158,7 +163,7 @@ pub(crate) enum Word<'a> {
     Bytes(Bytes<'a>),
 }
 
-fn put_word<W: Write>(output: &mut W, word: Word<'_>) -> io::Result<()>
+pub(crate) fn put_word<W: Write>(output: &mut W, word: Word<'_>) -> io::Result<()>
     ensures { Prints (W.contents output.old) (W.contents output.new) (word_text word.entry) result }
 {
     match word {

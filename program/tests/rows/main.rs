@@ -10,7 +10,7 @@ mod lists;
 
 use cases::{Case, cases, rows, texts_of, vectors, words_of};
 use dwexpr::{EndianSlice, Error, Evaluation, Reader, ReaderOffset, ReaderOffsetId, Result, RunTimeEndian};
-use dwexpr_cli::parts::{Command, Global, run};
+use dwexpr_cli::parts::{Command, Global, Layout, run_program};
 use std::collections::VecDeque;
 use std::marker::PhantomData;
 use std::rc::Rc;
@@ -111,7 +111,7 @@ fn the_program_prints_what_the_rows_say() {
         let Some((words, input, wanted)) = texts_of(&row) else { continue };
         let mut output = Vec::new();
         let words = words_of(words.iter().map(String::as_str));
-        let status = run(Global, &words, input.as_bytes(), &mut &mut output);
+        let status = run_program(Global, &words, input.as_bytes(), Layout::Tabs, &mut &mut output);
         let differs = output != wanted.as_bytes() || u64::from(status) != row.number("status");
         let said = String::from_utf8_lossy(&output);
         assert_eq!(differs, row.get("wrong").is_some(), "{path}: {row:?}: {said}, status {status}");

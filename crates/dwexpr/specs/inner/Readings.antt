@@ -1,11 +1,12 @@
 -- What is read from the program's words, and from the lines of its input.
 use Rattle.std.specs.Prelude.{ℕ, ◌≡◌, IsSome, Vec, map, List, [], ◌∷◌, Option, Some, None, Result, Ok, Err}
 use Rattle.dwarf_meaning.specs.Steps.{Step}
-use Rattle.dwexpr.specs.Endings.{Ending, bad_step, no_memory}
+use Rattle.dwexpr.specs.Endings.{Ending, bad_step, bad_words, no_input, no_memory}
 use Rattle.dwexpr.specs.Words as spec
 use Rattle.dwexpr.specs.declared.hexadecimal.InputFault.{InputFault}
 use Rattle.dwexpr.specs.declared.hexadecimal.InputFault.TheVariants as input
 use Rattle.dwexpr.specs.declared.steps.BadLine.{BadLine}
+use Rattle.dwexpr.specs.declared.words.BadWords.{BadWords}
 use Rattle.dwexpr.specs.declared.words.Invocation.{Invocation}
 use Rattle.dwexpr.specs.declared.words.Words.{Words}
 
@@ -27,7 +28,17 @@ texts_of words =
 abbrev pub asked_by : {A : Type 0} → Invocation A → spec.Invocation
 asked_by x = record { command = x.command; context = x.context; bytes = x.bytes.items }
 
+-- the ending that is printed if words ask for nothing
+abbrev pub bad_invocation : InputFault BadWords → Ending
+bad_invocation (input.Bad words) = bad_words
+bad_invocation input.NoMemory = no_memory
+
 -- ---- lines
+
+-- the ending that is printed if the input couldn't be read
+abbrev pub unread_input : {E : Type 0} → InputFault E → Ending
+unread_input (input.Bad error) = no_input
+unread_input input.NoMemory = no_memory
 
 -- the result is the steps that the lines spell, or the first line that spells none; memory for them may be refused
 abbrev pub ReadsSteps : {A B : Type 0} → (A → Step) → (said : Result (List Step) ℕ)

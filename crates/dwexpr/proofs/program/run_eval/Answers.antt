@@ -1,10 +1,6 @@
-use Rattle.std.proofs.Common.{refl, inl, inr}
-use Rattle.dwexpr.specs.Endings.{no_memory, no_input}
-use Rattle.std.proofs.KnownBytes.{Appends-nil}
+use Rattle.dwexpr.specs.inner.Readings.{unread_input}
+use Rattle.dwexpr.proofs.Ending.{ends_unread}
 use Rattle.dwexpr.proofs.program.run_eval.Goals as goal
 
 pub returns-in-Err : goal.returns-in-Err
-returns-in-Err g c = rw c.complain.ensures (no_input, inr (inl refl), (Appends-nil _, refl))
-
-pub returns : goal.returns
-returns g c = (no_memory, inr (inr refl), c.no_memory.ensures)
+returns-in-Err g c = (unread_input c.in-Err.fault, ends_unread _ _ _ c.in-Err.fault, c.refuse_input.ensures)

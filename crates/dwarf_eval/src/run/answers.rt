@@ -1,7 +1,7 @@
 ghost use Rattle.dwarf_meaning.specs.declared.kinds.WaitingKind.{WaitingKind};
 ghost use Rattle.dwarf_meaning.specs.Requests as requests;
 ghost use Rattle.dwarf_eval.specs.inner.Answers.{IsWaiting, answer_of};
-ghost use Rattle.dwarf_eval.specs.inner.StateChanges.{TakesAnswer, AnswersOpenRequest, PushesAsAnswer};
+ghost use Rattle.dwarf_eval.specs.inner.StateChanges.{AnswersOpenRequest, PushesAsAnswer};
 
 use crate::run::machine::Machine;
 use crate::run::states::{Given, LastOperation, OnAnswer};
@@ -76,8 +76,7 @@ impl<R: Reader + Copy, S: EvaluationStorage<R>> Machine<R, S> {
     #[inline(never)]
     fn take_location(&mut self, callee: R)
         requires { IsWaiting self.old.status }
-        ensures { (on_answer : requests.OnAnswer) →
-            TakesAnswer on_answer (requests.LocationAnswer (R.text callee)) self.old self.new }
+        ensures { AnswersOpenRequest (requests.LocationAnswer (R.text callee)) self.old self.new }
     {
         self.set_running();
         if callee.is_empty() {

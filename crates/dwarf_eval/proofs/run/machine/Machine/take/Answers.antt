@@ -9,6 +9,3 @@ pub returns-in-FrameBase : goal.returns-in-FrameBase
 returns-in-FrameBase g c =
     let h = c.take_number.ensures in
     search (rules, h kind.FrameBase, h kind.Tls, h kind.CallFrameCfa, h kind.ParameterRef, h kind.RelocatedAddress, h kind.IndexedAddress)
-
-pub returns-in-AtLocation : goal.returns-in-AtLocation
-returns-in-AtLocation g c = λ request on_answer open_now. search (rules, c.take_location.ensures on_answer)

@@ -17,7 +17,7 @@ some_bytes (byte ∷ bytes) h = (byte, bytes, refl)
 
 pub returns-then-is_empty : goal.returns-then-is_empty
 unfolding use_of
-returns-then-is_empty g c = λ on_answer.
+returns-then-is_empty g c = λ request on_answer open_now.
     let x = c.args.self.now in
     let text = g.R.Reader.text c.args.callee in
     empty_takes x c.requires on_answer (LocationAnswer text) text c.mark.new.self refl
@@ -25,7 +25,7 @@ returns-then-is_empty g c = λ on_answer.
 
 pub returns : goal.returns
 unfolding use_of
-returns g c = λ on_answer.
+returns g c = λ request on_answer open_now.
     let x = c.args.self.now in
     let text = g.R.Reader.text c.args.callee in
     let some = some_bytes text.bytes (sym c.is_empty.ensures ∙ c.if-is_empty.false) in

@@ -180,12 +180,23 @@ fn are_fronts_cut_off(bytes: Bytes, length: usize, encoding: Encoding) -> bool {
     })
 }
 
-// Whether the iterator gives at most as many items as there are bytes, over each front.
-fn does_iterator_end(bytes: Bytes, encoding: Encoding) -> bool {
+// Whether the iterator gives at most as many items as there are bytes.
+fn does_iterator_end(front: Bytes, encoding: Encoding) -> bool {
+    let mut operations = Expression(front).operations(encoding);
+    for _ in 0..front.len() {
+        if let Ok(None) = operations.next() {
+            return true;
+        }
+    }
+    matches!(operations.next(), Ok(None))
+}
+
+// Whether it does so over each front.
+fn do_iterators_end(bytes: Bytes, encoding: Encoding) -> bool {
     (0..=bytes.len()).all(|end| {
         let mut rest = bytes;
         match rest.split(end) {
-            Ok(front) => Expression(front).operations(encoding).count() <= end,
+            Ok(front) => does_iterator_end(front, encoding),
             Err(_) => false,
         }
     })
@@ -216,7 +227,7 @@ pub(crate) fn is_right(alloc: Global, vector: Vector<'_>) -> Option<bool> {
         bytes.extend_from_slice(&[0x96, 0x96]).ok()?;
     }
     let text = EndianSlice::new(bytes.leak(), order);
-    if !does_iterator_end(text, encoding) {
+    if !do_iterators_end(text, encoding) {
         return Some(false);
     }
     let mut rest = text;

@@ -2,6 +2,7 @@
 
 mod allocators;
 mod bounds;
+mod cases;
 mod equality;
 mod evaluation;
 mod lists;
@@ -11,4 +12,5 @@ mod reading;
 mod reads;
 mod refusals;
 mod replays;
+mod rows;
 mod values;

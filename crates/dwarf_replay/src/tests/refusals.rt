@@ -5,6 +5,7 @@ ghost use Rattle.std.specs.Prelude.{◌≡◌, ◌<◌, [], None};
 ghost use Rattle.dwarf_meaning.specs.Rest.{Start};
 
 use crate::tests::allocators::{NEVER, RefusesGrowth};
+use crate::tests::cases::{LATER, read};
 use crate::tests::evaluation::{Bytes, COMPLETE, FULL, SMALL, little, replayed, replayed_on_heap};
 use crate::tests::lists::{ListsOfTests, RefusesOne};
 use crate::{Answer, Replayed, Step};
@@ -13,7 +14,6 @@ use dwarf_eval::eval::{Evaluation, Status};
 use dwarf_eval::op::{DieReference, EvaluationResult, Expression};
 use dwarf_eval::store::{ArrayLike, EvaluationStorage};
 use dwarf_value::Value::{self, Generic};
-use dwarf_value::ValueType;
 use std::alloc::{AllocError, Allocator, Global};
 use std::process::Abort;
 
@@ -64,23 +64,10 @@ const WANTS_CALLEE: Answer<Bytes<'static>> = Answer(Ok(EvaluationResult::Require
 
 // Adds all calls that are allowed after a fault.
 fn push_later(steps: &mut Vec<Step<Bytes<'static>>>) -> Result<(), AllocError> {
-    steps.extend_from_slice(&[
-        Step::Evaluate,
-        Step::Evaluate,
-        Step::Memory(Generic(0)),
-        Step::Register(Generic(0)),
-        Step::WasmValue(Generic(0)),
-        Step::EntryValue(Generic(0)),
-        Step::FrameBase(0),
-        Step::Tls(0),
-        Step::CallFrameCfa(0),
-        Step::ParameterRef(0),
-        Step::RelocatedAddress(0),
-        Step::IndexedAddress(0),
-        Step::AtLocation(little(&[])),
-        Step::BaseType(ValueType::U8),
-        Step::Evaluate,
-    ])
+    for step in LATER {
+        steps.push(read(*step))?;
+    }
+    Ok(())
 }
 
 // Nested calls of `TURN`. Every second frame address has bits above the address size.

@@ -2,7 +2,7 @@
 
 use crate::writing::{Bytes, Word, put_bytes, put_integer, put_number, put_text, put_word};
 use dwarf_base::constants::*;
-use dwarf_base::{DwOp, EndianSlice, ReaderOffset};
+use dwarf_base::{DwOp, EndianSlice, ReaderOffset, Register};
 use dwarf_eval::op::{DieReference, Operation};
 use std::io;
 use std::io::Write;
@@ -61,9 +61,9 @@ fn put_name<W: Write>(output: &mut W, opcode: u8) -> io::Result<()> {
     }
 }
 
-/// Writes operands, a blank before each.
-fn put_operands<W: Write>(output: &mut W, operands: &[Word<'_>]) -> io::Result<()> {
-    for operand in operands {
+/// Writes those operands that are there, a blank before each.
+fn put_operands<W: Write>(output: &mut W, operands: [Option<Word<'_>>; 2]) -> io::Result<()> {
+    for operand in operands.iter().flatten() {
         put_text(output, " ")?;
         put_word(output, *operand)?;
     }
@@ -95,102 +95,102 @@ fn entry(reference: DieReference<usize>) -> usize {
     }
 }
 
-/// Writes an operation as the standard names it, and its operands as they are encoded. An operand that the opcode
+fn number(number: u64) -> Option<Word<'static>> {
+    Some(Word::Number(number))
+}
+
+fn small(operand: u8) -> Option<Word<'static>> {
+    number(u64::from(operand))
+}
+
+fn register(register: Register) -> Option<Word<'static>> {
+    number(u64::from(register.0))
+}
+
+fn offset(offset: usize) -> Option<Word<'static>> {
+    number(offset.into_u64())
+}
+
+/// The operands of an operation of WebAssembly.
+fn wasm_operands(space: &'static str, index: u32) -> [Option<Word<'static>>; 2] {
+    [Some(Word::Name(space)), number(u64::from(index))]
+}
+
+/// The numbers and names among the operands, which come before a distance or a block. An operand that the opcode
 /// implies, as the register of `DW_OP_reg0`, isn't one.
-pub(crate) fn put_operation<W: Write>(
-    output: &mut W,
-    opcode: u8,
-    operation: Operation<Bytes<'_>>,
-) -> io::Result<()> {
-    put_name(output, opcode)?;
-    let number = |number: usize| Word::Number(number.into_u64());
+fn operands_of(opcode: u8, operation: Operation<Bytes<'_>>) -> [Option<Word<'static>>; 2] {
     match operation {
         Operation::Deref {
             size,
             base_type,
             ..
         } => match DwOp(opcode) {
-            DW_OP_deref | DW_OP_xderef => Ok(()),
-            DW_OP_deref_size | DW_OP_xderef_size => {
-                put_operands(output, &[Word::Number(u64::from(size))])
-            }
-            _ => put_operands(
-                output,
-                &[Word::Number(u64::from(size)), number(base_type.0)],
-            ),
+            DW_OP_deref | DW_OP_xderef => [None, None],
+            DW_OP_deref_size | DW_OP_xderef_size => [small(size), None],
+            _ => [small(size), offset(base_type.0)],
         },
-        Operation::Pick { index } if DwOp(opcode) == DW_OP_pick => {
-            put_operands(output, &[Word::Number(u64::from(index))])
-        }
-        Operation::PlusConstant { value } => put_operands(output, &[Word::Number(value)]),
+        Operation::Pick { index } if DwOp(opcode) == DW_OP_pick => [small(index), None],
+        Operation::PlusConstant { value } => [number(value), None],
+        Operation::UnsignedConstant { value } if opcode < LIT0 => [number(value), None],
+        Operation::SignedConstant { value } => [Some(Word::Integer(value)), None],
+        Operation::Register { register: it } if DwOp(opcode) == DW_OP_regx => [register(it), None],
+        Operation::RegisterOffset {
+            register: it,
+            base_type,
+            ..
+        } => match opcode {
+            BREG0..=BREG31 => [None, None],
+            BREGX => [register(it), None],
+            _ => [register(it), offset(base_type.0)],
+        },
+        Operation::Call { offset: reference } => [offset(entry(reference)), None],
+        Operation::Piece {
+            size_in_bits,
+            bit_offset: Some(start),
+        } => [number(size_in_bits), number(start)],
+        Operation::Piece { size_in_bits, .. } => [number(size_in_bits / 8), None],
+        Operation::ImplicitPointer { value, .. } => [offset(value.0), None],
+        Operation::ParameterRef { offset: it } => [offset(it.0), None],
+        Operation::Address { address } => [Some(Word::Hexadecimal(address)), None],
+        Operation::AddressIndex { index } | Operation::ConstantIndex { index } => [
+            offset(index.0),
+            None,
+        ],
+        Operation::TypedLiteral { base_type, .. }
+        | Operation::Convert { base_type }
+        | Operation::Reinterpret { base_type } => [offset(base_type.0), None],
+        Operation::WasmLocal { index } => wasm_operands("local", index),
+        Operation::WasmGlobal { index } => wasm_operands("global", index),
+        Operation::WasmStack { index } => wasm_operands("stack", index),
+        Operation::VariableValue { offset: it } => [offset(it.0), None],
+        _ => [None, None],
+    }
+}
+
+/// Writes an operation as the standard names it, and its operands as they are encoded.
+pub(crate) fn put_operation<W: Write>(
+    output: &mut W,
+    opcode: u8,
+    operation: Operation<Bytes<'_>>,
+) -> io::Result<()> {
+    put_name(output, opcode)?;
+    put_operands(output, operands_of(opcode, operation))?;
+    match operation {
         Operation::Bra { target } | Operation::Skip { target } => {
             put_distance(output, i64::from(target))
         }
-        Operation::UnsignedConstant { value } if opcode < LIT0 => {
-            put_operands(output, &[Word::Number(value)])
-        }
-        Operation::SignedConstant { value } => put_operands(output, &[Word::Integer(value)]),
-        Operation::Register { register } if DwOp(opcode) == DW_OP_regx => {
-            put_operands(output, &[Word::Number(u64::from(register.0))])
-        }
+        Operation::FrameOffset { offset: distance }
+        | Operation::ImplicitPointer {
+            byte_offset: distance,
+            ..
+        } => put_distance(output, distance),
         Operation::RegisterOffset {
-            register,
-            offset,
-            base_type,
-        } => match opcode {
-            BREG0..=BREG31 => put_distance(output, offset),
-            BREGX => {
-                put_operands(output, &[Word::Number(u64::from(register.0))])?;
-                put_distance(output, offset)
-            }
-            _ => put_operands(
-                output,
-                &[Word::Number(u64::from(register.0)), number(base_type.0)],
-            ),
-        },
-        Operation::FrameOffset { offset } => put_distance(output, offset),
-        Operation::Call { offset } => put_operands(output, &[number(entry(offset))]),
-        Operation::Piece {
-            size_in_bits,
-            bit_offset,
-        } => match bit_offset {
-            Some(offset) => put_operands(
-                output,
-                &[Word::Number(size_in_bits), Word::Number(offset)],
-            ),
-            None => put_operands(output, &[Word::Number(size_in_bits / 8)]),
-        },
-        Operation::ImplicitValue { bytes } => put_block(output, bytes),
-        Operation::ImplicitPointer { value, byte_offset } => {
-            put_operands(output, &[number(value.0)])?;
-            put_distance(output, byte_offset)
-        }
-        Operation::EntryValue { expression } => put_block(output, expression),
-        Operation::ParameterRef { offset } => put_operands(output, &[number(offset.0)]),
-        Operation::Address { address } => put_operands(output, &[Word::Hexadecimal(address)]),
-        Operation::AddressIndex { index } | Operation::ConstantIndex { index } => {
-            put_operands(output, &[number(index.0)])
-        }
-        Operation::TypedLiteral { base_type, value } => {
-            put_operands(output, &[number(base_type.0)])?;
-            put_block(output, value)
-        }
-        Operation::Convert { base_type } | Operation::Reinterpret { base_type } => {
-            put_operands(output, &[number(base_type.0)])
-        }
-        Operation::WasmLocal { index } => put_operands(
-            output,
-            &[Word::Name("local"), Word::Number(u64::from(index))],
-        ),
-        Operation::WasmGlobal { index } => put_operands(
-            output,
-            &[Word::Name("global"), Word::Number(u64::from(index))],
-        ),
-        Operation::WasmStack { index } => put_operands(
-            output,
-            &[Word::Name("stack"), Word::Number(u64::from(index))],
-        ),
-        Operation::VariableValue { offset } => put_operands(output, &[number(offset.0)]),
+            offset: distance,
+            ..
+        } if opcode <= BREGX => { put_distance(output, distance) }
+        Operation::ImplicitValue { bytes: block }
+        | Operation::EntryValue { expression: block }
+        | Operation::TypedLiteral { value: block, .. } => put_block(output, block),
         _ => Ok(()),
     }
 }

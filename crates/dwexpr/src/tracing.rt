@@ -13,7 +13,7 @@ use crate::writing::{Bytes, put_bytes, put_digits, put_text, put_value};
 use dwarf_base::constants::{DW_OP_drop, DW_OP_nop, DW_OP_piece, DW_OP_stack_value};
 use dwarf_base::{EndianSlice, Error, Reader, ReaderOffset};
 use dwarf_eval::eval::{Evaluation, Status};
-use dwarf_eval::op::{Location, Operation};
+use dwarf_eval::op::{Location, Operation, Piece};
 use dwarf_eval::store::StoreOnHeap;
 use dwarf_replay::{Answer, Step, Stepped, take_step};
 use dwarf_value::Value;
@@ -105,6 +105,26 @@ impl<'a> Frame<'a> {
             .skip(place.wrapping_add(usize::from_i16(distance)))
             .ok()?;
         Some(target)
+    }
+
+    /// What runs after an operation, when this number is on top of the stack. `None` if a branch leaves the text.
+    fn next(
+        &self,
+        operation: Operation<Bytes<'a>>,
+        rest: Bytes<'a>,
+        top: u64,
+    ) -> Option<Bytes<'a>> {
+        match operation {
+            Operation::Skip { target } => self.target(rest, target),
+            Operation::Bra { target } if top != 0 => self.target(rest, target),
+            _ => Some(rest),
+        }
+    }
+
+    /// The bytes up to the rest.
+    fn bytes_before(&self, rest: Bytes<'a>) -> &'a [u8] {
+        let length = self.rest.len().saturating_sub(rest.len());
+        self.rest.slice().get(..length).unwrap_or(&[])
     }
 
     /// Writes the place: how many bytes of the text come before it, after the text's line if it was called.
@@ -215,6 +235,36 @@ struct Standing<'a> {
     called: Option<Frame<'a>>,
 }
 
+/// How many pieces after the first ones are at an address, and the first address; 0 if there is none.
+fn addresses_in(pieces: &[Piece<Bytes<'_>>], before: usize) -> (usize, u64) {
+    let mut count: usize = 0;
+    let mut first = 0;
+    for piece in pieces.iter().skip(before) {
+        if let Location::Address { address } = piece.location {
+            if count == 0 {
+                first = address;
+            }
+            count = count.saturating_add(1);
+        }
+    }
+    (count, first)
+}
+
+/// The values in the pieces after the first ones.
+fn values_in<A: Allocator>(
+    alloc: A,
+    pieces: &[Piece<Bytes<'_>>],
+    before: usize,
+) -> Result<Vec<Value, A>, NoMemory> {
+    let mut values = Vec::new(alloc);
+    for piece in pieces.iter().skip(before) {
+        if let Location::Value { value } = piece.location {
+            push(&mut values, value)?;
+        }
+    }
+    Ok(values)
+}
+
 /// The operations that were done, and what came of them.
 #[derive(Drop)]
 struct Done<'a, A: Allocator> {
@@ -304,33 +354,22 @@ impl<'a, A: Allocator + Copy> Done<'a, A> {
         requires { IsAddressSize context.encoding.address_size }
     {
         let rerun = evaluate_again(alloc, self.bytes.as_slice(), context, steps);
-        let mut values: usize = 0;
-        let mut top = 0;
         match rerun.evaluation.status() {
             Status::Complete => {
-                for piece in rerun
-                    .evaluation
-                    .as_result()
-                    .iter()
-                    .skip(self.pieces_before())
-                {
-                    if let Location::Address { address } = piece.location {
-                        if values == 0 {
-                            top = address;
-                        }
-                        values = values.saturating_add(1);
-                    }
-                }
+                let (values, top) = addresses_in(
+                    rerun.evaluation.as_result(),
+                    self.pieces_before(),
+                );
+                Ok(Some(Standing {
+                    values,
+                    top,
+                    maximum: rerun.maximum,
+                    called: rerun.called,
+                }))
             }
-            Status::Failed(Error::StackFull) => return Err(NoMemory),
-            _ => return Ok(None),
+            Status::Failed(Error::StackFull) => Err(NoMemory),
+            _ => Ok(None),
         }
-        Ok(Some(Standing {
-            values,
-            top,
-            maximum: rerun.maximum,
-            called: rerun.called,
-        }))
     }
 
     /// The values on the stack, by pieces that have them.
@@ -343,21 +382,14 @@ impl<'a, A: Allocator + Copy> Done<'a, A> {
         requires { IsAddressSize context.encoding.address_size }
     {
         let rerun = evaluate_again(alloc, self.bytes.as_slice(), context, steps);
-        let mut values = Vec::new(alloc);
-        let Status::Complete = rerun.evaluation.status() else {
-            return Err(NoMemory);
-        };
-        for piece in rerun
-            .evaluation
-            .as_result()
-            .iter()
-            .skip(self.pieces_before())
-        {
-            if let Location::Value { value } = piece.location {
-                push(&mut values, value)?;
-            }
+        match rerun.evaluation.status() {
+            Status::Complete => values_in(
+                alloc,
+                rerun.evaluation.as_result(),
+                self.pieces_before(),
+            ),
+            _ => Err(NoMemory),
         }
-        Ok(values)
     }
 
     /// Finds where the evaluation stands. `false` if an operation isn't done.
@@ -443,6 +475,62 @@ fn print_operation<W: Write>(
     fields.end_line()
 }
 
+/// The text that runs, those that wait for its end, and what was done.
+#[derive(Drop)]
+struct Trace<'a, A: Allocator + Copy> {
+    frame: Frame<'a>,
+    callers: Vec<Frame<'a>, A>,
+    done: Done<'a, A>,
+}
+
+impl<'a, A: Allocator + Copy> Trace<'a, A> {
+    /// Enters the text that was called last.
+    fn enter(&mut self) -> Result<(), NoMemory> {
+        push(&mut self.callers, self.frame)?;
+        if let Some(called) = self.done.standing.called {
+            self.frame = called;
+        }
+        Ok(())
+    }
+
+    /// Does the next operation, and prints it. `false` if it isn't done.
+    fn do_operation<W: Write>(
+        &mut self,
+        alloc: A,
+        context: DecodingContext,
+        steps: &[Step<Bytes<'a>>],
+        fields: &mut Fields<'_, W>,
+    ) -> Result<bool, Halt>
+        requires { IsAddressSize context.encoding.address_size }
+    {
+        let frame = self.frame;
+        let mut rest = frame.rest;
+        let Ok(operation) = Operation::parse(&mut rest, context.encoding) else {
+            return Ok(false);
+        };
+        let next = frame.next(operation, rest, self.done.standing.top);
+        let bytes = frame.bytes_before(rest);
+        self.done.add(operation, bytes)?;
+        let is_done = self.done.observe(alloc, context, steps)?;
+        let next = next.filter(|_| is_done);
+        print_operation(
+            fields,
+            &frame,
+            EndianSlice::new(bytes, context.order),
+            operation,
+            next.is_some().then_some(self.done.values.as_slice()),
+        )?;
+        let Some(next) = next else {
+            return Ok(false);
+        };
+        self.frame.rest = next;
+        if let Operation::Call { .. } = operation {
+            self.enter()?;
+        }
+        Ok(true)
+    }
+}
+
 /// Prints each operation and the stack after it, up to the end, an open request or a fault. The last operation has no
 /// stack if it isn't done. Returns where the evaluation stands then.
 pub(crate) fn print_done<'a, A: Allocator + Copy, W: Write>(
@@ -455,12 +543,15 @@ pub(crate) fn print_done<'a, A: Allocator + Copy, W: Write>(
 ) -> Result<Frame<'a>, Halt>
     requires { IsAddressSize context.encoding.address_size }
 {
-    let mut frame = Frame::new(0, EndianSlice::new(bytes, context.order));
+    let frame = Frame::new(0, EndianSlice::new(bytes, context.order));
     let mut end = frame;
     end.rest.empty();
-    let mut callers = Vec::new(alloc);
-    let mut done = Done::new(alloc);
-    if !done.observe(alloc, context, steps)? {
+    let mut trace = Trace {
+        frame,
+        callers: Vec::new(alloc),
+        done: Done::new(alloc),
+    };
+    if !trace.done.observe(alloc, context, steps)? {
         return Ok(frame);
     }
     let mut fields = Fields {
@@ -469,46 +560,17 @@ pub(crate) fn print_done<'a, A: Allocator + Copy, W: Write>(
         written: 0,
     };
     for _ in 0..u64::MAX {
-        if frame.rest.is_empty() {
-            let Some(caller) = running(&mut callers) else {
+        if trace.frame.rest.is_empty() {
+            let Some(caller) = running(&mut trace.callers) else {
                 return Ok(end);
             };
-            frame = caller;
+            trace.frame = caller;
         }
-        if done.is_at_maximum() {
+        if trace.done.is_at_maximum() || !trace.do_operation(alloc, context, steps, &mut fields)? {
             break;
-        }
-        let mut rest = frame.rest;
-        let Ok(operation) = Operation::parse(&mut rest, context.encoding) else {
-            break;
-        };
-        let next = match operation {
-            Operation::Skip { target } => frame.target(rest, target),
-            Operation::Bra { target } if done.standing.top != 0 => frame.target(rest, target),
-            _ => Some(rest),
-        };
-        let length = frame.rest.len().saturating_sub(rest.len());
-        let spelling = frame.rest.slice().get(..length).unwrap_or(&[]);
-        done.add(operation, spelling)?;
-        let is_done = done.observe(alloc, context, steps)?;
-        let next = next.filter(|_| is_done);
-        print_operation(
-            &mut fields,
-            &frame,
-            EndianSlice::new(spelling, context.order),
-            operation,
-            next.is_some().then_some(done.values.as_slice()),
-        )?;
-        let Some(next) = next else { break };
-        frame.rest = next;
-        if let Operation::Call { .. } = operation {
-            push(&mut callers, frame)?;
-            if let Some(called) = done.standing.called {
-                frame = called;
-            }
         }
     }
-    Ok(frame)
+    Ok(trace.frame)
 }
 
 /// Prints the last reply of an evaluation that stands there: a request, completion, or a fault after its place.

@@ -25,7 +25,7 @@ from checks import expect
 from commands import TOP
 
 # Folders of what is built or kept beside the repository, and no part of it; and those of a package.
-BESIDE = {"out", "target", "__pycache__", ".git", "dist", "lib", "share"}
+BESIDE = {"out", "target", "sources", "__pycache__", ".git", "dist", "lib", "share"}
 # Files that aren't here: gimli's, and one that a user may write.
 ELSEWHERE = {"op.rs", "value.rs", "config.toml"}
 # A quoted path has a slash, or the ending of a file of the repository.

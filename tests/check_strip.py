@@ -190,8 +190,8 @@ def texts_of(package, folder):
     commands.run("rustc", "--edition=2024", TOP / script, "-o", f"{out}.script")
     out.mkdir()
     variables = {"CARGO_PKG_VERSION_MAJOR": "0", "CARGO_PKG_VERSION_MINOR": "0", "CARGO_CFG_TARGET_OS": ""}
-    variables |= {"CARGO_MANIFEST_DIR": str(TOP / home), "OUT_DIR": str(out)}
-    commands.run(f"{out}.script", env={**os.environ, **variables})
+    variables["OUT_DIR"] = str(out)
+    commands.run(f"{out}.script", env={**os.environ, **variables}, cwd=TOP / home)
     texts = {f"rows/{name}": (TOP / "rust/build/rows" / name).read_text(encoding="utf-8") for name in rows}
     for file in sorted((out / "sources").rglob("*/*.rs")):
         place = str(file.relative_to(out / "sources"))

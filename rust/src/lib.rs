@@ -3,8 +3,8 @@
 //! out, so nothing is proved of this crate itself.
 //!
 //! The sources are in Rattle. It is proved that each of their calls returns, and gives what a separate specification
-//! says. The build script makes the module `sources` from them: it puts their contracts in comments, and replaces a few
-//! types, bounds, attributes and names. The rest is written by hand: it checks the preconditions of the calls, and adds
+//! says. The module `sources` is made from them: their contracts are put in comments, and a few types, bounds,
+//! attributes and names are replaced. The rest is written by hand: it checks the preconditions of the calls, and adds
 //! what else gimli's types have. Tests show that the crate does what is proved of the sources.
 //!
 //! ```
@@ -30,6 +30,7 @@
 // Its unit test counts allocations, and so has an allocator.
 #![cfg_attr(not(test), no_std)]
 #![cfg_attr(not(test), forbid(unsafe_code))]
+#![cfg_attr(docsrs, feature(doc_cfg))]
 #![warn(missing_docs)]
 
 #[cfg(feature = "alloc")]
@@ -38,7 +39,7 @@ extern crate alloc;
 #[cfg(not(test))]
 extern crate core as std;
 
-// The module `sources`, which the build script writes. Each line has the same number as in the proved source.
+// Each line has the same number as in the proved source.
 include!(concat!(env!("OUT_DIR"), "/lib.rs"));
 
 #[macro_use]
@@ -49,8 +50,8 @@ mod lists;
 mod casts;
 #[cfg(feature = "gimli")]
 mod conversions;
-// It implements sealed traits. The rows that it runs over aren't in a package.
-#[cfg(all(test, rows, feature = "alloc", target_pointer_width = "64"))]
+// It implements sealed traits.
+#[cfg(all(test, feature = "alloc", target_pointer_width = "64"))]
 #[path = "../tests/cost.rs"]
 mod cost;
 mod errors;

@@ -14,7 +14,7 @@ mod cases;
 #[path = "../rows/decoded.rs"]
 mod decoded;
 #[allow(dead_code)]
-#[path = "../rows/json.rs"]
+#[path = "../../../tests/conformance/src/json.rs"]
 mod json;
 #[allow(dead_code)]
 #[path = "../rows/lines.rs"]

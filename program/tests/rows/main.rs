@@ -4,6 +4,7 @@ mod bounds;
 mod calls;
 mod cases;
 mod decoded;
+#[path = "../../../tests/conformance/src/json.rs"]
 mod json;
 mod lines;
 mod lists;

@@ -1,0 +1,120 @@
+//! Makes the package `dwexpr` as it is published, in a new folder. It has the translated sources in `src`, so it needs
+//! no build script, and nothing in it leads out of it.
+//!
+//!     cargo run --manifest-path rust/package/Cargo.toml FOLDER
+//!
+//! Then `cargo publish` in FOLDER publishes it.
+
+#[path = "../build/contracts.rs"]
+mod contracts;
+#[path = "../build/sources.rs"]
+mod sources;
+#[path = "../build/translation.rs"]
+mod translation;
+
+use std::path::Path;
+use std::process::ExitCode;
+use std::{env, fs, io};
+
+/// The files and folders that are copied, and their places in the package.
+const COPIED: &[(&str, &str)] = &[
+    ("rust/src", "src"),
+    ("rust/benches", "benches"),
+    ("rust/examples", "examples"),
+    ("rust/tests", "tests"),
+    ("tests/conformance/src", "tests/conformance/src"),
+    ("tests/rows", "tests/rows"),
+    ("tests/vectors", "tests/vectors"),
+    ("rust/README.md", "README.md"),
+    ("docs/DIFFERENCES.md", "docs/DIFFERENCES.md"),
+    ("docs/PROOFS.md", "docs/PROOFS.md"),
+    ("CHANGELOG.md", "CHANGELOG.md"),
+    ("LICENSE-APACHE", "LICENSE-APACHE"),
+    ("LICENSE-MIT", "LICENSE-MIT"),
+];
+/// What isn't: pages that are in the translated sources, and a test that needs files outside of the repository.
+const LEFT_OUT: &[&str] = &["rust/src/pages", "rust/tests/upstream.rs"];
+/// How a build from the repository finds the translated sources. The package has them as a module.
+const INCLUDED: &str = "include!(concat!(env!(\"OUT_DIR\"), \"/lib.rs\"));";
+
+/// The package's manifest, from the repository's: without the workspace, the build script, the list of files and the
+/// test that is left out. What is in the folder `rust` there is at the top here.
+fn manifest(text: &str) -> String {
+    let is_left_out = |paragraph: &&str| {
+        paragraph.starts_with("[workspace]") || LEFT_OUT.iter().any(|it| paragraph.contains(&format!("\"{it}\"")))
+    };
+    let (before, after) = text.split_once("include = [\n").expect("the manifest lists files");
+    let text = before.to_owned() + after.split_once("]\n").expect("the list ends").1;
+    let paragraphs: Vec<_> = text.split("\n\n").filter(|it| !is_left_out(it)).collect();
+    let is_published = |line: &&str| !["build = ", "publish = ", "#"].iter().any(|it| line.starts_with(it));
+    let package: Vec<_> = paragraphs[0].lines().filter(is_published).collect();
+    let text = [&[package.join("\n").as_str()], &paragraphs[1..]].concat().join("\n\n");
+    text.replace("\"rust/", "\"")
+}
+
+/// A page whose links stay in the package. The text of a link that would lead out of it is no link.
+fn page(text: &str, place: &Path) -> String {
+    let (mut left, mut rest) = (String::new(), text);
+    while let Some((before, after)) = rest.split_once("](") {
+        let (link, after) = after.split_once(')').expect("a link ends");
+        let (front, name) = before.rsplit_once('[').expect("a link has a text");
+        let link = link.replace("../docs/", "docs/");
+        let target = link.split('#').next().unwrap_or_default();
+        let is_here = |target: &str| COPIED.iter().any(|(_, to)| place.with_file_name(target).starts_with(to));
+        let stays = target.is_empty() || target.contains("://") || is_here(target);
+        left = left + front + &if stays { format!("[{name}]({link})") } else { name.to_owned() };
+        rest = after;
+    }
+    left + rest
+}
+
+/// A file's text in the package. A file that is nearer to the top there names others from there.
+fn adapted(text: String, from: &Path, to: &Path) -> String {
+    match to.extension().and_then(|it| it.to_str()) {
+        Some("md") => page(&text, to),
+        Some("rs") if from.starts_with("rust") => text.replace("\"../../", "\"../").replace(INCLUDED, "mod sources;"),
+        _ => text,
+    }
+}
+
+/// Copies a file, or the files of a folder, from a place in the repository to one in the package.
+fn copy(top: &Path, from: &Path, folder: &Path, to: &Path) -> io::Result<()> {
+    if LEFT_OUT.iter().any(|it| from == Path::new(it)) {
+        return Ok(());
+    }
+    if top.join(from).is_dir() {
+        fs::create_dir_all(folder.join(to))?;
+        for entry in fs::read_dir(top.join(from))? {
+            let name = entry?.file_name();
+            copy(top, &from.join(&name), folder, &to.join(&name))?;
+        }
+        return Ok(());
+    }
+    fs::create_dir_all(folder.join(to).parent().expect("it is in the package"))?;
+    fs::write(folder.join(to), adapted(fs::read_to_string(top.join(from))?, from, to))
+}
+
+fn make(top: &Path, folder: &Path) -> io::Result<()> {
+    fs::create_dir(folder)?;
+    translation::write_sources(top, &folder.join("src"));
+    for (from, to) in COPIED {
+        copy(top, Path::new(from), folder, Path::new(to))?;
+    }
+    fs::write(folder.join("Cargo.toml"), manifest(&fs::read_to_string(top.join("Cargo.toml"))?))
+}
+
+fn main() -> ExitCode {
+    let top = Path::new(env!("CARGO_MANIFEST_DIR")).join("../..");
+    let words: Vec<_> = env::args_os().skip(1).collect();
+    let [folder] = &words[..] else {
+        eprintln!("usage: package FOLDER");
+        return ExitCode::from(2);
+    };
+    match make(&top, Path::new(folder)) {
+        Ok(()) => ExitCode::SUCCESS,
+        Err(error) => {
+            eprintln!("package: {}: {error}", Path::new(folder).display());
+            ExitCode::FAILURE
+        }
+    }
+}

@@ -20,7 +20,7 @@ macro_rules! casts {
         impl IntoSigned for $unsigned {
             type Signed = $signed;
 
-            #[inline(always)]
+            #[cfg_attr(not(debug_assertions), inline(always))]
             fn into_signed(self) -> $signed {
                 self as $signed
             }
@@ -29,7 +29,7 @@ macro_rules! casts {
         impl IntoUnsigned for $signed {
             type Unsigned = $unsigned;
 
-            #[inline(always)]
+            #[cfg_attr(not(debug_assertions), inline(always))]
             fn into_unsigned(self) -> $unsigned {
                 self as $unsigned
             }

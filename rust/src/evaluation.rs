@@ -164,7 +164,7 @@ impl<R: Reader, S: EvaluationStorage<R>> Evaluation<R, S> {
     /// # Panics
     ///
     /// If a request is open. Call its resume.
-    #[inline(always)]
+    #[cfg_attr(not(debug_assertions), inline(always))]
     #[track_caller]
     pub fn evaluate(&mut self) -> Result<EvaluationResult<R>> {
         if let Status::Waiting(kind) = self.status() {
@@ -231,7 +231,7 @@ macro_rules! checked_resumes {
                 /// # Panics
                 ///
                 /// If no such request is open, and there was no fault.
-                #[inline(always)]
+                #[cfg_attr(not(debug_assertions), inline(always))]
                 #[track_caller]
                 pub fn $name(&mut self, $argument: $type) -> Result<EvaluationResult<R>> {
                     if !self.is_open_for(WaitingKind::$kind) {

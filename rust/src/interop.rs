@@ -113,7 +113,7 @@ impl<T: gimli::ReaderOffset> ReaderOffset for GimliOffset<T> {
 impl<R: gimli::Reader> GimliReader<R> {
     /// Reads by one of gimli's calls. An error that has no name here becomes `UnexpectedEof` with the place where the
     /// bytes begin.
-    #[inline(always)]
+    #[cfg_attr(not(debug_assertions), inline(always))]
     fn take<T>(&mut self, read: impl FnOnce(&mut R) -> gimli::Result<T>) -> Result<T> {
         #[cold]
         fn error_of(error: gimli::Error, start: gimli::ReaderOffsetId) -> Error {
@@ -131,7 +131,7 @@ impl<R: gimli::Reader> GimliReader<R> {
     /// Reads a LEB128 number: takes its bytes, at most ten, and decodes them by the proved code. That code reads a long
     /// number from a copy of its reader, and a copy of this one would be a clone. This one is lent only to functions
     /// that are inlined, so that the compiler can keep it in registers.
-    #[cfg_attr(not(feature = "small"), inline(always))]
+    #[cfg_attr(not(any(feature = "small", debug_assertions)), inline(always))]
     fn read_leb128<T>(&mut self, decode: impl Fn(&[u8]) -> Result<T>) -> Result<T> {
         let first = self.read_u8()?;
         if first < 128 {
@@ -202,23 +202,23 @@ impl<R: gimli::Reader> Reader for GimliReader<R> {
         self.take(|reader| reader.read_offset(format.into())).map(GimliOffset)
     }
 
-    #[cfg_attr(not(feature = "small"), inline(always))]
+    #[cfg_attr(not(any(feature = "small", debug_assertions)), inline(always))]
     fn read_uleb128(&mut self) -> Result<u64> {
         self.read_leb128(unsigned)
     }
 
-    #[cfg_attr(not(feature = "small"), inline(always))]
+    #[cfg_attr(not(any(feature = "small", debug_assertions)), inline(always))]
     fn read_sleb128(&mut self) -> Result<i64> {
         self.read_leb128(signed)
     }
 }
 
-#[cfg_attr(not(feature = "small"), inline(always))]
+#[cfg_attr(not(any(feature = "small", debug_assertions)), inline(always))]
 fn unsigned(bytes: &[u8]) -> Result<u64> {
     EndianSlice::new(bytes, LittleEndian).read_uleb128()
 }
 
-#[cfg_attr(not(feature = "small"), inline(always))]
+#[cfg_attr(not(any(feature = "small", debug_assertions)), inline(always))]
 fn signed(bytes: &[u8]) -> Result<i64> {
     EndianSlice::new(bytes, LittleEndian).read_sleb128()
 }

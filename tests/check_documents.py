@@ -138,7 +138,7 @@ def found(pattern, text):
 def differences(page, text):
     """Names that gimli doesn't have, but for members of such types; and defaults of type parameters."""
     sources = [it for name in CRATES for it in (TOP / f"crates/dwarf_{name}/src").rglob("*.rt")]
-    sources = "\n".join(it.read_text(encoding="utf-8") for it in [*sources, *(TOP / "rust/src").glob("*.rs")])
+    sources = "\n".join(it.read_text(encoding="utf-8") for it in [*sources, *(TOP / "rust/src").rglob("*.rs")])
     sources = re.sub(r"#\[doc\(hidden\)\]\n.*", "", sources)
     folder = os.environ.get("DWEXPR_GIMLI")
     theirs = found(IN_GIMLI, "\n".join(read(f"{folder}/src/{it}") for it in GIMLI)) if folder else set()

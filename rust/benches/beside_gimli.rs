@@ -7,6 +7,8 @@
 //! columns are ignored, and so are lines that begin with `#`. Without a list it takes the rows of the repository's
 //! tests. `cargo test` only compares.
 
+extern crate gimli_0_34 as gimli;
+
 use std::fmt::{self, Debug, Write};
 use std::hint::black_box;
 use std::process::ExitCode;

@@ -6,6 +6,9 @@
 //! reads the units, and dwexpr evaluates the expressions. There is no process: if an expression asks for a register or
 //! for memory, that request is printed.
 
+// A program of yours names it gimli.
+extern crate gimli_0_34 as gimli;
+
 use dwexpr::{DieReference, Error, Evaluation, EvaluationResult, GimliReader, Location, Piece, ValueType};
 // `EndianArcSlice` and `EndianRcSlice` would do as well.
 use gimli::EndianSlice as Bytes;

@@ -1,5 +1,10 @@
-//! gimli's readers, and conversions between the types of both crates.
+//! gimli's readers, and conversions between the types of both crates. Each version of gimli has a module with a copy of
+//! this one, in whose scope `gimli` is that version.
 
+mod conversions;
+mod requests;
+
+use super::gimli;
 use crate::{
     BigEndian, DebugAddrIndex, DebugInfoOffset, DieReference, DwAte, DwOp, Encoding, EndianSlice, Error, Format,
     LittleEndian, Reader, ReaderOffset, ReaderOffsetId, Register, Result, RunTimeEndian, UnitOffset, Value, ValueType,
@@ -14,7 +19,8 @@ use core::ops::Deref;
 /// one itself, for its caller.
 ///
 /// ```
-/// # #[cfg(feature = "alloc")] {
+/// # #[cfg(all(feature = "alloc", feature = "gimli"))] {
+/// # use gimli_0_34 as gimli;
 /// use dwexpr::{Evaluation, EvaluationResult, GimliReader};
 ///
 /// let encoding = gimli::Encoding { address_size: 8, format: gimli::Format::Dwarf32, version: 5 };
@@ -306,7 +312,7 @@ references!([T] GimliOffset<T>);
 
 /// Conversions of types that have more values in gimli: `From` into gimli's, and `TryFrom` back.
 macro_rules! into_gimli {
-    ($type:ident: $($name:ident $(($x:ident))? $($text:literal;)?)+) => {
+    ($type:ident: $($name:ident $(($x:ident))?)+) => {
         impl From<$type> for gimli::$type {
             #[inline]
             fn from(ours: $type) -> Self {
@@ -336,4 +342,21 @@ macro_rules! into_gimli {
 
 into_gimli!(both ValueType: Generic I8 U8 I16 U16 I32 U32 I64 U64);
 into_gimli!(both Value: Generic(x) I8(x) U8(x) I16(x) U16(x) I32(x) U32(x) I64(x) U64(x));
-errors!(into_gimli);
+
+macro_rules! into_gimlis_errors {
+    ($type:ident: $($name:ident $(($x:ident))? $text:literal;)+ @ $newer:ident($size:ident) $newer_text:literal;) => {
+        impl From<$type> for gimli::$type {
+            #[inline]
+            fn from(ours: $type) -> Self {
+                match ours {
+                    $($type::$name $(($x))? => gimli::$type::$name $(($x.into()))?,)+
+                    $type::$newer($size) => if_all_have_names!({ gimli::$type::$newer($size) } else {
+                        { _ = $size; gimli::$type::InvalidExpression(gimli::DW_OP_piece) }
+                    }),
+                }
+            }
+        }
+    };
+}
+
+errors!(into_gimlis_errors);

@@ -7,7 +7,9 @@ macro_rules! if_all_have_names {
     ({ $($then:tt)* } else { $($other:tt)* }) => { $($then)* };
 }
 
+// The modules of versions have the same files.
+#[allow(clippy::duplicate_mod)]
 #[path = "interop/mod.rs"]
 mod interop;
 
-pub use interop::{GimliOffset, GimliReader};
+pub use interop::*;

@@ -2,7 +2,12 @@
 //! this one, in whose scope `gimli` is that version.
 
 mod conversions;
+#[cfg(feature = "alloc")]
+mod floats;
 mod requests;
+
+#[cfg(feature = "alloc")]
+pub use floats::{Answer, Outcome, Settings, evaluate_with_floats};
 
 use super::gimli;
 use crate::{

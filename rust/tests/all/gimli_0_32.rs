@@ -1,6 +1,6 @@
 //! gimli 0.32.
 
-use dwexpr::gimli_0_32::{GimliOffset, GimliReader};
+use dwexpr::gimli_0_32::{Answer, GimliOffset, GimliReader, Outcome, Settings, evaluate_with_floats};
 use gimli_0_32 as gimli;
 
 const HAS_ALL_NAMES: bool = false;
@@ -12,6 +12,8 @@ macro_rules! wasm_answered {
     };
 }
 
+#[path = "floats.rs"]
+mod floats;
 #[path = "interop.rs"]
 mod interop;
 #[path = "readers.rs"]

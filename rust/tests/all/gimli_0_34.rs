@@ -1,6 +1,6 @@
 //! gimli 0.34.
 
-use dwexpr::gimli_0_34::{GimliOffset, GimliReader};
+use dwexpr::gimli_0_34::{Answer, GimliOffset, GimliReader, Outcome, Settings, evaluate_with_floats};
 use gimli_0_34 as gimli;
 
 const HAS_ALL_NAMES: bool = true;
@@ -14,6 +14,8 @@ macro_rules! wasm_answered {
 
 #[path = "clones.rs"]
 mod clones;
+#[path = "floats.rs"]
+mod floats;
 #[path = "interop.rs"]
 mod interop;
 #[path = "readers.rs"]

@@ -1,5 +1,7 @@
 //! gimli's readers and types. Each operation and each request is gimli's, if it has a name for it.
 
+#![allow(clippy::unnecessary_fallible_conversions, reason = "some can fail in another version")]
+
 use super::gimli::{self, Reader as _};
 use super::readers::{clones_of, own};
 use super::{GimliOffset, GimliReader, HAS_ALL_NAMES};

@@ -23,7 +23,8 @@ const CRATES: &[(&str, &str)] = &[
 // Lists that take an allocator, which C hasn't, and tests.
 const LEFT_OUT: &[&str] = &["dwarf_eval/src/store/heap.rt", "dwarf_eval/src/eval/heap.rt", "dwarf_replay/src/tests"];
 // Much in these crates is only for Rust.
-const ALLOWED: &str = "#![allow(dead_code, unused_imports, unused_variables, non_upper_case_globals, clippy::all)]";
+const ALLOWED: &str = "#![allow(dead_code, unused_imports, unused_variables, non_upper_case_globals)]
+#![allow(unstable_name_collisions, clippy::all)]";
 
 fn main() {
     let set = |name: &str| env::var(name).expect("Cargo sets it");
@@ -33,7 +34,7 @@ fn main() {
     sources.apply("rust/build/rows/both");
     sources.apply("rust/build/rows/c");
     let out = PathBuf::from(set("OUT_DIR"));
-    sources.write(&out.join("sources"), ALLOWED, "use crate::casts::{IntoSigned as _, IntoUnsigned as _};");
+    sources.write(&out.join("sources"), ALLOWED, "use crate::casts::{CastSigned as _, CastUnsigned as _};");
     fs::write(out.join("lib.rs"), "mod sources;\n").expect("the file is written");
     let version = format!("{}.{}", set("CARGO_PKG_VERSION_MAJOR"), set("CARGO_PKG_VERSION_MINOR"));
     match set("CARGO_CFG_TARGET_OS").as_str() {

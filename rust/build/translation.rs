@@ -15,11 +15,11 @@ pub const CRATES: &[(&str, &str)] = &[
 // more than those of the third.
 const BY_HAND: &[&str] =
     &["dwarf_eval/src/store/heap.rt", "dwarf_eval/src/eval/heap.rt", "dwarf_eval/src/store/storage.rt"];
-// Why lints are allowed: the functions that state laws aren't called, only a list on the heap hands out its pieces, and
-// opcodes have the standard's names.
-const ALLOWED: &str = "#![allow(dead_code, unused_imports, non_upper_case_globals)]
-#![allow(clippy::manual_range_patterns, clippy::module_inception, clippy::redundant_pattern_matching)]
-#![allow(clippy::should_implement_trait, clippy::upper_case_acronyms)]";
+// Why lints are allowed: the functions that state laws aren't called, only a list on the heap hands out its pieces,
+// opcodes have the standard's names, and `crate::casts` has two methods that std has from 1.87 on.
+const ALLOWED: &str = "#![allow(dead_code, unused_imports, non_upper_case_globals, unstable_name_collisions)]
+#![allow(clippy::incompatible_msrv, clippy::manual_range_patterns, clippy::module_inception)]
+#![allow(clippy::redundant_pattern_matching, clippy::should_implement_trait, clippy::upper_case_acronyms)]";
 
 /// Adds `_unchecked` to the names of the public methods with this precondition, and to all calls of them. The code that
 /// is written by hand has the old names, and checks the precondition.
@@ -69,5 +69,5 @@ pub fn write_sources(top: &Path, folder: &Path) {
     rename_unchecked(&mut sources, "IsAddressMask addr_mask");
     rename_uncalled(&mut sources);
     add_pages(&mut sources, "rust/src/pages");
-    sources.write(&folder.join("sources"), ALLOWED, "use crate::casts::{IntoSigned as _, IntoUnsigned as _};");
+    sources.write(&folder.join("sources"), ALLOWED, "use crate::casts::{CastSigned as _, CastUnsigned as _};");
 }

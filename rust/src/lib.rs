@@ -63,6 +63,9 @@ pub mod gimli_0_33;
 pub mod gimli_0_34;
 #[cfg(feature = "alloc")]
 mod heap;
+#[cfg(all(test, feature = "alloc"))]
+#[path = "../tests/lists.rs"]
+mod long_lists;
 mod names;
 mod operations;
 mod orders;

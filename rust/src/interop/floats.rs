@@ -96,7 +96,8 @@ type Answered<R> = Vec<(EvaluationResult<GimliReader<R>>, Answer<R>)>;
 
 /// Evaluates an expression here. If an answer is a floating-point value or type, gimli evaluates the expression instead,
 /// from its start and with the same answers, and goes on to ask. `answer` is called once for each request; if gimli asks
-/// for something else than this crate did before, also for that.
+/// for something else than this crate did before, also for that. `S` is where gimli keeps its lists, such as
+/// `gimli::StoreOnHeap`.
 ///
 /// What gimli evaluates isn't proved, and [`Outcome`] says which of the two it was.
 ///
@@ -110,11 +111,12 @@ type Answered<R> = Vec<(EvaluationResult<GimliReader<R>>, Answer<R>)>;
 /// // Register 17 as a value of the type at 0x20, and DW_OP_stack_value.
 /// let expression = gimli::EndianSlice::new(&[0xa5, 17, 0x20, 0x9f], gimli::LittleEndian);
 /// let settings = Settings { max_iterations: Some(100_000), ..Settings::default() };
-/// let outcome = evaluate_with_floats(expression, encoding, settings, |request| match request {
+/// let answer = |request| match request {
 ///     RequiresRegister { .. } => Ok(Answer::Value(gimli::Value::F64(1.5))),
 ///     RequiresBaseType(_) => Ok(Answer::BaseType(gimli::ValueType::F64)),
 ///     _ => Err(gimli::Error::UnsupportedEvaluation),
-/// })?;
+/// };
+/// let outcome = evaluate_with_floats::<gimli::StoreOnHeap, _, _>(expression, encoding, settings, answer)?;
 /// assert!(matches!(outcome, Outcome::InGimli { .. }));
 /// let value = gimli::Value::F64(1.5);
 /// assert_eq!(outcome.into_pieces()[0].location, gimli::Location::Value { value });
@@ -129,12 +131,17 @@ type Answered<R> = Vec<(EvaluationResult<GimliReader<R>>, Answer<R>)>;
 /// # Panics
 ///
 /// If an answer doesn't fit its request.
-pub fn evaluate_with_floats<R: gimli::Reader, E: From<Error> + From<gimli::Error>>(
+pub fn evaluate_with_floats<S, R, E>(
     bytecode: R,
     encoding: gimli::Encoding,
     settings: Settings,
     mut answer: impl FnMut(EvaluationResult<GimliReader<R>>) -> Result<Answer<R>, E>,
-) -> Result<Outcome<R>, E> {
+) -> Result<Outcome<R>, E>
+where
+    S: gimli::EvaluationStorage<R>,
+    R: gimli::Reader,
+    E: From<Error> + From<gimli::Error>,
+{
     let mut it = Evaluation::new(GimliReader(bytecode.clone()), encoding.into());
     settings.initial_value.into_iter().for_each(|value| it.set_initial_value(value));
     settings.object_address.into_iter().for_each(|value| it.set_object_address(value));
@@ -145,7 +152,7 @@ pub fn evaluate_with_floats<R: gimli::Reader, E: From<Error> + From<gimli::Error
         let given = answer(request.clone())?;
         if given.is_float() {
             answered.push((request, given));
-            return evaluate_in_gimli(bytecode, encoding, settings, answered, answer);
+            return evaluate_in_gimli::<S, R, E>(bytecode, encoding, settings, answered, answer);
         }
         let next = resume_here(&mut it, &request, given.clone())?;
         answered.push((request, given));
@@ -168,14 +175,19 @@ fn resume_here<R: gimli::Reader>(
 /// Evaluates in gimli. An answer is used again if gimli asks for the same as this crate did; from the first request that
 /// is another one, each is asked anew.
 #[allow(clippy::unnecessary_fallible_conversions, reason = "it can fail in another version")]
-fn evaluate_in_gimli<R: gimli::Reader, E: From<Error> + From<gimli::Error>>(
+fn evaluate_in_gimli<S, R, E>(
     bytecode: R,
     encoding: gimli::Encoding,
     settings: Settings,
     answered: Answered<R>,
     mut answer: impl FnMut(EvaluationResult<GimliReader<R>>) -> Result<Answer<R>, E>,
-) -> Result<Outcome<R>, E> {
-    let mut it = gimli::Evaluation::new(bytecode, encoding);
+) -> Result<Outcome<R>, E>
+where
+    S: gimli::EvaluationStorage<R>,
+    R: gimli::Reader,
+    E: From<Error> + From<gimli::Error>,
+{
+    let mut it = gimli::Evaluation::<R, S>::new_in(bytecode, encoding);
     settings.initial_value.into_iter().for_each(|value| it.set_initial_value(value));
     settings.object_address.into_iter().for_each(|value| it.set_object_address(value));
     settings.max_iterations.into_iter().for_each(|value| it.set_max_iterations(value));
@@ -191,7 +203,7 @@ fn evaluate_in_gimli<R: gimli::Reader, E: From<Error> + From<gimli::Error>>(
         };
         reply = resume_in_gimli(&mut it, &request, given)?;
     }
-    Ok(Outcome::InGimli { value: it.value_result(), pieces: it.result() })
+    Ok(Outcome::InGimli { value: it.value_result(), pieces: it.as_result().to_vec() })
 }
 
 /// Whether two requests are shown alike. Readers can't be compared otherwise.
@@ -202,8 +214,8 @@ fn are_same<R: gimli::Reader>(
     format!("{one:?}") == format!("{other:?}")
 }
 
-fn resume_in_gimli<R: gimli::Reader>(
-    it: &mut gimli::Evaluation<R>,
+fn resume_in_gimli<R: gimli::Reader, S: gimli::EvaluationStorage<R>>(
+    it: &mut gimli::Evaluation<R, S>,
     request: &EvaluationResult<GimliReader<R>>,
     given: Answer<R>,
 ) -> gimli::Result<gimli::EvaluationResult<R>> {

@@ -1,6 +1,6 @@
 //! Expressions with floating point, which gimli evaluates.
 
-use super::gimli::{self, EndianSlice, LittleEndian};
+use super::gimli::{self, EndianSlice, LittleEndian, StoreOnHeap};
 use super::{Answer, GimliReader, Outcome, Settings, evaluate_with_floats};
 use crate::panics;
 use dwexpr::EvaluationResult::*;
@@ -44,7 +44,9 @@ fn answer<'a>(
 /// Evaluates, and gives the names of the requests.
 fn evaluate<'a>(bytes: &'a [u8], called: &'a [u8]) -> (gimli::Result<Outcome<Little<'a>>>, Vec<String>) {
     let mut asked = Vec::new();
-    let outcome = evaluate_with_floats(little(bytes), ENCODING, LIMITED, |it| answer(&mut asked, called, it));
+    let outcome = evaluate_with_floats::<StoreOnHeap, _, _>(little(bytes), ENCODING, LIMITED, |it| {
+        answer(&mut asked, called, it)
+    });
     (outcome, asked)
 }
 
@@ -99,7 +101,8 @@ fn what_gimli_asks_differently_is_asked_anew() {
     let bytes = [0x31, 0x0e, 1, 0, 0, 0, 1, 0, 0, 0, 0x24, 0xa6, 4, 0x28, 0x13, 0xa5, 17, 0x20, 0x9f];
     let encoding = gimli::Encoding { address_size: 4, ..ENCODING };
     let mut asked = Vec::new();
-    let outcome = evaluate_with_floats(little(&bytes), encoding, LIMITED, |it| answer(&mut asked, &[], it));
+    let outcome =
+        evaluate_with_floats::<StoreOnHeap, _, _>(little(&bytes), encoding, LIMITED, |it| answer(&mut asked, &[], it));
     assert_eq!(outcome.unwrap().into_pieces()[0].location, float(1.5));
     assert_eq!(asked, ["RequiresMemory", "RequiresRegister", "RequiresMemory", "RequiresRegister"]);
 }
@@ -108,7 +111,7 @@ fn what_gimli_asks_differently_is_asked_anew() {
 fn settings_hold_in_both() {
     let settings = Settings { initial_value: Some(3), object_address: Some(4), max_iterations: Some(3) };
     let evaluate = |bytes| {
-        evaluate_with_floats::<_, gimli::Error>(little(bytes), ENCODING, settings, |_| {
+        evaluate_with_floats::<StoreOnHeap, _, gimli::Error>(little(bytes), ENCODING, settings, |_| {
             Ok(Answer::Value(gimli::Value::F64(1.5)))
         })
     };
@@ -136,7 +139,10 @@ fn errors_are_those_of_the_crates_and_of_the_answers() {
     // An answer of another kind.
     let answered = |given: Answer<Little<'static>>| {
         panics(|| {
-            evaluate_with_floats::<_, gimli::Error>(little(&[0x91, 0]), ENCODING, LIMITED, |_| Ok(given.clone())).ok()
+            evaluate_with_floats::<StoreOnHeap, _, gimli::Error>(little(&[0x91, 0]), ENCODING, LIMITED, |_| {
+                Ok(given.clone())
+            })
+            .ok()
         })
     };
     assert!(answered(Answer::Value(gimli::Value::Generic(1))));

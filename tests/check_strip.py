@@ -119,10 +119,8 @@ PAIRS = {
     "fn main": "pub fn main",
     "pub(crate)": "pub",
     "use program::run_without_words;": """use program::run_without_words;
-    pub use lines::{print_fault, print_fault_at, print_piece, print_reply, print_value_line};
-    pub use {endings::misplaced_step, steps::steps_in, values::{type_of, value_of}};
     pub use words::{Command, DecodingContext, Invocation, invocation_of};
-    pub use writing::{Bytes, Word, put_numbered_line};""",
+    pub use {lines::print_fault, steps::steps_in, writing::Bytes};""",
 }
 # What a file ends with.
 CASTS = "use crate::casts::{CastSigned as _, CastUnsigned as _};\n"

@@ -1,9 +1,9 @@
-//! Makes the package `dwexpr` as it is published, in a new folder. It has the translated sources in `src`, so it needs
-//! no build script, and nothing in it leads out of it.
+//! Makes the packages `dwexpr` and `dwexpr-conformance` as they are published, in a new folder. The first one has the
+//! translated sources in `src`, so it needs no build script. Nothing in them leads out of them.
 //!
 //!     cargo run --manifest-path rust/package/Cargo.toml FOLDER
 //!
-//! Then `cargo publish` in FOLDER publishes it.
+//! Then `cargo publish` in FOLDER/dwexpr publishes the first one.
 
 #[path = "../build/contracts.rs"]
 mod contracts;
@@ -12,17 +12,22 @@ mod sources;
 #[path = "../build/translation.rs"]
 mod translation;
 
-use std::path::Path;
+use std::path::{Path, PathBuf};
 use std::process::ExitCode;
 use std::{env, fs, io};
 
-/// The files and folders that are copied, and their places in the package.
-const COPIED: &[(&str, &str)] = &[
+/// Files and folders that are copied, and their places in a package.
+type Copied = &'static [(&'static str, &'static str)];
+
+const DWEXPR: Copied = &[
     ("rust/src", "src"),
     ("rust/benches", "benches"),
     ("rust/examples", "examples"),
     ("rust/tests", "tests"),
+    ("tests/conformance/gimli.md", "tests/conformance/gimli.md"),
+    ("tests/conformance/rows", "tests/conformance/rows"),
     ("tests/conformance/src", "tests/conformance/src"),
+    ("tests/counts.json", "tests/counts.json"),
     ("tests/rows", "tests/rows"),
     ("tests/vectors", "tests/vectors"),
     ("rust/README.md", "README.md"),
@@ -32,19 +37,29 @@ const COPIED: &[(&str, &str)] = &[
     ("LICENSE-APACHE", "LICENSE-APACHE"),
     ("LICENSE-MIT", "LICENSE-MIT"),
 ];
+const CONFORMANCE: Copied = &[
+    ("tests/conformance/README.md", "README.md"),
+    ("tests/conformance/gimli.md", "gimli.md"),
+    ("tests/conformance/rows", "rows"),
+    ("tests/conformance/src", "src"),
+    ("tests/rows", "rows"),
+    ("tests/vectors", "vectors"),
+    ("LICENSE-APACHE", "LICENSE-APACHE"),
+    ("LICENSE-MIT", "LICENSE-MIT"),
+];
 /// What isn't: pages that are in the translated sources, and a test that needs files outside of the repository.
 const LEFT_OUT: &[&str] = &["rust/src/pages", "rust/tests/upstream.rs"];
 /// How a build from the repository finds the translated sources. The package has them as a module.
 const INCLUDED: &str = "include!(concat!(env!(\"OUT_DIR\"), \"/lib.rs\"));";
 
-/// The package's manifest, from the repository's: without the workspace, the build script, the list of files and the
-/// test that is left out. What is in the folder `rust` there is at the top here.
+/// A package's manifest, from the repository's: without the workspace, the build script, the list of files and the test
+/// that is left out. What is in the folder `rust` there is at the top here.
 fn manifest(text: &str) -> String {
     let is_left_out = |paragraph: &&str| {
         paragraph.starts_with("[workspace]") || LEFT_OUT.iter().any(|it| paragraph.contains(&format!("\"{it}\"")))
     };
-    let (before, after) = text.split_once("include = [\n").expect("the manifest lists files");
-    let text = before.to_owned() + after.split_once("]\n").expect("the list ends").1;
+    let (before, list) = text.split_once("include = [\n").unwrap_or((text, ""));
+    let text = before.to_owned() + list.split_once("]\n").map_or("", |(_, after)| after);
     let paragraphs: Vec<_> = text.split("\n\n").filter(|it| !is_left_out(it)).collect();
     let is_published = |line: &&str| !["build = ", "publish = ", "#"].iter().any(|it| line.starts_with(it));
     let package: Vec<_> = paragraphs[0].lines().filter(is_published).collect();
@@ -53,14 +68,14 @@ fn manifest(text: &str) -> String {
 }
 
 /// A page whose links stay in the package. The text of a link that would lead out of it is no link.
-fn page(text: &str, place: &Path) -> String {
+fn page(text: &str, place: &Path, copied: Copied) -> String {
     let (mut left, mut rest) = (String::new(), text);
     while let Some((before, after)) = rest.split_once("](") {
         let (link, after) = after.split_once(')').expect("a link ends");
         let (front, name) = before.rsplit_once('[').expect("a link has a text");
         let link = link.replace("../docs/", "docs/");
         let target = link.split('#').next().unwrap_or_default();
-        let is_here = |target: &str| COPIED.iter().any(|(_, to)| place.with_file_name(target).starts_with(to));
+        let is_here = |target: &str| copied.iter().any(|(_, to)| place.with_file_name(target).starts_with(to));
         let stays = target.is_empty() || target.contains("://") || is_here(target);
         left = left + front + &if stays { format!("[{name}]({link})") } else { name.to_owned() };
         rest = after;
@@ -68,39 +83,60 @@ fn page(text: &str, place: &Path) -> String {
     left + rest
 }
 
-/// A file's text in the package. A file that is nearer to the top there names others from there.
-fn adapted(text: String, from: &Path, to: &Path) -> String {
-    match to.extension().and_then(|it| it.to_str()) {
-        Some("md") => page(&text, to),
-        Some("rs") if from.starts_with("rust") => text.replace("\"../../", "\"../").replace(INCLUDED, "mod sources;"),
-        _ => text,
-    }
+/// A package that is being made.
+struct Package<'a> {
+    /// The repository.
+    top: &'a Path,
+    folder: PathBuf,
+    copied: Copied,
 }
 
-/// Copies a file, or the files of a folder, from a place in the repository to one in the package.
-fn copy(top: &Path, from: &Path, folder: &Path, to: &Path) -> io::Result<()> {
-    if LEFT_OUT.iter().any(|it| from == Path::new(it)) {
-        return Ok(());
-    }
-    if top.join(from).is_dir() {
-        fs::create_dir_all(folder.join(to))?;
-        for entry in fs::read_dir(top.join(from))? {
-            let name = entry?.file_name();
-            copy(top, &from.join(&name), folder, &to.join(&name))?;
+impl Package<'_> {
+    /// A file's text in the package. A file that is nearer to the top there names others from there.
+    fn adapted(&self, text: String, from: &Path, to: &Path) -> String {
+        match to.extension().and_then(|it| it.to_str()) {
+            Some("md") => page(&text, to, self.copied),
+            Some("rs") if from.components().count() > to.components().count() => {
+                text.replace("\"../../", "\"../").replace(INCLUDED, "mod sources;")
+            }
+            _ => text,
         }
-        return Ok(());
     }
-    fs::create_dir_all(folder.join(to).parent().expect("it is in the package"))?;
-    fs::write(folder.join(to), adapted(fs::read_to_string(top.join(from))?, from, to))
+
+    /// Copies a file, or the files of a folder, from a place in the repository to one in the package.
+    fn copy(&self, from: &Path, to: &Path) -> io::Result<()> {
+        let (source, target) = (self.top.join(from), self.folder.join(to));
+        if LEFT_OUT.iter().any(|it| from == Path::new(it)) {
+            return Ok(());
+        }
+        if source.is_dir() {
+            fs::create_dir_all(&target)?;
+            for entry in fs::read_dir(source)? {
+                let name = entry?.file_name();
+                self.copy(&from.join(&name), &to.join(&name))?;
+            }
+            return Ok(());
+        }
+        fs::create_dir_all(target.parent().expect("it is in the package"))?;
+        fs::write(target, self.adapted(fs::read_to_string(source)?, from, to))
+    }
+
+    fn make(&self, manifest_path: &str) -> io::Result<()> {
+        for (from, to) in self.copied {
+            self.copy(Path::new(from), Path::new(to))?;
+        }
+        let text = fs::read_to_string(self.top.join(manifest_path))?;
+        fs::write(self.folder.join("Cargo.toml"), manifest(&text))
+    }
 }
 
 fn make(top: &Path, folder: &Path) -> io::Result<()> {
     fs::create_dir(folder)?;
-    translation::write_sources(top, &folder.join("src"));
-    for (from, to) in COPIED {
-        copy(top, Path::new(from), folder, Path::new(to))?;
-    }
-    fs::write(folder.join("Cargo.toml"), manifest(&fs::read_to_string(top.join("Cargo.toml"))?))
+    let package = |name, copied| Package { top, folder: folder.join(name), copied };
+    let crate_itself = package("dwexpr", DWEXPR);
+    translation::write_sources(top, &crate_itself.folder.join("src"));
+    crate_itself.make("Cargo.toml")?;
+    package("dwexpr-conformance", CONFORMANCE).make("tests/conformance/Cargo.toml")
 }
 
 fn main() -> ExitCode {

@@ -128,11 +128,12 @@ impl<R: Reader, S: EvaluationStorage<R>> Evaluation<R, S> {
     }
 
     /// Sets the value with which the stack starts: the object's address, for `DW_AT_data_member_location` and
-    /// `DW_AT_vtable_elem_location`. If the encoding's addresses have 0 bytes or more than 8, it does nothing.
+    /// `DW_AT_vtable_elem_location`. If the encoding's addresses have 0 bytes or more than 8, it does nothing, however
+    /// often it is called, since the evaluation has failed.
     ///
     /// # Panics
     ///
-    /// If it was called before, or after `evaluate`.
+    /// If it was called before, or after `evaluate`, and addresses have 1 to 8 bytes.
     #[track_caller]
     pub fn set_initial_value(&mut self, value: u64) {
         match self.status() {

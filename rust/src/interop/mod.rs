@@ -54,7 +54,8 @@ impl<R> Deref for GimliReader<R> {
 }
 
 /// An offset of one of gimli's readers, as an offset of this crate. `From` converts a [`UnitOffset`] of it to a
-/// `gimli::UnitOffset`, and so on.
+/// `gimli::UnitOffset`, and so on. No cast applies to it: for a number, write `.0 as u64`, or `.into_u64()` of
+/// [`ReaderOffset`].
 #[derive(Clone, Copy, PartialEq, Eq, PartialOrd, Ord, Hash)]
 pub struct GimliOffset<T>(pub T);
 

@@ -3,8 +3,8 @@
 use super::{ENCODING, evaluation, little, panics};
 use dwexpr::EvaluationResult::*;
 use dwexpr::{
-    Encoding, EndianSlice, Error, Evaluation, Expression, LittleEndian, Reader, RunTimeEndian, Status, Value,
-    ValueType, WaitingKind,
+    Encoding, EndianSlice, Error, Evaluation, Expression, LittleEndian, Operation, Reader, RunTimeEndian, Status,
+    Value, ValueType, WaitingKind,
 };
 
 #[test]
@@ -164,4 +164,12 @@ fn an_evaluation_is_shown_and_crosses_threads() {
 fn an_evaluation_on_the_heap_takes_some_300_bytes() {
     assert_eq!(size_of::<Evaluation<EndianSlice<LittleEndian>>>(), 288);
     assert_eq!(size_of::<Evaluation<EndianSlice<RunTimeEndian>>>(), 304);
+}
+
+/// docs/DIFFERENCES.md gives these sizes.
+#[test]
+#[cfg(target_pointer_width = "64")]
+fn an_operation_takes_32_or_40_bytes() {
+    assert_eq!(size_of::<Operation<EndianSlice<LittleEndian>>>(), 32);
+    assert_eq!(size_of::<Operation<EndianSlice<RunTimeEndian>>>(), 40);
 }

@@ -196,6 +196,7 @@ fn an_offset_is_gimlis() {
     assert_eq!(Offset::from_u64(highest + 1), Err(Error::UnsupportedOffset));
     assert_eq!(Offset::from_i16(-1).wrapping_add(GimliOffset(3)), 2);
     assert_eq!(GimliOffset(u32::MAX).into_u64(), highest);
+    assert_eq!(UnitOffset(GimliOffset(u32::MAX)).0.0 as u64, highest);
 }
 
 /// Both conversions of a value.

@@ -363,10 +363,14 @@ def texts_of(package, folder):
     commands.run(f"{out}.script", env={**os.environ, **variables}, cwd=TOP / home)
     texts = {f"rows/{name}": (TOP / "rust/build/rows" / name).read_text(encoding="utf-8") for name in rows}
     texts["preconditions"] = (TOP / preconditions).read_text(encoding="utf-8")
+    pages = 0
     for file in sorted((out / "sources").rglob("*/*.rs")):
         place = str(file.relative_to(out / "sources"))
-        texts[place] = re.sub(r'#\[doc = "(?:[^"\\]|\\.)*"\] ', "", file.read_text(encoding="utf-8"))
+        texts[place], met = re.subn(r'#\[doc = "(?:[^"\\]|\\.)*"\] ', "", file.read_text(encoding="utf-8"))
+        pages += met
         texts[path_of(place)] = (TOP / path_of(place)).read_text(encoding="utf-8")
+    wanted = len(list((TOP / "rust/src/pages").rglob("*.md"))) if package == "rust" else 0
+    expect(pages == wanted, f"{package}: {pages} of {wanted} pages are among the docs")
     return texts
 
 

@@ -24,6 +24,7 @@ const DWEXPR: Copied = &[
     ("rust/benches", "benches"),
     ("rust/examples", "examples"),
     ("rust/tests", "tests"),
+    ("tests/conformance/README.md", "tests/conformance/README.md"),
     ("tests/conformance/gimli.md", "tests/conformance/gimli.md"),
     ("tests/conformance/rows", "tests/conformance/rows"),
     ("tests/conformance/src", "tests/conformance/src"),
@@ -31,6 +32,7 @@ const DWEXPR: Copied = &[
     ("tests/rows", "tests/rows"),
     ("tests/vectors", "tests/vectors"),
     ("rust/README.md", "README.md"),
+    ("docs/DECISIONS.md", "docs/DECISIONS.md"),
     ("docs/DIFFERENCES.md", "docs/DIFFERENCES.md"),
     ("docs/PROOFS.md", "docs/PROOFS.md"),
     ("CHANGELOG.md", "CHANGELOG.md"),
@@ -67,13 +69,19 @@ fn manifest(text: &str) -> String {
     text.replace("\"rust/", "\"")
 }
 
+/// Whether a file is nearer to the top in the package than in the repository.
+fn is_nearer(from: &Path, to: &Path) -> bool {
+    from.components().count() > to.components().count()
+}
+
 /// A page whose links stay in the package. The text of a link that would lead out of it is no link.
-fn page(text: &str, place: &Path, copied: Copied) -> String {
+fn page(text: &str, from: &Path, place: &Path, copied: Copied) -> String {
+    let is_nearer = is_nearer(from, place);
     let (mut left, mut rest) = (String::new(), text);
     while let Some((before, after)) = rest.split_once("](") {
         let (link, after) = after.split_once(')').expect("a link ends");
         let (front, name) = before.rsplit_once('[').expect("a link has a text");
-        let link = link.replace("../docs/", "docs/");
+        let link = if is_nearer { link.strip_prefix("../").unwrap_or(link) } else { link };
         let target = link.split('#').next().unwrap_or_default();
         let is_here = |target: &str| copied.iter().any(|(_, to)| place.with_file_name(target).starts_with(to));
         let stays = target.is_empty() || target.contains("://") || is_here(target);
@@ -95,10 +103,8 @@ impl Package<'_> {
     /// A file's text in the package. A file that is nearer to the top there names others from there.
     fn adapted(&self, text: String, from: &Path, to: &Path) -> String {
         match to.extension().and_then(|it| it.to_str()) {
-            Some("md") => page(&text, to, self.copied),
-            Some("rs") if from.components().count() > to.components().count() => {
-                text.replace("\"../../", "\"../").replace(INCLUDED, "mod sources;")
-            }
+            Some("md") => page(&text, from, to, self.copied),
+            Some("rs") if is_nearer(from, to) => text.replace("\"../../", "\"../").replace(INCLUDED, "mod sources;"),
             _ => text,
         }
     }

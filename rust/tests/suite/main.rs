@@ -58,6 +58,9 @@ fn no_row_gets_lost() {
     assert!(cases().len() > 1820, "{}", cases().len());
     let count = |kind| Json::of(include_str!("../../../tests/counts.json")).number(kind);
     assert_eq!((decodings().len() as u64, computations().len() as u64), (count("decode"), count("values")));
+    let sum = cases().len() + decodings().len() + computations().len();
+    let shown = format!("{},{:03} rows", sum / 1000, sum % 1000);
+    assert!(include_str!("../../../tests/conformance/gimli.md").contains(&shown), "{shown}");
 }
 
 /// Does as the crate, but for one result of each call.

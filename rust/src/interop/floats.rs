@@ -68,6 +68,16 @@ impl<R: gimli::Reader> Outcome<R> {
     }
 }
 
+/// Makes the settings of an evaluation of either crate.
+macro_rules! set {
+    ($it:ident, $settings:expr) => {
+        let Settings { initial_value, object_address, max_iterations } = $settings;
+        initial_value.into_iter().for_each(|value| $it.set_initial_value(value));
+        object_address.into_iter().for_each(|value| $it.set_object_address(value));
+        max_iterations.into_iter().for_each(|value| $it.set_max_iterations(value));
+    };
+}
+
 /// Makes the resume that answers a request, on an evaluation of either crate.
 macro_rules! resume {
     ($it:ident, $request:expr, $answer:expr, $value:expr, $reader:expr, $base_type:expr, $wasm:expr) => {
@@ -99,7 +109,8 @@ type Answered<R> = Vec<(EvaluationResult<GimliReader<R>>, Answer<R>)>;
 /// for something else than this crate did before, also for that. `S` is where gimli keeps its lists, such as
 /// `gimli::StoreOnHeap`.
 ///
-/// What gimli evaluates isn't proved, and [`Outcome`] says which of the two it was.
+/// What gimli evaluates isn't proved, and [`Outcome`] says which of the two it was. The answers are kept on the heap; if
+/// memory for them is refused, the process ends, as at any push on a `Vec`.
 ///
 /// ```
 /// # #[cfg(feature = "gimli")] {
@@ -143,9 +154,7 @@ where
     E: From<Error> + From<gimli::Error>,
 {
     let mut it = Evaluation::new(GimliReader(bytecode.clone()), encoding.into());
-    settings.initial_value.into_iter().for_each(|value| it.set_initial_value(value));
-    settings.object_address.into_iter().for_each(|value| it.set_object_address(value));
-    settings.max_iterations.into_iter().for_each(|value| it.set_max_iterations(value));
+    set!(it, settings);
     let mut answered = Answered::new();
     let mut request = it.evaluate()?;
     while !matches!(request, Complete) {
@@ -188,9 +197,7 @@ where
     E: From<Error> + From<gimli::Error>,
 {
     let mut it = gimli::Evaluation::<R, S>::new_in(bytecode, encoding);
-    settings.initial_value.into_iter().for_each(|value| it.set_initial_value(value));
-    settings.object_address.into_iter().for_each(|value| it.set_object_address(value));
-    settings.max_iterations.into_iter().for_each(|value| it.set_max_iterations(value));
+    set!(it, settings);
     let mut known = answered.into_iter();
     let mut reply = it.evaluate()?;
     while !matches!(reply, gimli::EvaluationResult::Complete) {

@@ -212,8 +212,8 @@ def code(tokens):
 
 
 def substituted(tokens, pattern, new):
-    """Tokens with others in place of those that a pattern matches, and how often it does. `new` has the tokens, each with
-    the line from the first that is replaced, for a match."""
+    """Tokens with others in place of those that a pattern matches, and how often it does. For a match, `new` has the
+    tokens, each with its line from the first that is replaced on."""
     text, left, end = code(tokens), [], 0
     matches = list(re.finditer(pattern, text, re.MULTILINE))
     for match in matches:

@@ -82,7 +82,8 @@ pub struct Sources {
 }
 
 impl Sources {
-    /// Reads the sources in the folder `crates` of the repository at `top`, except those whose paths there begin with one of `left_out`.
+    /// Reads the sources in the folder `crates` of the repository at `top`, except those whose paths there begin with
+    /// one of `left_out`.
     pub fn read(top: &Path, crates: &'static [(&str, &str)], left_out: &[&str]) -> Self {
         let mut sources = Vec::new();
         for (name, module) in crates {

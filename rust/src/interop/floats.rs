@@ -21,10 +21,10 @@ pub struct Settings {
 /// The answer to a request.
 #[derive(Clone, Debug, PartialEq)]
 pub enum Answer<R> {
-    /// To `RequiresMemory`, `RequiresRegister`, `RequiresEntryValue` and those of WebAssembly: the content or the value.
+    /// To `RequiresMemory`, `RequiresRegister`, `RequiresEntryValue` and those of WebAssembly: the content or value.
     Value(gimli::Value),
-    /// To `RequiresFrameBase`, `RequiresTls`, `RequiresCallFrameCfa`, `RequiresParameterRef`, `RequiresRelocatedAddress`
-    /// and `RequiresIndexedAddress`: the address or number.
+    /// To `RequiresFrameBase`, `RequiresTls`, `RequiresCallFrameCfa`, `RequiresParameterRef`,
+    /// `RequiresRelocatedAddress` and `RequiresIndexedAddress`: the address or number.
     Address(u64),
     /// To `RequiresAtLocation`: the expression of the entry, which is empty if it has none.
     Expression(R),
@@ -104,13 +104,13 @@ macro_rules! resume {
 /// Each request so far, with its answer.
 type Answered<R> = Vec<(EvaluationResult<GimliReader<R>>, Answer<R>)>;
 
-/// Evaluates an expression here. If an answer is a floating-point value or type, gimli evaluates the expression instead,
-/// from its start and with the same answers, and goes on to ask. `answer` is called once for each request; if gimli asks
-/// for something else than this crate did before, also for that. `S` is where gimli keeps its lists, such as
+/// Evaluates an expression here. If an answer is a floating-point value or type, gimli evaluates the expression
+/// instead, from its start and with the same answers, and goes on to ask. `answer` is called once for each request; if
+/// gimli asks for something else than this crate did before, also for that. `S` is where gimli keeps its lists, such as
 /// `gimli::StoreOnHeap`.
 ///
-/// What gimli evaluates isn't proved, and [`Outcome`] says which of the two it was. The answers are kept on the heap; if
-/// memory for them is refused, the process ends, as at any push on a `Vec`.
+/// What gimli evaluates isn't proved, and [`Outcome`] says which of the two it was. The answers are kept on the heap:
+/// if memory for them is refused, the process ends, as at any push on a `Vec`.
 ///
 /// ```
 /// # #[cfg(feature = "gimli")] {
@@ -181,8 +181,8 @@ fn resume_here<R: gimli::Reader>(
     Ok(next)
 }
 
-/// Evaluates in gimli. An answer is used again if gimli asks for the same as this crate did; from the first request that
-/// is another one, each is asked anew.
+/// Evaluates in gimli. An answer is used again if gimli asks for the same as this crate did; from the first request
+/// that is another one, each is asked anew.
 #[allow(clippy::unnecessary_fallible_conversions, reason = "it can fail in another version")]
 fn evaluate_in_gimli<S, R, E>(
     bytecode: R,

@@ -16,7 +16,7 @@ fn little(bytes: &[u8]) -> Little<'_> {
     EndianSlice::new(bytes, LittleEndian)
 }
 
-/// Answers as a process would: types at 0x20 and 0x28 are `double` and `int`, and register 17 and memory have 1.5 and 7.
+/// Answers as a process would: types at 0x20 and 0x28 are `double` and `int`, and registers and memory have 1.5 or 7.
 /// Adds the name of the request to a list.
 fn answer<'a>(
     asked: &mut Vec<String>,

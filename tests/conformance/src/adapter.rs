@@ -183,7 +183,7 @@ macro_rules! implementation {
                 })
             }
 
-            /// The lines of an evaluation: each reply, up to a step out of turn, and the pieces and the value at the end.
+            /// The lines of an evaluation: each reply, up to a step out of turn, and the final pieces and value.
             pub fn evaluation_lines<R: Reader, S: EvaluationStorage<R>>(
                 it: &mut Evaluation<R, S>,
                 steps: &[$crate::Step],

@@ -1,6 +1,6 @@
 //! Runs the conformance suite on gimli. A page has each row that has another result there.
 
-use crate::{Difference, differences};
+use crate::conformance::{Difference, differences};
 use gimli::{EndianArcSlice, EndianRcSlice, EndianSlice, RunTimeEndian};
 
 crate::implementation!(theirs = gimli);

@@ -15,7 +15,7 @@ mod lists;
 mod readers;
 
 // The suite's macro names these from the crate.
-use conformance::{Call, Case, Difference, Encoding, Implementation, Operation, Step, Value, ValueType};
+use conformance::{Call, Case, Encoding, Implementation, Operation, Step, Value, ValueType};
 use conformance::{cases, computations, decodings, differences, json::Json};
 use dwexpr::{EndianSlice, RunTimeEndian};
 use readers::Own;

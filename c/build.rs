@@ -1,10 +1,15 @@
 //! Takes the contracts out of the proved sources of the library for C, and sets the soname of the shared library. While
 //! the major version is 0, each minor version has a soname of its own, since its calls may be others.
 
+#[path = "../rust/build/cargo.rs"]
+mod cargo;
 #[path = "../rust/build/contracts.rs"]
 mod contracts;
 #[path = "../rust/build/sources.rs"]
 mod sources;
+
+use std::path::{Path, PathBuf};
+use std::{env, fs};
 
 const CRATES: &[(&str, &str)] = &[
     ("dwarf_base", "base"),
@@ -18,15 +23,19 @@ const CRATES: &[(&str, &str)] = &[
 // Lists that take an allocator, which C hasn't, and tests.
 const LEFT_OUT: &[&str] = &["dwarf_eval/src/store/heap.rt", "dwarf_eval/src/eval/heap.rt", "dwarf_replay/src/tests"];
 // Much in these crates is only for Rust.
-const ALLOWED: &str = "#![allow(dead_code, unused_imports, unused_variables, non_upper_case_globals, clippy::all)]";
+const ALLOWED: &str = "#![allow(dead_code, unused_imports, unused_variables, non_upper_case_globals)]
+#![allow(unstable_name_collisions, clippy::all)]";
 
 fn main() {
-    let mut sources = sources::Sources::read("..", CRATES, LEFT_OUT);
+    let set = |name: &str| env::var(name).expect("Cargo sets it");
+    cargo::watch("..", &["c/build.rs", "c/preconditions", "rust/build"], CRATES);
+    let mut sources = sources::Sources::read(Path::new(".."), CRATES, LEFT_OUT);
     sources.check_preconditions("c/preconditions", |path| path.starts_with("crates/dwexpr_c/"));
     sources.apply("rust/build/rows/both");
     sources.apply("rust/build/rows/c");
-    sources.write(ALLOWED, "use crate::casts::{IntoSigned as _, IntoUnsigned as _};");
-    let set = |name: &str| std::env::var(name).expect("Cargo sets it");
+    let out = PathBuf::from(set("OUT_DIR"));
+    sources.write(&out.join("sources"), ALLOWED, "use crate::casts::{CastSigned as _, CastUnsigned as _};");
+    fs::write(out.join("lib.rs"), "mod sources;\n").expect("the file is written");
     let version = format!("{}.{}", set("CARGO_PKG_VERSION_MAJOR"), set("CARGO_PKG_VERSION_MINOR"));
     match set("CARGO_CFG_TARGET_OS").as_str() {
         "linux" | "android" | "freebsd" | "netbsd" | "openbsd" | "dragonfly" => {

@@ -1,11 +1,13 @@
 //! Takes the contracts out of the proved sources of the program, which stand over the Rust crate here.
 
+#[path = "../rust/build/cargo.rs"]
+mod cargo;
 #[path = "../rust/build/contracts.rs"]
 mod contracts;
 #[path = "../rust/build/sources.rs"]
 mod sources;
 
-use std::path::Path;
+use std::path::{Path, PathBuf};
 use std::{env, fs};
 
 const CRATES: &[(&str, &str)] = &[("dwarf_replay", "replay"), ("dwexpr", "program")];
@@ -16,7 +18,7 @@ const STRUCTS: [&str; 6] = ["answers", "encodings", "operations", "outcomes", "p
 const ALLOWED: &str = "#![allow(dead_code, unused_imports, unused_variables, non_upper_case_globals, clippy::all)]";
 
 /// Links tests to the archive for C that a variable names, and takes its structs from its sources.
-fn link_archive(top: &Path) {
+fn link_archive(top: &Path, out: &Path) {
     println!("cargo::rerun-if-env-changed=DWEXPR_ARCHIVE\ncargo::rustc-check-cfg=cfg(archive)");
     let Some(path) = env::var_os("DWEXPR_ARCHIVE") else { return };
     let path = fs::canonicalize(path).expect("DWEXPR_ARCHIVE names the archive");
@@ -28,14 +30,16 @@ fn link_archive(top: &Path) {
         let (fields, _) = rest.split_once("\n}").expect("the struct ends");
         structs += &format!("#[repr(C)]\n#[derive(Clone, Copy, Debug, Default, PartialEq)]\n{fields}\n}}\n");
     }
-    let out = Path::new(&env::var_os("OUT_DIR").expect("Cargo sets it")).join("structs.rs");
-    fs::write(out, structs).expect("the structs are written");
+    fs::write(out.join("structs.rs"), structs).expect("the structs are written");
 }
 
 fn main() {
-    let mut sources = sources::Sources::read("..", CRATES, LEFT_OUT);
+    let (top, out) = (Path::new(".."), PathBuf::from(env::var_os("OUT_DIR").expect("Cargo sets it")));
+    cargo::watch("..", &["program/build.rs", "program/preconditions", "rust/build", "crates/dwexpr_c/src"], CRATES);
+    let mut sources = sources::Sources::read(top, CRATES, LEFT_OUT);
     sources.check_preconditions("program/preconditions", |_| true);
     sources.apply("rust/build/rows/program");
-    link_archive(&sources.top);
-    sources.write(ALLOWED, "use crate::kit::prelude::*;");
+    sources.write(&out.join("sources"), ALLOWED, "use crate::kit::prelude::*;");
+    fs::write(out.join("lib.rs"), "mod sources;\n").expect("the file is written");
+    link_archive(top, &out);
 }

@@ -25,7 +25,7 @@ from checks import expect
 from commands import TOP
 
 # Folders of what is built or kept beside the repository, and no part of it; and those of a package.
-BESIDE = {"out", "target", "__pycache__", ".git", "dist", "lib", "share"}
+BESIDE = {"out", "target", "sources", "__pycache__", ".git", "dist", "lib", "share"}
 # Files that aren't here: gimli's, and one that a user may write.
 ELSEWHERE = {"op.rs", "value.rs", "config.toml"}
 # A quoted path has a slash, or the ending of a file of the repository.
@@ -138,7 +138,7 @@ def found(pattern, text):
 def differences(page, text):
     """Names that gimli doesn't have, but for members of such types; and defaults of type parameters."""
     sources = [it for name in CRATES for it in (TOP / f"crates/dwarf_{name}/src").rglob("*.rt")]
-    sources = "\n".join(it.read_text(encoding="utf-8") for it in [*sources, *(TOP / "rust/src").glob("*.rs")])
+    sources = "\n".join(it.read_text(encoding="utf-8") for it in [*sources, *(TOP / "rust/src").rglob("*.rs")])
     sources = re.sub(r"#\[doc\(hidden\)\]\n.*", "", sources)
     folder = os.environ.get("DWEXPR_GIMLI")
     theirs = found(IN_GIMLI, "\n".join(read(f"{folder}/src/{it}") for it in GIMLI)) if folder else set()

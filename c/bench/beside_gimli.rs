@@ -1,5 +1,7 @@
 //! Times the library for C beside gimli: the target `bench` of CMake builds and runs it.
 
+extern crate gimli_0_34 as gimli;
+
 // The lists, gimli's half and the clock are those of the Rust crate's benchmark.
 #[path = "../../rust/benches/beside_gimli.rs"]
 #[allow(dead_code)]

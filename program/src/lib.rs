@@ -19,5 +19,5 @@ pub mod parts {
     pub use crate::kit::alloc::Global;
     pub use crate::kit::{String, Vec};
     pub use crate::sources::program::*;
-    pub use crate::sources::replay::{Answer, Step};
+    pub use crate::sources::replay::Step;
 }

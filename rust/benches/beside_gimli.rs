@@ -7,6 +7,8 @@
 //! columns are ignored, and so are lines that begin with `#`. Without a list it takes the rows of the repository's
 //! tests. `cargo test` only compares.
 
+extern crate gimli_0_34 as gimli;
+
 use std::fmt::{self, Debug, Write};
 use std::hint::black_box;
 use std::process::ExitCode;
@@ -50,6 +52,11 @@ impl Case {
         let byte = |pair| u8::from_str_radix(str::from_utf8(pair).ok()?, 16).ok();
         let encoding = UnitEncoding { address_size, offset_size, is_big_endian, version };
         Some(Case::new(encoding, pairs.map(byte).collect::<Option<_>>()?))
+    }
+
+    /// The bytes in gimli's slice.
+    fn slice(&self) -> gimli::EndianSlice<'_, gimli::RunTimeEndian> {
+        gimli::EndianSlice::new(&self.bytes, self.order())
     }
 
     /// The bytes in gimli's reference-counted reader.
@@ -137,9 +144,23 @@ macro_rules! works {
                 all(cases, times, decode_one::<SUMS>)
             }
 
+            /// Decodes over gimli's slices.
+            pub fn decode_slices<const SUMS: bool>(cases: &[Case], times: u32) -> u64 {
+                all(cases, times, decode_slice::<SUMS>)
+            }
+
             #[inline(never)]
             fn decode_one<const SUMS: bool>(case: &Case) -> u64 {
-                let (mut text, encoding) = (text_of(case, &case.bytes), encoding_of(case));
+                decode_all::<_, SUMS>(text_of(case, &case.bytes), encoding_of(case))
+            }
+
+            #[inline(never)]
+            fn decode_slice<const SUMS: bool>(case: &Case) -> u64 {
+                decode_all::<_, SUMS>($reader(case.slice()), encoding_of(case))
+            }
+
+            #[inline(always)]
+            fn decode_all<R: Reader + Debug, const SUMS: bool>(mut text: R, encoding: Encoding) -> u64 {
                 let mut answers = Answers::default();
                 while !text.is_empty() {
                     let Ok(operation) = Operation::parse(&mut text, encoding) else {
@@ -185,6 +206,21 @@ macro_rules! works {
                     black_box(&pieces);
                 }
                 answers.total()
+            }
+
+            pub fn over_slices<const SUMS: bool>(cases: &[Case], times: u32) -> u64 {
+                all(cases, times, over_slice::<SUMS>)
+            }
+
+            #[inline(never)]
+            fn over_slice<const SUMS: bool>(case: &Case) -> u64 {
+                let mut evaluation = Evaluation::new($reader(case.slice()), encoding_of(case));
+                let nothing = || {
+                    let mut text = $reader(case.slice());
+                    text.empty();
+                    text
+                };
+                evaluate::<_, _, SUMS>(&mut evaluation, nothing).total()
             }
 
             pub fn over_shared<const SUMS: bool>(cases: &[Case], times: u32) -> u64 {
@@ -287,12 +323,14 @@ macro_rules! row {
     };
 }
 
-const ROWS: [Row; 6] = [
+const ROWS: [Row; 8] = [
     row!("decode": decode, ours::decode),
     row!("evaluate on the heap": on_heap, ours::on_heap),
     row!("on the heap, by `result`": by_result, ours::by_result),
     row!("restarted on the heap": on_heap, restarted),
     row!("evaluate in arrays": in_arrays, ours::in_arrays),
+    row!("decode, over gimli's `EndianSlice`": decode_slices, ours::decode_slices),
+    row!("on the heap, over gimli's `EndianSlice`": over_slices, ours::over_slices),
     row!("on the heap, over `EndianArcSlice`": over_shared, ours::over_shared),
 ];
 
@@ -421,7 +459,8 @@ fn print_times(side: &str, rows: &[Row], lists: &[List]) {
     for row in rows {
         print!("| {} |", row.name);
         for (_, cases) in lists {
-            let items = if row.name == "decode" { theirs::decode::<false>(cases, 1) } else { cases.len() as u64 };
+            let items =
+                if row.name.starts_with("decode") { theirs::decode::<false>(cases, 1) } else { cases.len() as u64 };
             for times in [1, 16] {
                 print!(" {} |", time(row.timed, cases, times, items * u64::from(times)));
             }

@@ -2,8 +2,8 @@
 
 use crate::contracts::{Precondition, commented, is_in_word};
 use std::collections::BTreeSet;
+use std::fs;
 use std::path::{Path, PathBuf};
-use std::{env, fs};
 
 /// The length of the tokens at the beginning of a text, with white space and contracts between them. `None` if the text
 /// begins with other tokens.
@@ -43,14 +43,12 @@ fn replace(text: &mut String, old: &str, new: &str) -> usize {
 }
 
 pub fn read(path: &Path) -> String {
-    println!("cargo::rerun-if-changed={}", path.display());
     let text = fs::read_to_string(path).unwrap_or_else(|error| panic!("{}: {error}", path.display()));
     text.replace("\r\n", "\n")
 }
 
 /// The files with an extension in a folder and its subfolders, in order, without an editor's such as `.#lib.rt`.
 pub fn files_in(folder: &Path, extension: &str) -> Vec<PathBuf> {
-    println!("cargo::rerun-if-changed={}", folder.display());
     let entries = fs::read_dir(folder).unwrap_or_else(|error| panic!("{}: {error}", folder.display()));
     let mut paths: Vec<_> = entries.map(|it| it.expect("the folder is read").path()).collect();
     paths.sort();
@@ -84,9 +82,9 @@ pub struct Sources {
 }
 
 impl Sources {
-    /// Reads the sources in the folder `crates`, except those whose paths there begin with one of `left_out`.
-    pub fn read(top: &str, crates: &'static [(&str, &str)], left_out: &[&str]) -> Self {
-        let top = Path::new(&env::var_os("CARGO_MANIFEST_DIR").expect("Cargo sets it")).join(top);
+    /// Reads the sources in the folder `crates` of the repository at `top`, except those whose paths there begin with
+    /// one of `left_out`.
+    pub fn read(top: &Path, crates: &'static [(&str, &str)], left_out: &[&str]) -> Self {
         let mut sources = Vec::new();
         for (name, module) in crates {
             let folder = top.join("crates").join(name).join("src");
@@ -99,11 +97,11 @@ impl Sources {
                 let path = format!("crates/{path}");
                 let is_root = place.ends_with("lib.rt") || place.ends_with("main.rt");
                 let place = if is_root { Path::new("mod.rs") } else { &place.with_extension("rs") };
-                let (text, preconditions) = commented(&read(&file));
+                let (text, preconditions) = commented(&read(&file)).unwrap_or_else(|why| panic!("{path}: {why}"));
                 sources.push(Source { path, module, place: place.to_owned(), text, preconditions });
             }
         }
-        Sources { top, crates, all: sources }
+        Sources { top: top.to_owned(), crates, all: sources }
     }
 
     /// Checks that the preconditions are those in a file. Each line there has a precondition, a colon, and the
@@ -147,22 +145,17 @@ impl Sources {
         self.all.iter_mut().filter(|it| is_one(it)).map(|it| replace(&mut it.text, old, new)).sum()
     }
 
-    /// Writes the module `sources`. It allows rustc and clippy what `allowed` says, and adds an import to each file.
-    /// Paths begin at the module that a crate becomes; `$crate` is the package's root.
-    pub fn write(mut self, allowed: &str, import: &str) {
-        let out = PathBuf::from(env::var_os("OUT_DIR").expect("Cargo sets it"));
+    /// Writes the module `sources` into a folder of this name. It allows rustc and clippy what `allowed` says, and adds
+    /// an import to each file. Paths begin at the module that a crate becomes; `$crate` is the package's root.
+    pub fn write(mut self, folder: &Path, allowed: &str, import: &str) {
         for Source { module, place, text, .. } in &mut self.all {
             replace(text, "crate::", &format!("$crate::sources::{module}::"));
             for (name, module) in self.crates {
                 replace(text, &format!("{name}::"), &format!("$crate::sources::{module}::"));
             }
-            write(
-                &out.join("sources").join(module).join(place),
-                &format!("{}{import}\n", text.replace("$crate", "crate")),
-            );
+            write(&folder.join(module).join(place), &format!("{}{import}\n", text.replace("$crate", "crate")));
         }
         let modules: String = self.crates.iter().map(|it| format!("pub mod {};\n", it.1)).collect();
-        write(&out.join("sources/mod.rs"), &format!("{allowed}\n\n{modules}"));
-        write(&out.join("lib.rs"), "mod sources;\n");
+        write(&folder.join("mod.rs"), &format!("{allowed}\n\n{modules}"));
     }
 }

@@ -3,14 +3,19 @@
 //!     cargo run --features gimli --example variables -- PROGRAM CFA
 //!
 //! PROGRAM is a 64-bit little-endian ELF file with uncompressed debug information, and CFA a hexadecimal number. gimli
-//! reads the units, and dwexpr evaluates the expressions. There is no process: if an expression asks for a register or
-//! for memory, that request is printed.
+//! reads the units, and dwexpr evaluates the expressions; those with floating point, gimli. There is no process: if an
+//! expression asks for a register or for memory, that request is printed.
 
-use dwexpr::{DieReference, Error, Evaluation, EvaluationResult, GimliReader, Location, Piece, ValueType};
+// A program of yours names it gimli.
+extern crate gimli_0_34 as gimli;
+
+use dwexpr::gimli_0_34::{Answer, Settings, evaluate_with_floats};
+use dwexpr::{DieReference, Error, EvaluationResult, GimliReader, ReaderOffset as _};
 // `EndianArcSlice` and `EndianRcSlice` would do as well.
 use gimli::EndianSlice as Bytes;
 use gimli::{
-    AttributeValue, DebuggingInformationEntry, DwAt, EntriesTreeNode, LittleEndian, Reader, ReaderOffset, Section,
+    AttributeValue, DebuggingInformationEntry, DwAt, EntriesTreeNode, LittleEndian, Location, Piece, Reader,
+    ReaderOffset as _, Section, StoreOnHeap, ValueType,
 };
 use std::process::ExitCode;
 
@@ -49,59 +54,64 @@ struct Unit<'a, R: Reader> {
     cfa: u64,
 }
 
-/// The outcome of an expression, or the request that only a process can answer.
-enum Outcome<R: Reader> {
-    Pieces(Vec<Piece<GimliReader<R>>>),
+/// Why an expression gives no pieces.
+enum Stop {
+    /// Only a process can answer the request.
     Needs(String),
+    Failed(gimli::Error),
+}
+
+impl From<gimli::Error> for Stop {
+    fn from(error: gimli::Error) -> Stop {
+        Stop::Failed(error)
+    }
+}
+
+impl From<Error> for Stop {
+    fn from(error: Error) -> Stop {
+        Stop::Failed(error.into())
+    }
 }
 
 impl<R: Reader> Unit<'_, R> {
-    fn evaluate(&self, bytes: R, frame_base: Option<&R>) -> gimli::Result<Outcome<R>> {
-        let mut evaluation = Evaluation::new(GimliReader(bytes), self.unit.encoding().into());
-        evaluation.set_max_iterations(10_000);
-        let mut result = evaluation.evaluate()?;
-        loop {
-            result = match result {
-                EvaluationResult::Complete => return Ok(Outcome::Pieces(evaluation.result())),
-                EvaluationResult::RequiresCallFrameCfa => evaluation.resume_with_call_frame_cfa(self.cfa)?,
-                EvaluationResult::RequiresFrameBase => {
-                    let Some(bytes) = frame_base else { return Ok(Outcome::Needs("a frame base".into())) };
-                    match self.evaluate(bytes.clone(), None)? {
-                        Outcome::Pieces(pieces) => match pieces[..] {
-                            [Piece { location: Location::Address { address }, .. }] => {
-                                evaluation.resume_with_frame_base(address)?
-                            }
-                            _ => return Ok(Outcome::Needs(format!("the frame base {}", shown(pieces)?))),
-                        },
-                        needs => return Ok(needs),
-                    }
+    fn evaluate(&self, bytes: R, frame_base: Option<&R>) -> Result<Vec<Piece<R>>, Stop> {
+        let settings = Settings { max_iterations: Some(10_000), ..Settings::default() };
+        let answer = |request| self.answer(request, frame_base);
+        let outcome = evaluate_with_floats::<StoreOnHeap, _, _>(bytes, self.unit.encoding(), settings, answer)?;
+        Ok(outcome.into_pieces())
+    }
+
+    fn answer(&self, request: EvaluationResult<GimliReader<R>>, frame_base: Option<&R>) -> Result<Answer<R>, Stop> {
+        Ok(match request {
+            EvaluationResult::RequiresCallFrameCfa => Answer::Address(self.cfa),
+            EvaluationResult::RequiresFrameBase => {
+                let bytes = frame_base.ok_or_else(|| Stop::Needs("a frame base".into()))?;
+                match &self.evaluate(bytes.clone(), None)?[..] {
+                    [Piece { location: Location::Address { address }, .. }] => Answer::Address(*address),
+                    pieces => return Err(Stop::Needs(format!("the frame base {}", shown(pieces)?))),
                 }
-                // The program is at the addresses for which it was linked.
-                EvaluationResult::RequiresRelocatedAddress(address) => {
-                    evaluation.resume_with_relocated_address(address)?
-                }
-                EvaluationResult::RequiresIndexedAddress { index, .. } => {
-                    evaluation.resume_with_indexed_address(self.dwarf.address(&self.unit, index.into())?)?
-                }
-                EvaluationResult::RequiresBaseType(offset) if offset.0.0.into_u64() == 0 => {
-                    evaluation.resume_with_base_type(ValueType::Generic)?
-                }
-                EvaluationResult::RequiresBaseType(offset) => {
-                    let value_type = gimli::ValueType::from_entry(&self.unit.entry(offset.into())?)?;
-                    let value_type = value_type.ok_or(Error::UnsupportedTypeOperation)?;
-                    evaluation.resume_with_base_type(value_type.try_into()?)?
-                }
-                EvaluationResult::RequiresAtLocation(DieReference::UnitRef(offset)) => {
-                    let location = attribute(&self.unit.entry(offset.into())?, gimli::DW_AT_location);
-                    let called = match location {
-                        Some(AttributeValue::Exprloc(expression)) => expression.0,
-                        _ => self.nothing(),
-                    };
-                    evaluation.resume_with_at_location(GimliReader(called))?
-                }
-                other => return Ok(Outcome::Needs(format!("{other:?}"))),
             }
-        }
+            // The program is at the addresses for which it was linked.
+            EvaluationResult::RequiresRelocatedAddress(address) => Answer::Address(address),
+            EvaluationResult::RequiresIndexedAddress { index, .. } => {
+                Answer::Address(self.dwarf.address(&self.unit, index.into())?)
+            }
+            EvaluationResult::RequiresBaseType(offset) if offset.0.into_u64() == 0 => {
+                Answer::BaseType(ValueType::Generic)
+            }
+            EvaluationResult::RequiresBaseType(offset) => {
+                let value_type = ValueType::from_entry(&self.unit.entry(offset.into())?)?;
+                Answer::BaseType(value_type.ok_or(Error::UnsupportedTypeOperation)?)
+            }
+            EvaluationResult::RequiresAtLocation(DieReference::UnitRef(offset)) => {
+                let location = attribute(&self.unit.entry(offset.into())?, gimli::DW_AT_location);
+                Answer::Expression(match location {
+                    Some(AttributeValue::Exprloc(expression)) => expression.0,
+                    _ => self.nothing(),
+                })
+            }
+            other => return Err(Stop::Needs(format!("{other:?}"))),
+        })
     }
 
     fn nothing(&self) -> R {
@@ -153,23 +163,23 @@ impl<R: Reader> Unit<'_, R> {
 
     fn location(&self, bytes: R, frame_base: Option<&R>) -> gimli::Result<String> {
         match self.evaluate(bytes, frame_base) {
-            Ok(Outcome::Pieces(pieces)) => shown(pieces),
-            Ok(Outcome::Needs(request)) => Ok(format!("needs {request}")),
-            Err(error) => Ok(format!("error: {error}")),
+            Ok(pieces) => shown(&pieces),
+            Err(Stop::Needs(request)) => Ok(format!("needs {request}")),
+            Err(Stop::Failed(error)) => Ok(format!("error: {error}")),
         }
     }
 }
 
-fn shown<R: Reader>(pieces: Vec<Piece<GimliReader<R>>>) -> gimli::Result<String> {
-    let shown = pieces.into_iter().map(|piece| {
-        let place = match piece.location {
+fn shown<R: Reader>(pieces: &[Piece<R>]) -> gimli::Result<String> {
+    let shown = pieces.iter().map(|piece| {
+        let place = match &piece.location {
             Location::Empty => "nowhere".into(),
             Location::Register { register } => format!("in register {}", register.0),
             Location::Address { address } => format!("at {address:#x}"),
             Location::Value { value } => format!("the value {value:?}"),
             Location::Bytes { value } => format!("the bytes {:?}", value.to_slice()?),
             Location::ImplicitPointer { value, byte_offset } => {
-                format!("a pointer to byte {byte_offset} of the object at {:#x} of .debug_info", value.0.0.into_u64())
+                format!("a pointer to byte {byte_offset} of the object at {:#x} of .debug_info", value.0.into_u64())
             }
         };
         Ok(match piece.size_in_bits {

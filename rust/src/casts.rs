@@ -1,36 +1,38 @@
 //! Casts between signed and unsigned integers of the same size, as the proved sources use them. std has them from Rust
-//! 1.87 on.
+//! 1.87 on, and then its own are called.
+
+#![allow(dead_code)]
 
 /// The signed integer with the same bits.
-pub(crate) trait IntoSigned {
+pub(crate) trait CastSigned {
     type Signed;
 
-    fn into_signed(self) -> Self::Signed;
+    fn cast_signed(self) -> Self::Signed;
 }
 
 /// The unsigned integer with the same bits.
-pub(crate) trait IntoUnsigned {
+pub(crate) trait CastUnsigned {
     type Unsigned;
 
-    fn into_unsigned(self) -> Self::Unsigned;
+    fn cast_unsigned(self) -> Self::Unsigned;
 }
 
 macro_rules! casts {
     ($($unsigned:ident $signed:ident;)+) => {$(
-        impl IntoSigned for $unsigned {
+        impl CastSigned for $unsigned {
             type Signed = $signed;
 
-            #[inline(always)]
-            fn into_signed(self) -> $signed {
+            #[cfg_attr(not(debug_assertions), inline(always))]
+            fn cast_signed(self) -> $signed {
                 self as $signed
             }
         }
 
-        impl IntoUnsigned for $signed {
+        impl CastUnsigned for $signed {
             type Unsigned = $unsigned;
 
-            #[inline(always)]
-            fn into_unsigned(self) -> $unsigned {
+            #[cfg_attr(not(debug_assertions), inline(always))]
+            fn cast_unsigned(self) -> $unsigned {
                 self as $unsigned
             }
         }

@@ -4,7 +4,7 @@ use crate::Error;
 use core::fmt;
 
 macro_rules! descriptions {
-    ($type:ident: $($name:ident $(($x:ident))? $text:literal;)+) => {
+    ($type:ident: $($(@)? $name:ident $(($x:ident))? $text:literal;)+) => {
         impl $type {
             /// A short message. `Display` adds the number that the error carries.
             pub fn description(&self) -> &str {

@@ -128,11 +128,12 @@ impl<R: Reader, S: EvaluationStorage<R>> Evaluation<R, S> {
     }
 
     /// Sets the value with which the stack starts: the object's address, for `DW_AT_data_member_location` and
-    /// `DW_AT_vtable_elem_location`. If the encoding's addresses have 0 bytes or more than 8, it does nothing.
+    /// `DW_AT_vtable_elem_location`. If the encoding's addresses have 0 bytes or more than 8, it does nothing, however
+    /// often it is called, since the evaluation has failed.
     ///
     /// # Panics
     ///
-    /// If it was called before, or after `evaluate`.
+    /// If it was called before, or after `evaluate`, and addresses have 1 to 8 bytes.
     #[track_caller]
     pub fn set_initial_value(&mut self, value: u64) {
         match self.status() {
@@ -164,7 +165,7 @@ impl<R: Reader, S: EvaluationStorage<R>> Evaluation<R, S> {
     /// # Panics
     ///
     /// If a request is open. Call its resume.
-    #[inline(always)]
+    #[cfg_attr(not(debug_assertions), inline(always))]
     #[track_caller]
     pub fn evaluate(&mut self) -> Result<EvaluationResult<R>> {
         if let Status::Waiting(kind) = self.status() {
@@ -231,7 +232,7 @@ macro_rules! checked_resumes {
                 /// # Panics
                 ///
                 /// If no such request is open, and there was no fault.
-                #[inline(always)]
+                #[cfg_attr(not(debug_assertions), inline(always))]
                 #[track_caller]
                 pub fn $name(&mut self, $argument: $type) -> Result<EvaluationResult<R>> {
                     if !self.is_open_for(WaitingKind::$kind) {

@@ -40,7 +40,7 @@ impl<R: Reader> Evaluation<R> {
     /// # Panics
     ///
     /// If the evaluation isn't complete.
-    #[inline(always)]
+    #[cfg_attr(not(debug_assertions), inline(always))]
     #[track_caller]
     pub fn result(self) -> Vec<Piece<R>> {
         self.assert_complete("result");
@@ -75,7 +75,7 @@ impl<R: Reader> Evaluation<R> {
 
 /// A copy of the only piece, if it has no reader. It copies field by field and doesn't move the evaluation; otherwise
 /// libc and libm take 20% of gimli's time longer.
-#[inline(always)]
+#[cfg_attr(not(debug_assertions), inline(always))]
 fn copy_of_only<R: Reader>(pieces: &[Piece<R>]) -> Option<Piece<R>> {
     let [Piece { size_in_bits, bit_offset, location }] = pieces else { return None };
     let location = match *location {
@@ -101,7 +101,7 @@ impl<T: Clone> ArrayLike for Vec<T> {
 }
 
 impl<T: Clone> From<Vec<T>> for OneInLine<T, Vec<T>> {
-    #[inline(always)]
+    #[cfg_attr(not(debug_assertions), inline(always))]
     fn from(more: Vec<T>) -> Self {
         OneInLine::new(more)
     }

@@ -3,8 +3,8 @@
 //! out, so nothing is proved of this crate itself.
 //!
 //! The sources are in Rattle. It is proved that each of their calls returns, and gives what a separate specification
-//! says. The build script makes the module `sources` from them: it puts their contracts in comments, and replaces a few
-//! types, bounds, attributes and names. The rest is written by hand: it checks the preconditions of the calls, and adds
+//! says. The module `sources` is made from them: their contracts are put in comments, and a few types, bounds,
+//! attributes and names are replaced. The rest is written by hand: it checks the preconditions of the calls, and adds
 //! what else gimli's types have. Tests show that the crate does what is proved of the sources.
 //!
 //! ```
@@ -24,12 +24,14 @@
 //!
 //! - `alloc`, a default feature: lists on the heap. Without it the crate doesn't allocate, see [`StoreInSlices`].
 //! - `arrayvec`: an evaluation can keep its lists in arrays, see [`EvaluationStorage`].
-//! - `gimli`: `GimliReader` reads from any `gimli::Reader`, and the types of both crates convert. It is for gimli 0.34.
-//!   To Cargo any other version of gimli is another crate, whose readers don't work here.
+//! - `gimli-0_32`, `gimli-0_33`, `gimli-0_34`: the `GimliReader` in the module of that name reads from any
+//!   `gimli::Reader` of that version, and the types of both crates convert. They may be on together.
+//! - `gimli`: the newest of these, whose `GimliReader` is also [here](crate).
 //! - `small`: smaller code by `opt-level = "z"`.
 // Its unit test counts allocations, and so has an allocator.
 #![cfg_attr(not(test), no_std)]
 #![cfg_attr(not(test), forbid(unsafe_code))]
+#![cfg_attr(docsrs, feature(doc_cfg))]
 #![warn(missing_docs)]
 
 #[cfg(feature = "alloc")]
@@ -38,7 +40,7 @@ extern crate alloc;
 #[cfg(not(test))]
 extern crate core as std;
 
-// The module `sources`, which the build script writes. Each line has the same number as in the proved source.
+// Each line has the same number as in the proved source.
 include!(concat!(env!("OUT_DIR"), "/lib.rs"));
 
 #[macro_use]
@@ -47,23 +49,26 @@ include!(concat!(env!("OUT_DIR"), "/lib.rs"));
 mod lists;
 
 mod casts;
-#[cfg(feature = "gimli")]
-mod conversions;
-// It implements sealed traits. The rows that it runs over aren't in a package.
-#[cfg(all(test, rows, feature = "alloc", target_pointer_width = "64"))]
+// It implements sealed traits.
+#[cfg(all(test, feature = "alloc", target_pointer_width = "64"))]
 #[path = "../tests/cost.rs"]
 mod cost;
 mod errors;
 mod evaluation;
+#[cfg(feature = "gimli-0_32")]
+pub mod gimli_0_32;
+#[cfg(feature = "gimli-0_33")]
+pub mod gimli_0_33;
+#[cfg(feature = "gimli-0_34")]
+pub mod gimli_0_34;
 #[cfg(feature = "alloc")]
 mod heap;
-#[cfg(feature = "gimli")]
-mod interop;
+#[cfg(all(test, feature = "alloc"))]
+#[path = "../tests/lists.rs"]
+mod long_lists;
 mod names;
 mod operations;
 mod orders;
-#[cfg(feature = "gimli")]
-mod requests;
 mod slices;
 mod storage;
 #[cfg(feature = "alloc")]
@@ -78,10 +83,10 @@ pub mod constants {
 
 /// Decoding and evaluation.
 pub mod read {
+    #[cfg(feature = "gimli")]
+    pub use crate::gimli_0_34::{GimliOffset, GimliReader};
     #[cfg(feature = "alloc")]
     pub use crate::heap::StoreOnHeap;
-    #[cfg(feature = "gimli")]
-    pub use crate::interop::{GimliOffset, GimliReader};
     pub use crate::sources::base::{EndianSlice, Error, Reader, ReaderOffset, ReaderOffsetId, Result, UnitOffset};
     pub use crate::sources::eval::eval::{Evaluation, Status, WaitingKind};
     pub use crate::sources::eval::op::{

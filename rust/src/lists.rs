@@ -1,6 +1,7 @@
 //! Macros that pass all operations, replies, resumes and errors to another macro.
 
-/// Passes all operations with their fields to a macro, in gimli's order. A name in brackets is a reader.
+/// Passes all operations with their fields to a macro; after `@` are those that gimli 0.32 lacks. A name in brackets
+/// is a reader.
 macro_rules! operations {
     ($macro:ident) => {
         $macro! { Operation:
@@ -8,24 +9,26 @@ macro_rules! operations {
             Or, Plus, PlusConstant { value }, Shl, Shr, Shra, Xor, Bra { target }, Eq, Ge, Gt, Le, Lt, Ne,
             Skip { target }, UnsignedConstant { value }, SignedConstant { value }, Register { register },
             RegisterOffset { register offset base_type }, FrameOffset { offset }, Nop, PushObjectAddress,
-            Call { offset }, VariableValue { offset }, TLS, CallFrameCFA, Piece { size_in_bits bit_offset },
+            Call { offset }, TLS, CallFrameCFA, Piece { size_in_bits bit_offset },
             ImplicitValue [data], StackValue, ImplicitPointer { value byte_offset }, EntryValue [expression],
             ParameterRef { offset }, Address { address }, AddressIndex { index }, ConstantIndex { index },
-            TypedLiteral { base_type } [value], Convert { base_type }, Reinterpret { base_type }, Uninitialized,
-            WasmLocal { index }, WasmGlobal { index }, WasmStack { index },
+            TypedLiteral { base_type } [value], Convert { base_type }, Reinterpret { base_type }, WasmLocal { index },
+            WasmGlobal { index }, WasmStack { index },
+            @ VariableValue { offset }, Uninitialized,
         }
     };
 }
 
-/// Passes all replies of an evaluation to a macro, with the fields of each.
+/// Passes all replies of an evaluation to a macro, with the fields of each; after `@` are those that gimli
+/// 0.32 lacks.
 macro_rules! replies {
     ($macro:ident) => {
         $macro! { EvaluationResult:
             Complete, RequiresMemory { address size space base_type }, RequiresRegister { register base_type },
-            RequiresWasmLocal { index }, RequiresWasmGlobal { index }, RequiresWasmStack { index }, RequiresFrameBase,
-            RequiresTls(x), RequiresCallFrameCfa, RequiresAtLocation(x), RequiresEntryValue(x),
+            RequiresFrameBase, RequiresTls(x), RequiresCallFrameCfa, RequiresAtLocation(x), RequiresEntryValue(x),
             RequiresParameterRef(x), RequiresRelocatedAddress(x), RequiresIndexedAddress { index relocate },
             RequiresBaseType(x),
+            @ RequiresWasmLocal { index }, RequiresWasmGlobal { index }, RequiresWasmStack { index },
         }
     };
 }
@@ -63,7 +66,7 @@ macro_rules! resumes {
     };
 }
 
-/// Passes all errors to a macro, each with its message.
+/// Passes all errors to a macro, each with its message; after `@` is the one that gimli 0.32 lacks.
 macro_rules! errors {
     ($macro:ident) => {
         $macro! { Error:
@@ -74,7 +77,6 @@ macro_rules! errors {
             UnsupportedOffset "an offset is too large";
             UnsupportedRegister(x) "a register's number is too large";
             InvalidExpression(x) "the opcode is unknown";
-            InvalidPieceSize(x) "a piece of this size in bytes is too large";
             UnsupportedTypeOperation "the operation isn't defined for values of this type";
             TypeMismatch "two values have different types";
             DivisionByZero "division by zero";
@@ -88,6 +90,7 @@ macro_rules! errors {
             InvalidPiece "the last piece is missing";
             InvalidExpressionTerminator(x) "a location is followed by another operation than a piece";
             StackFull "a list is full, or memory is refused";
+            @ InvalidPieceSize(x) "a piece of this size in bytes is too large";
         }
     };
 }

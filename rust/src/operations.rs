@@ -4,7 +4,7 @@ use crate::{Operation, Reader};
 use core::fmt;
 
 macro_rules! debug {
-    ($type:ident: $($name:ident $({ $($field:ident)+ })? $([$reader:ident])?,)+) => {
+    ($type:ident: $($(@)? $name:ident $({ $($field:ident)+ })? $([$reader:ident])?,)+) => {
         impl<R: Reader + fmt::Debug, O: fmt::Debug> fmt::Debug for $type<R, O> {
             fn fmt(&self, f: &mut fmt::Formatter<'_>) -> fmt::Result {
                 match self {

@@ -6,17 +6,17 @@ use alloc::vec::Vec;
 impl<T: Clone> List for Vec<T> {
     type Item = T;
 
-    #[inline(always)]
+    #[cfg_attr(not(debug_assertions), inline(always))]
     fn as_slice(&self) -> &[T] {
         Vec::as_slice(self)
     }
 
-    #[inline(always)]
+    #[cfg_attr(not(debug_assertions), inline(always))]
     fn pop(&mut self) -> Option<T> {
         Vec::pop(self)
     }
 
-    #[inline(always)]
+    #[cfg_attr(not(debug_assertions), inline(always))]
     fn push(&mut self, item: T) -> Result<(), T> {
         if self.len() == self.capacity() && !grow(self) {
             return Err(item);

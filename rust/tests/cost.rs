@@ -21,7 +21,7 @@ use std::hint::black_box;
 use std::path::Path;
 use std::{env, fs};
 
-#[path = "../../program/tests/rows/json.rs"]
+#[path = "../../tests/conformance/src/json.rs"]
 #[allow(dead_code, reason = "the tests of rows call more of it")]
 mod json;
 

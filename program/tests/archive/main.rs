@@ -6,20 +6,14 @@
 #![cfg(archive)]
 
 mod calls;
-// They are also for the tests of the rows.
-#[allow(dead_code)]
-#[path = "../rows/cases.rs"]
 mod cases;
-#[allow(dead_code)]
-#[path = "../rows/decoded.rs"]
 mod decoded;
-#[allow(dead_code)]
-#[path = "../rows/json.rs"]
+#[path = "../../../tests/conformance/src/json.rs"]
 mod json;
-#[allow(dead_code)]
-#[path = "../rows/lines.rs"]
 mod lines;
 mod made_up;
+#[path = "../rows/rows.rs"]
+mod rows;
 mod shown;
 
 use calls::{Answer, Held, MAX_CALLERS, MAX_PIECES, MAX_VALUES, Outcome, Settings, decode};

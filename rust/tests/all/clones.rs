@@ -1,12 +1,12 @@
 //! An evaluation that is restarted drops every reader that it had, whichever lists it has.
 
+use super::gimli::{EndianArcSlice, LittleEndian};
 use super::interop::ENCODING;
 use super::readers::{clones_of, own};
 use dwexpr::EvaluationResult::*;
 use dwexpr::{
     ArrayLike, Encoding, Evaluation, EvaluationStorage, GimliReader, Location, Piece, SliceVec, Value, ValueType,
 };
-use gimli::{EndianArcSlice, LittleEndian};
 use std::array;
 use std::marker::PhantomData;
 use std::sync::Arc;

@@ -3,7 +3,8 @@
 use super::{ENCODING, evaluation, little, panics};
 use dwexpr::EvaluationResult::*;
 use dwexpr::{
-    Encoding, EndianSlice, Error, Evaluation, Expression, LittleEndian, Reader, RunTimeEndian, Status, Value,
+    Encoding, EndianSlice, Error, Evaluation, Expression, LittleEndian, Operation, Reader, RunTimeEndian, Status,
+    Value, ValueType, WaitingKind,
 };
 
 #[test]
@@ -28,6 +29,77 @@ fn a_call_out_of_turn_panics() {
     let mut addr = Evaluation::new(little(&[0x03, 1, 2, 3]), Encoding { address_size: 3, ..ENCODING });
     assert_eq!(addr.evaluate(), Err(Error::UnsupportedAddressSize(3)));
     assert!(panics(|| addr.set_initial_value(1)) && panics(|| addr.try_result()));
+}
+
+/// An expression that asks for each kind of answer.
+const ASKING: [(WaitingKind, &[u8]); 12] = [
+    (WaitingKind::Memory, &[0x31, 0x06]),
+    (WaitingKind::Register, &[0x70, 0]),
+    (WaitingKind::WasmValue, &[0xed, 0, 1]),
+    (WaitingKind::EntryValue, &[0xa3, 1, 0x50]),
+    (WaitingKind::FrameBase, &[0x91, 0]),
+    (WaitingKind::Tls, &[0x31, 0x9b]),
+    (WaitingKind::CallFrameCfa, &[0x9c]),
+    (WaitingKind::ParameterRef, &[0xfa, 1, 0, 0, 0]),
+    (WaitingKind::RelocatedAddress, &[0x03, 1, 0, 0, 0, 0, 0, 0, 0]),
+    (WaitingKind::IndexedAddress, &[0xa1, 1]),
+    (WaitingKind::AtLocation, &[0x31, 0x98, 1, 0]),
+    (WaitingKind::BaseType, &[0x31, 0xa8, 1]),
+];
+
+type Little<'a> = EndianSlice<'a, LittleEndian>;
+type Call = fn(&mut Evaluation<Little<'static>>);
+
+/// Each resume, after the kind that it answers.
+const RESUMES: [(WaitingKind, Call); 12] = [
+    (WaitingKind::Memory, |it| _ = it.resume_with_memory(Value::Generic(1))),
+    (WaitingKind::Register, |it| _ = it.resume_with_register(Value::Generic(1))),
+    (WaitingKind::WasmValue, |it| _ = it.resume_with_wasm_value(Value::Generic(1))),
+    (WaitingKind::EntryValue, |it| _ = it.resume_with_entry_value(Value::Generic(1))),
+    (WaitingKind::FrameBase, |it| _ = it.resume_with_frame_base(1)),
+    (WaitingKind::Tls, |it| _ = it.resume_with_tls(1)),
+    (WaitingKind::CallFrameCfa, |it| _ = it.resume_with_call_frame_cfa(1)),
+    (WaitingKind::ParameterRef, |it| _ = it.resume_with_parameter_ref(1)),
+    (WaitingKind::RelocatedAddress, |it| _ = it.resume_with_relocated_address(1)),
+    (WaitingKind::IndexedAddress, |it| _ = it.resume_with_indexed_address(1)),
+    (WaitingKind::AtLocation, |it| _ = it.resume_with_at_location(little(&[]))),
+    (WaitingKind::BaseType, |it| _ = it.resume_with_base_type(ValueType::Generic)),
+];
+
+/// The calls that no request allows.
+const OTHERS: [Call; 5] = [
+    |it| _ = it.evaluate(),
+    |it| it.set_initial_value(1),
+    |it| _ = it.value_result(),
+    |it| _ = it.as_result().len(),
+    |it| _ = std::mem::replace(it, evaluation(&[])).try_result(),
+];
+
+#[test]
+fn a_request_allows_its_own_resume_alone() {
+    for (kind, text) in ASKING {
+        let asking = || {
+            let mut it = evaluation(text);
+            assert!(it.evaluate().is_ok_and(|reply| reply != Complete), "{kind:?}");
+            assert_eq!(it.status(), Status::Waiting(kind));
+            it
+        };
+        for (other, resume) in RESUMES {
+            let mut it = asking();
+            assert_eq!(it.is_open_for(other), other == kind, "{kind:?}, {other:?}");
+            assert_eq!(panics(|| resume(&mut it)), other != kind, "{kind:?}, {other:?}");
+            // The open request is still there, and its answer ends the evaluation.
+            assert_eq!(it.status(), if other == kind { Status::Complete } else { Status::Waiting(kind) });
+            // At the end, and before the start, no resume is in turn.
+            let mut ended = asking();
+            RESUMES.iter().filter(|it| it.0 == kind).for_each(|it| it.1(&mut ended));
+            assert!(panics(|| resume(&mut ended)) && ended.status() == Status::Complete, "{kind:?}, {other:?}");
+            assert!(panics(|| resume(&mut evaluation(text))), "{kind:?}, {other:?}");
+        }
+        for (at, call) in OTHERS.iter().enumerate() {
+            assert!(panics(|| call(&mut asking())), "{kind:?}, call {at}");
+        }
+    }
 }
 
 /// No call that makes an evaluation sets a maximum: each can evaluate more than a million operations.
@@ -92,4 +164,12 @@ fn an_evaluation_is_shown_and_crosses_threads() {
 fn an_evaluation_on_the_heap_takes_some_300_bytes() {
     assert_eq!(size_of::<Evaluation<EndianSlice<LittleEndian>>>(), 288);
     assert_eq!(size_of::<Evaluation<EndianSlice<RunTimeEndian>>>(), 304);
+}
+
+/// docs/DIFFERENCES.md gives these sizes.
+#[test]
+#[cfg(target_pointer_width = "64")]
+fn an_operation_takes_32_or_40_bytes() {
+    assert_eq!(size_of::<Operation<EndianSlice<LittleEndian>>>(), 32);
+    assert_eq!(size_of::<Operation<EndianSlice<RunTimeEndian>>>(), 40);
 }

@@ -1,17 +1,21 @@
 //! What gimli's own tests don't show: calls out of turn, storages, a user's readers, errors.
 
 #[cfg(feature = "gimli")]
-mod clones;
+extern crate gimli_0_34 as gimli;
+
 mod ends;
 mod evaluations;
 mod generic;
+// The modules of versions have the same files.
+#[cfg(feature = "gimli-0_32")]
+#[allow(clippy::duplicate_mod)]
+mod gimli_0_32;
+#[cfg(feature = "gimli-0_34")]
+#[allow(clippy::duplicate_mod)]
+mod gimli_0_34;
 mod integers;
-#[cfg(feature = "gimli")]
-mod interop;
 mod plain;
 mod ranges;
-#[cfg(feature = "gimli")]
-mod readers;
 mod reading;
 mod storages;
 

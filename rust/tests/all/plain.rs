@@ -7,7 +7,9 @@ use dwexpr::{
 };
 use std::collections::HashSet;
 use std::fmt::Debug;
+use std::fs;
 use std::hash::{BuildHasher, BuildHasherDefault, DefaultHasher, Hash};
+use std::path::Path;
 
 /// Each error, and its message.
 pub const ERRORS: &[(Error, &str)] = &[
@@ -36,8 +38,12 @@ pub const ERRORS: &[(Error, &str)] = &[
 
 #[test]
 fn each_error_says_what_it_is() {
-    let variants = include_str!("../../../crates/dwarf_base/src/errors.rt").lines();
-    assert_eq!(ERRORS.len(), variants.filter(|it| it.starts_with("    ") && !it.contains("//")).count());
+    // In the repository, and in a package.
+    let sources = ["crates/dwarf_base/src/errors.rt", "src/sources/base/errors.rs"];
+    let source = sources.iter().find_map(|it| fs::read_to_string(Path::new(env!("CARGO_MANIFEST_DIR")).join(it)).ok());
+    let source = source.expect("the errors are in a source");
+    let variants = source.lines().filter(|it| it.starts_with("    ") && !it.contains("//"));
+    assert_eq!(ERRORS.len(), variants.count());
     for (error, text) in ERRORS {
         let source: &dyn std::error::Error = error;
         assert_eq!(source.to_string(), *text);

@@ -1,6 +1,6 @@
 //! A reader that implements gimli's trait as a user's does, and so is neither of gimli's.
 
-use gimli::{EndianSlice, Format, LittleEndian, Reader, ReaderOffsetId, Result};
+use super::gimli::{self, EndianSlice, Format, LittleEndian, Reader, ReaderOffsetId, Result};
 use std::borrow::Cow;
 use std::cell::Cell;
 

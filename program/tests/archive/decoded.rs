@@ -1,9 +1,7 @@
-//! Decodes the operation of a vector, and compares every field.
+//! The fields of a decoded operation, by their names in C.
 
-use crate::cases::Case;
-use crate::json::Json;
 use crate::lines::{bytes_of, fault};
-use dwexpr::{DieReference, Error, Operation, Reader, ReaderOffset, RunTimeEndian};
+use dwexpr::{DieReference, Error, Operation, Reader, ReaderOffset};
 use std::collections::BTreeMap;
 use std::fmt::Display;
 
@@ -68,60 +66,4 @@ pub fn fields_of<R: Reader>(operation: Operation<R>) -> Fields<'static> {
         // The vector's kind says which it is.
         _ => vec![],
     })
-}
-
-fn wanted_fields<'a>(vector: &'a Json, bytes: &[u8]) -> Fields<'a> {
-    let others = ["in", "bytes", "kind", "gimli"];
-    let members = vector.members().iter().filter(|it| !others.contains(&it.0.as_str()));
-    fields(members.map(|(name, it)| match it {
-        Json::List(block) => {
-            let [place, length] = [0, 1].map(|at| block[at].text().parse::<usize>().unwrap());
-            (name.as_str(), format!("{:x?}", &bytes[place..place + length]))
-        }
-        _ => field(name, it.text()),
-    }))
-}
-
-/// The case of a vector: an operation, or an evaluation by the steps of its input.
-pub fn case_of(vector: &Json) -> Case {
-    let text = |name| vector.get(name).map(Json::text);
-    let command = if vector.get("input").is_some() { "eval" } else { "ops" };
-    let words = [command].into_iter().chain(text("in").unwrap().split(' ')).chain(text("bytes"));
-    let wanted = match (text("output"), text("code"), text("detail")) {
-        (Some(output), ..) => output.into(),
-        (None, Some(code), None) => variant_of(code),
-        (None, Some(code), Some(detail)) => format!("{} {detail}", variant_of(code)),
-        (None, None, _) => variant_of(text("kind").unwrap()),
-    };
-    Case::of(words, text("input").unwrap_or(""), wanted).expect("the program takes its words")
-}
-
-/// Expects an operation before two bytes to be as its vector says, and each of its fronts to be cut off.
-pub fn assert_decoded<R: Reader>(vector: &Json, read: &impl Fn(&[u8], RunTimeEndian) -> R) {
-    let bits = vector.get("bits").map(Json::text);
-    if bits.is_some_and(|bits| bits != R::Offset::BITS.to_string()) {
-        return;
-    }
-    let Case { asked, wanted, .. } = case_of(vector);
-    let (encoding, order, mut bytes) = (asked.context.encoding, asked.context.order, asked.bytes.to_vec());
-    let length = bytes.len();
-    // An operation that is cut off has to be at the end.
-    if wanted != "UnexpectedEof" {
-        bytes.extend([0x96; 2]);
-    }
-    let text = read(&bytes, order);
-    let mut rest = text.clone();
-    match Operation::parse(&mut rest, encoding) {
-        Err(Error::UnsupportedOffset) if bits.is_none() && R::Offset::BITS == 32 => {}
-        Err(error) => assert_eq!(fault_of(error), wanted, "{vector:?}"),
-        Ok(operation) => {
-            assert_eq!(operation.name(), wanted, "{vector:?}");
-            assert_eq!(fields_of(operation), wanted_fields(vector, &bytes), "{vector:?}");
-            assert_eq!(rest.offset_from(&text).into_u64(), length as u64, "{vector:?}");
-            for front in 0..length {
-                let cut_off = Operation::parse(&mut read(&bytes[..front], order), encoding);
-                assert!(matches!(cut_off, Err(Error::UnexpectedEof(_))), "{front} bytes of {vector:?}");
-            }
-        }
-    }
 }

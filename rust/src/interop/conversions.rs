@@ -1,6 +1,7 @@
 //! Conversions between the arguments and results of evaluations here and in gimli.
 
-use crate::{Error, Expression, GimliReader, Location, Piece, Result};
+use super::{GimliReader, gimli};
+use crate::{Error, Expression, Location, Piece, Result};
 
 impl<R: gimli::Reader> From<gimli::Expression<R>> for Expression<GimliReader<R>> {
     #[inline]

@@ -1,16 +1,10 @@
 //! Each evaluation and each iterator ends, whatever the bytes are.
 
-use crate::cases::{Case, cases, vectors};
-use crate::decoded::case_of;
-use crate::lines::Reply;
-use crate::slice;
-use dwexpr::{
-    Encoding, Evaluation, EvaluationResult, Expression, Format, Reader, RunTimeEndian, Status, Value, ValueType,
-};
-use dwexpr_cli::parts::{DecodingContext, Step};
+use crate::{Case, Encoding, Step, cases, decodings, ours};
+use dwexpr::{EndianSlice, Evaluation, EvaluationResult, Expression, Reader, Result, Status, Value, ValueType};
 
 /// Answers a request by the generic value 0, the number 0, the text of a DW_OP_nop or the type `U8`.
-fn answered<R: Reader>(it: &mut Evaluation<R>, request: EvaluationResult<R>, nop: &R) -> Reply<R> {
+fn answered<R: Reader>(it: &mut Evaluation<R>, request: EvaluationResult<R>, nop: &R) -> Result<EvaluationResult<R>> {
     use EvaluationResult::*;
     let zero = Value::Generic(0);
     match request {
@@ -33,9 +27,10 @@ fn answered<R: Reader>(it: &mut Evaluation<R>, request: EvaluationResult<R>, nop
 }
 
 /// Evaluates with as many operations, and expects the end after as many answers at most.
-fn assert_ends(text: &[u8], encoding: Encoding, order: RunTimeEndian, maximum: u32) {
-    let nop = slice(&[0x96], order);
-    let mut it = Evaluation::new(slice(text, order), encoding);
+fn assert_ends(text: &[u8], encoding: Encoding, maximum: u32) {
+    let order = ours::order_of(encoding);
+    let nop = EndianSlice::new(&[0x96], order);
+    let mut it = Evaluation::new(EndianSlice::new(text, order), ours::encoding_of(encoding));
     it.set_max_iterations(maximum);
     let mut reply = it.evaluate();
     for _ in 0..maximum {
@@ -47,33 +42,36 @@ fn assert_ends(text: &[u8], encoding: Encoding, order: RunTimeEndian, maximum: u
 
 #[test]
 fn each_text_of_at_most_two_bytes_ends() {
-    let encoding = Encoding { address_size: 4, format: Format::Dwarf32, version: 4 };
+    let encoding = Encoding { address_size: 4, is_dwarf64: false, version: 4, is_big_endian: false };
     let bytes = || 0..=u8::MAX;
     let texts = bytes().flat_map(|first| bytes().map(move |second| vec![first, second]));
     let texts: Vec<_> = texts.chain(bytes().map(|byte| vec![byte])).chain([vec![]]).collect();
     assert_eq!(texts.len(), 65_793);
-    texts.iter().for_each(|text| assert_ends(text, encoding, RunTimeEndian::Little, 16));
+    texts.iter().for_each(|text| assert_ends(text, encoding, 16));
 }
 
 /// A case's texts: its own, and those that answer calls.
 fn texts(case: &Case) -> Vec<&[u8]> {
-    let called =
-        case.steps.iter().filter_map(|it| if let Step::AtLocation(text) = it { Some(text.slice()) } else { None });
-    called.chain([case.asked.bytes.as_slice()]).collect()
+    let called = case
+        .steps
+        .iter()
+        .flatten()
+        .filter_map(|it| if let Step::AtLocation(text) = it { Some(&text[..]) } else { None });
+    called.chain([&case.bytes[..]]).collect()
 }
 
 #[test]
 fn each_front_of_a_text_ends() {
-    let vectors = vectors("decode");
-    for case in cases().into_iter().map(|it| it.1).chain(vectors.iter().map(case_of)) {
-        // Cutting off a long text takes too long.
-        for text in texts(&case).iter().filter(|it| it.len() <= 1000) {
-            for front in (0..=text.len()).map(|length| &text[..length]) {
-                let DecodingContext { encoding, order } = case.asked.context;
-                let items = Expression(slice(front, order)).operations(encoding).take(front.len() + 1);
-                assert!(items.count() <= front.len(), "{front:x?}");
-                assert_ends(front, encoding, order, 1000);
-            }
+    let (cases, decodings) = (cases(), decodings());
+    let of_cases = cases.iter().flat_map(|case| texts(case).into_iter().map(|text| (text, case.encoding)));
+    let of_decodings = decodings.iter().map(|row| (&row.bytes[..], row.encoding));
+    // Cutting off a long text takes too long.
+    for (text, encoding) in of_cases.chain(of_decodings).filter(|it| it.0.len() <= 1000) {
+        for front in (0..=text.len()).map(|length| &text[..length]) {
+            let bytes = EndianSlice::new(front, ours::order_of(encoding));
+            let items = Expression(bytes).operations(ours::encoding_of(encoding)).take(front.len() + 1);
+            assert!(items.count() <= front.len(), "{front:x?}");
+            assert_ends(front, encoding, 1000);
         }
     }
 }

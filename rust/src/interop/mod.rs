@@ -1,5 +1,15 @@
-//! gimli's readers, and conversions between the types of both crates.
+//! gimli's readers, and conversions between the types of both crates. Each version of gimli has a module with a copy of
+//! this one, in whose scope `gimli` is that version.
 
+mod conversions;
+#[cfg(feature = "alloc")]
+mod floats;
+mod requests;
+
+#[cfg(feature = "alloc")]
+pub use floats::{Answer, Outcome, Settings, evaluate_with_floats};
+
+use super::gimli;
 use crate::{
     BigEndian, DebugAddrIndex, DebugInfoOffset, DieReference, DwAte, DwOp, Encoding, EndianSlice, Error, Format,
     LittleEndian, Reader, ReaderOffset, ReaderOffsetId, Register, Result, RunTimeEndian, UnitOffset, Value, ValueType,
@@ -14,7 +24,8 @@ use core::ops::Deref;
 /// one itself, for its caller.
 ///
 /// ```
-/// # #[cfg(feature = "alloc")] {
+/// # #[cfg(all(feature = "alloc", feature = "gimli"))] {
+/// # use gimli_0_34 as gimli;
 /// use dwexpr::{Evaluation, EvaluationResult, GimliReader};
 ///
 /// let encoding = gimli::Encoding { address_size: 8, format: gimli::Format::Dwarf32, version: 5 };
@@ -43,7 +54,8 @@ impl<R> Deref for GimliReader<R> {
 }
 
 /// An offset of one of gimli's readers, as an offset of this crate. `From` converts a [`UnitOffset`] of it to a
-/// `gimli::UnitOffset`, and so on.
+/// `gimli::UnitOffset`, and so on. No cast applies to it: for a number, write `.0 as u64`, or `.into_u64()` of
+/// [`ReaderOffset`].
 #[derive(Clone, Copy, PartialEq, Eq, PartialOrd, Ord, Hash)]
 pub struct GimliOffset<T>(pub T);
 
@@ -113,7 +125,7 @@ impl<T: gimli::ReaderOffset> ReaderOffset for GimliOffset<T> {
 impl<R: gimli::Reader> GimliReader<R> {
     /// Reads by one of gimli's calls. An error that has no name here becomes `UnexpectedEof` with the place where the
     /// bytes begin.
-    #[inline(always)]
+    #[cfg_attr(not(debug_assertions), inline(always))]
     fn take<T>(&mut self, read: impl FnOnce(&mut R) -> gimli::Result<T>) -> Result<T> {
         #[cold]
         fn error_of(error: gimli::Error, start: gimli::ReaderOffsetId) -> Error {
@@ -131,7 +143,7 @@ impl<R: gimli::Reader> GimliReader<R> {
     /// Reads a LEB128 number: takes its bytes, at most ten, and decodes them by the proved code. That code reads a long
     /// number from a copy of its reader, and a copy of this one would be a clone. This one is lent only to functions
     /// that are inlined, so that the compiler can keep it in registers.
-    #[cfg_attr(not(feature = "small"), inline(always))]
+    #[cfg_attr(not(any(feature = "small", debug_assertions)), inline(always))]
     fn read_leb128<T>(&mut self, decode: impl Fn(&[u8]) -> Result<T>) -> Result<T> {
         let first = self.read_u8()?;
         if first < 128 {
@@ -202,23 +214,23 @@ impl<R: gimli::Reader> Reader for GimliReader<R> {
         self.take(|reader| reader.read_offset(format.into())).map(GimliOffset)
     }
 
-    #[cfg_attr(not(feature = "small"), inline(always))]
+    #[cfg_attr(not(any(feature = "small", debug_assertions)), inline(always))]
     fn read_uleb128(&mut self) -> Result<u64> {
         self.read_leb128(unsigned)
     }
 
-    #[cfg_attr(not(feature = "small"), inline(always))]
+    #[cfg_attr(not(any(feature = "small", debug_assertions)), inline(always))]
     fn read_sleb128(&mut self) -> Result<i64> {
         self.read_leb128(signed)
     }
 }
 
-#[cfg_attr(not(feature = "small"), inline(always))]
+#[cfg_attr(not(any(feature = "small", debug_assertions)), inline(always))]
 fn unsigned(bytes: &[u8]) -> Result<u64> {
     EndianSlice::new(bytes, LittleEndian).read_uleb128()
 }
 
-#[cfg_attr(not(feature = "small"), inline(always))]
+#[cfg_attr(not(any(feature = "small", debug_assertions)), inline(always))]
 fn signed(bytes: &[u8]) -> Result<i64> {
     EndianSlice::new(bytes, LittleEndian).read_sleb128()
 }
@@ -306,7 +318,7 @@ references!([T] GimliOffset<T>);
 
 /// Conversions of types that have more values in gimli: `From` into gimli's, and `TryFrom` back.
 macro_rules! into_gimli {
-    ($type:ident: $($name:ident $(($x:ident))? $($text:literal;)?)+) => {
+    ($type:ident: $($name:ident $(($x:ident))?)+) => {
         impl From<$type> for gimli::$type {
             #[inline]
             fn from(ours: $type) -> Self {
@@ -336,4 +348,21 @@ macro_rules! into_gimli {
 
 into_gimli!(both ValueType: Generic I8 U8 I16 U16 I32 U32 I64 U64);
 into_gimli!(both Value: Generic(x) I8(x) U8(x) I16(x) U16(x) I32(x) U32(x) I64(x) U64(x));
-errors!(into_gimli);
+
+macro_rules! into_gimlis_errors {
+    ($type:ident: $($name:ident $(($x:ident))? $text:literal;)+ @ $newer:ident($size:ident) $newer_text:literal;) => {
+        impl From<$type> for gimli::$type {
+            #[inline]
+            fn from(ours: $type) -> Self {
+                match ours {
+                    $($type::$name $(($x))? => gimli::$type::$name $(($x.into()))?,)+
+                    $type::$newer($size) => if_all_have_names!({ gimli::$type::$newer($size) } else {
+                        { _ = $size; gimli::$type::InvalidExpression(gimli::DW_OP_piece) }
+                    }),
+                }
+            }
+        }
+    };
+}
+
+errors!(into_gimlis_errors);

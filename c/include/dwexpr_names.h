@@ -63,7 +63,11 @@ static inline size_t dwexpr_add_to_line(char *line, size_t room, size_t length, 
     more = length < room ? vsnprintf(line + length, room - length, format, operands)
                          : vsnprintf(NULL, 0, format, operands);
     va_end(operands);
+#ifdef __cplusplus /* where a client's compiler may warn of casts as in C */
+    return length + (more > 0 ? static_cast<size_t>(more) : 0);
+#else
     return length + (more > 0 ? (size_t)more : 0);
+#endif
 }
 
 /* Appends the length and the bytes of a block, and returns the new length. */

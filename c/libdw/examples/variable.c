@@ -1,4 +1,7 @@
-/* Prints an int of a stopped process: variable PID NAME. It takes the innermost frame with such a variable. */
+/* Prints an int of a stopped process, of the innermost frame with such a variable.
+ *
+ *     cc variable.c $(pkg-config --cflags --libs dwexpr-libdw) -o variable
+ *     ./variable PID NAME */
 #include <dwarf.h>
 #include <stdio.h>
 #include <stdlib.h>
@@ -40,17 +43,28 @@ static int print_in(dwexpr_libdw_frame *frame, const char *wanted)
 
 int main(int argc, char **argv)
 {
-    dwexpr_libdw_target *target;
+    dwexpr_libdw_target *target = NULL;
     dwexpr_libdw_stack *stack = NULL;
     dwexpr_libdw_frame *frame;
     const pid_t *threads;
     size_t i;
     int found = 0;
-    if (argc != 3 || dwexpr_libdw_open_process((pid_t)atol(argv[1]), &target))
+    uint32_t code;
+    if (argc != 3) {
+        fprintf(stderr, "usage: %s PID NAME\n", argv[0]);
         return 2;
-    dwexpr_libdw_threads(target, &threads);
-    dwexpr_libdw_unwind(target, threads[0], 1000, &stack);
-    for (i = 0; stack && !found && (frame = dwexpr_libdw_frame_at(stack, i)) != NULL; i++)
+    }
+    code = dwexpr_libdw_open_process((pid_t)atol(argv[1]), &target);
+    if (!code) {
+        dwexpr_libdw_threads(target, &threads);
+        code = dwexpr_libdw_unwind(target, threads[0], 1000, &stack);
+    }
+    if (!stack) {
+        fprintf(stderr, "%s: %s\n", dwexpr_libdw_code_name(code), dwexpr_libdw_target_error());
+        dwexpr_libdw_close(target);
+        return 2;
+    }
+    for (i = 0; !found && (frame = dwexpr_libdw_frame_at(stack, i)) != NULL; i++)
         found = print_in(frame, argv[2]);
     if (!found)
         fprintf(stderr, "no frame has a variable %s\n", argv[2]);

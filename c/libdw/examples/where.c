@@ -94,13 +94,15 @@ int main(int argc, char **argv)
     dwexpr_libdw_frame *frame;
     const pid_t *threads;
     size_t i, j;
-    uint32_t code = DWEXPR_LIBDW_NO_TARGET;
+    uint32_t code;
     if (argc == 3 && !strcmp(argv[1], "--pid"))
         code = dwexpr_libdw_open_process((pid_t)atol(argv[2]), &target);
     else if ((argc == 3 || argc == 4) && !strcmp(argv[1], "--core"))
         code = dwexpr_libdw_open_core(argv[2], argv[3], &target);
-    else
+    else {
         fprintf(stderr, "usage: %s --pid PID | --core FILE [PROGRAM]\n", argv[0]);
+        return 2;
+    }
     for (i = 0; target && i < dwexpr_libdw_threads(target, &threads); i++) {
         uint32_t found;
         printf("thread %ld\n", (long)threads[i]);

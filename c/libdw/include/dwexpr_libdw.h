@@ -46,7 +46,8 @@ enum dwexpr_libdw_code {
     DWEXPR_LIBDW_NO_NUMBER = 141,        /* an attribute is no number, or an expression gives none */
     DWEXPR_LIBDW_OTHER_FUNCTION = 142,   /* this frame doesn't lead to the frame of the variable's function */
     DWEXPR_LIBDW_NOT_DEFINED = 143,      /* the variable is only declared, and no module has it */
-    DWEXPR_LIBDW_CUT_OFF = 144,          /* a frame has no call frame information: frames after it may be missing */
+    DWEXPR_LIBDW_CUT_OFF = 144,          /* the stack has no known end: frames after the last one may be missing */
+    DWEXPR_LIBDW_AMBIGUOUS = 145,        /* there are several definitions, and nothing says which one is meant */
     DWEXPR_LIBDW_WANTS = 192             /* plus a request: + DWEXPR_WANTS_MEMORY if memory can't be read */
 };
 
@@ -132,11 +133,13 @@ void dwexpr_libdw_close(dwexpr_libdw_target *target);
  * first thread of a process. They belong to the target. */
 size_t dwexpr_libdw_threads(const dwexpr_libdw_target *target, const pid_t **threads);
 
-/* Finds the frames of a thread, at most `most` of them.
+/* Finds the frames of a thread, at most `most` of them. On x86, a frame at an address where no code can be was called
+ * by a bad pointer, and its return address is on top of the stack.
  *
- * Returns 0; DWEXPR_LIBDW_TOO_MANY_FRAMES if there are more, and gives the innermost ones; DWEXPR_LIBDW_CUT_OFF if one
- * has no call frame information, so that frames after it may be missing, and gives those that it found;
- * DWEXPR_LIBDW_NO_TARGET; or DWEXPR_LIBDW_NO_MEMORY. Free the stack by dwexpr_libdw_free_stack. */
+ * Returns 0 if the last frame's return address is undefined by its call frame information, or the thread's first
+ * function is reached; DWEXPR_LIBDW_TOO_MANY_FRAMES if there are more, and gives the innermost ones;
+ * DWEXPR_LIBDW_CUT_OFF if frames may be missing, as one has no call frame information or no return address, and gives
+ * those that it found; DWEXPR_LIBDW_NO_TARGET; or DWEXPR_LIBDW_NO_MEMORY. Free the stack by dwexpr_libdw_free_stack. */
 uint32_t dwexpr_libdw_unwind(dwexpr_libdw_target *target, pid_t thread, size_t most, dwexpr_libdw_stack **stack);
 void dwexpr_libdw_free_stack(dwexpr_libdw_stack *stack);
 
@@ -244,11 +247,12 @@ uint32_t dwexpr_libdw_evaluate(dwexpr_libdw_frame *frame, const dwexpr_libdw_tex
 
 /* The value of a variable, a parameter or a constant in a frame, by its DW_AT_const_value or DW_AT_location. A location
  * is evaluated in the frame of the variable's function: this one or, if that function encloses this one's, a caller's.
- * Addresses are relocated as the variable's module is. A variable that is only declared, or of which the program has a
- * copy, is at the symbol of its name.
+ * Addresses are relocated as the variable's module is. A variable of several modules, or one that is only declared, is
+ * where the dynamic linker bound the name in the variable's module. The process's memory tells: the module's relocation
+ * for the name has the address there. A module without such a relocation has its own variable.
  *
- * Returns what dwexpr_libdw_expression or dwexpr_libdw_evaluate does; DWEXPR_LIBDW_OTHER_FUNCTION; or
- * DWEXPR_LIBDW_NOT_DEFINED. */
+ * Returns what dwexpr_libdw_expression or dwexpr_libdw_evaluate does; DWEXPR_LIBDW_OTHER_FUNCTION;
+ * DWEXPR_LIBDW_NOT_DEFINED; or DWEXPR_LIBDW_AMBIGUOUS if the relocation can't be read and several modules have it. */
 uint32_t dwexpr_libdw_variable(dwexpr_libdw_frame *frame, Dwarf_Die *variable, dwexpr_libdw_value **value);
 
 /* The value that a parameter had on entry of the function, if the caller's call site says it. Returns as above. */
@@ -284,9 +288,9 @@ uint32_t dwexpr_libdw_type(Dwarf_Die *variable, Dwarf_Die *type);
 /* The bytes of a type, which may be an array of variable length. Returns what dwexpr_libdw_number does. */
 uint32_t dwexpr_libdw_size(dwexpr_libdw_frame *frame, Dwarf_Die *type, const uint64_t *object, uint64_t *bytes);
 
-/* The definition of a type that its unit only declares. It is found by its name, in the unit and then in the order of
- * dwexpr_libdw_globals. dwexpr_libdw_size does so by itself. Returns 0, DWEXPR_LIBDW_NOT_DEFINED, DWEXPR_LIBDW_FAILED
- * or DWEXPR_LIBDW_NO_MEMORY. */
+/* The definition of a type that its unit only declares. It is found by its name, in the unit, then in the unit's
+ * module, and then in all. dwexpr_libdw_size does so by itself. Returns 0; DWEXPR_LIBDW_NOT_DEFINED;
+ * DWEXPR_LIBDW_AMBIGUOUS if several units define it in different ways; or DWEXPR_LIBDW_NO_MEMORY. */
 uint32_t dwexpr_libdw_definition(dwexpr_libdw_frame *frame, Dwarf_Die *type, Dwarf_Die *definition);
 
 /* Where the data of an object of a type is: at the object, or where DW_AT_data_location says, as for arrays in Fortran.

@@ -80,7 +80,7 @@ static const char *external_name(Dwarf_Die *function)
 
 /* Whether a call site in `caller` names the function of a frame: 1; 0 if it names another one, whose address is 0 if
  * it isn't known; or -1 if it computes an address. */
-static int is_named(Dwarf_Die *site, const dwexpr_libdw_frame *caller, const dwexpr_libdw_frame *called,
+static int is_named(Dwarf_Die *site, dwexpr_libdw_frame *caller, const dwexpr_libdw_frame *called,
                     uint64_t *address)
 {
     Dwarf_Die origin, function = called->place.function;
@@ -103,7 +103,7 @@ static int is_named(Dwarf_Die *site, const dwexpr_libdw_frame *caller, const dwe
                         dwexpr_libdw_find_symbol(called->place.module, entry, &symbol)))
         return 1;
     symbol.name = dwexpr_libdw_linkage_name(&origin);
-    if (symbol.name && dwexpr_libdw_resolve(caller->source.dwfl, caller->place.module, 0, &symbol))
+    if (symbol.name && !dwexpr_libdw_resolve(caller, caller->place.module, NULL, &symbol))
         *address = symbol.address;
     return 0;
 }
@@ -123,7 +123,7 @@ static int enter(dwexpr_libdw_frame *caller, uint64_t address, dwexpr_libdw_fram
 }
 
 /* Finds the tail call by which a function left for that of a frame. Gives back whether there is one, and no other. */
-static int find_tail_call(const dwexpr_libdw_frame *between, const dwexpr_libdw_frame *called, Dwarf_Die *site)
+static int find_tail_call(dwexpr_libdw_frame *between, const dwexpr_libdw_frame *called, Dwarf_Die *site)
 {
     struct dwexpr_libdw_walk walk;
     uint64_t address;
@@ -203,7 +203,7 @@ static int find_passed(struct dwexpr_libdw_question *question, Dwarf_Attribute *
         Dwarf_Block block;
         Dwarf_Die origin;
         if (question->entry.addr ? dwarf_formref_die(dwarf_attr(&parameter, names, &attribute), &origin) &&
-                                       origin.addr == question->entry.addr
+                                       origin.addr == question->entry.addr /* GCOVR_EXCL_BR_LINE: GCC before 11 */
                                  : !dwarf_formblock(dwarf_attr(&parameter, DW_AT_location, &attribute), &block) &&
                                        is_passed_in(question->place, &block, question->encoding))
             return dwarf_attr(&parameter, is_old ? DW_AT_GNU_call_site_value : DW_AT_call_value, value) != NULL;

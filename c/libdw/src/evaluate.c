@@ -514,8 +514,8 @@ static uint32_t hold_constant(dwexpr_libdw_value *value, Dwarf_Die *variable, Dw
             block.length <= 8 || block.length > DWEXPR_LIBDW_REGISTER_SIZE)
             return 0;
         block.data = dwexpr_libdw_take(&value->memory, (size_t)block.length);
-        if (!block.data)
-            return DWEXPR_LIBDW_NO_MEMORY;
+        if (!block.data) /* GCOVR_EXCL_BR_LINE: no memory */
+            return DWEXPR_LIBDW_NO_MEMORY; /* GCOVR_EXCL_LINE: no memory */
         memset(block.data, (form == DW_FORM_sdata || form == DW_FORM_implicit_const || kind == DW_ATE_signed) &&
                                number >> 63 ? 0xff : 0, (size_t)block.length);
         dwexpr_libdw_bytes_of(number, 8, big_endian, block.data + (big_endian ? block.length - 8 : 0));
@@ -527,37 +527,72 @@ static uint32_t hold_constant(dwexpr_libdw_value *value, Dwarf_Die *variable, Dw
     return 0;
 }
 
-/* The value of a variable that another unit of its module defines, and that isn't exported. */
+/* The value of a variable that another unit of its module defines, and that has no symbol. */
 static uint32_t hidden(dwexpr_libdw_frame *frame, Dwarf_Die *variable, Dwfl_Module *module, dwexpr_libdw_value **value)
 {
     Dwarf_Die *globals;
     size_t count, i;
     uint32_t code = dwexpr_libdw_globals(frame, module, dwexpr_libdw_linkage_name(variable), &globals, &count);
-    for (i = 0; i < count && !dwarf_hasattr_integrate(&globals[i], DW_AT_external); i++)
+    for (i = 0; i < count && !(dwarf_hasattr_integrate(&globals[i], DW_AT_external) &&
+                               dwarf_hasattr_integrate(&globals[i], DW_AT_location)); i++)
         ;
-    if (!code)
+    if (!code) /* GCOVR_EXCL_BR_LINE: no memory */
         code = i < count ? dwexpr_libdw_variable(frame, &globals[i], value) : DWEXPR_LIBDW_NOT_DEFINED;
     free(globals);
     return code;
 }
 
-/* The value of a variable that is found elsewhere by its name: it is only declared here, or the dynamic linker binds
- * its name to another module, as when the program has a copy of a library's variable. */
-static uint32_t named(dwexpr_libdw_frame *frame, Dwarf_Die *variable, int is_declared, dwexpr_libdw_value **value)
+/* The value at a symbol. */
+static uint32_t at_symbol(const dwexpr_libdw_frame *frame, Dwarf_CU *unit, struct dwexpr_libdw_symbol *symbol,
+                          dwexpr_libdw_value **value)
 {
+    if (GELF_ST_TYPE(symbol->symbol.st_info) == STT_TLS &&
+        find_tls(frame, symbol->module, symbol->symbol.st_value, &symbol->address))
+        return DWEXPR_LIBDW_WANTS + DWEXPR_WANTS_TLS;
+    return make_value(frame, unit, symbol->address, value);
+}
+
+/* The value of a variable that has no location: if it is declared, that of its definition, and else of another name of
+ * a variable, that of its symbol. */
+static uint32_t named(dwexpr_libdw_frame *frame, Dwarf_Die *variable, dwexpr_libdw_value **value)
+{
+    const int is_declared = dwarf_hasattr(variable, DW_AT_declaration);
+    const uint32_t unknown = is_declared ? DWEXPR_LIBDW_NOT_DEFINED : DWEXPR_LIBDW_OPTIMIZED_AWAY;
     struct dwexpr_libdw_symbol symbol = {.name = dwexpr_libdw_linkage_name(variable)};
     Dwfl_Module *module;
     Dwarf_Addr bias;
+    uint32_t code;
+    if ((!is_declared && !dwarf_hasattr_integrate(variable, DW_AT_external)) || !frame->source.dwfl || !symbol.name ||
+        dwexpr_libdw_find_module(frame, variable->cu, &module, &bias) ||
+        (!is_declared && !dwexpr_libdw_find_symbol(module, 0, &symbol)))
+        return unknown;
+    code = dwexpr_libdw_resolve(frame, module, NULL, &symbol);
+    if (code == DWEXPR_LIBDW_FAILED) {
+        code = hidden(frame, variable, module, value);
+        if (code != DWEXPR_LIBDW_NOT_DEFINED)
+            return code;
+        code = dwexpr_libdw_look_up(frame, NULL, &symbol);
+    }
+    return code ? code : at_symbol(frame, variable->cu, &symbol, value);
+}
+
+/* Replaces the value that a variable has at its own place if the dynamic linker bound its name to another one, as when
+ * the program has a copy of it. `code` is that of its own value. */
+static uint32_t replaced(dwexpr_libdw_frame *frame, Dwarf_Die *variable, uint32_t code, dwexpr_libdw_value **value)
+{
+    const uint64_t own = code ? 0 : (*value)->pieces[0].number;
+    struct dwexpr_libdw_symbol symbol = {.name = dwexpr_libdw_linkage_name(variable)};
+    Dwfl_Module *module;
+    Dwarf_Addr bias;
+    uint32_t failed;
     if (!frame->source.dwfl || !symbol.name || dwexpr_libdw_find_module(frame, variable->cu, &module, &bias))
-        return is_declared ? DWEXPR_LIBDW_NOT_DEFINED : 0;
-    if (!dwexpr_libdw_resolve(frame->source.dwfl, module, !is_declared, &symbol))
-        return is_declared ? hidden(frame, variable, module, value) : 0;
-    if (!is_declared && symbol.module == module)
-        return 0;
-    if (GELF_ST_TYPE(symbol.symbol.st_info) == STT_TLS &&
-        find_tls(frame, symbol.module, symbol.symbol.st_value, &symbol.address))
-        return DWEXPR_LIBDW_WANTS + DWEXPR_WANTS_TLS;
-    return make_value(frame, variable->cu, symbol.address, value);
+        return code;
+    failed = dwexpr_libdw_resolve(frame, module, &own, &symbol);
+    if (!failed && (GELF_ST_TYPE(symbol.symbol.st_info) == STT_TLS ? symbol.module == module : symbol.address == own))
+        return code;
+    dwexpr_libdw_release(*value);
+    *value = NULL;
+    return failed ? failed : at_symbol(frame, variable->cu, &symbol, value);
 }
 
 uint32_t dwexpr_libdw_variable(dwexpr_libdw_frame *frame, Dwarf_Die *variable, dwexpr_libdw_value **value)
@@ -573,13 +608,13 @@ uint32_t dwexpr_libdw_variable(dwexpr_libdw_frame *frame, Dwarf_Die *variable, d
         return code ? code : hold_constant(*value, variable, &attribute);
     }
     if (!dwarf_attr_integrate(variable, DW_AT_location, &attribute))
-        return dwarf_hasattr(variable, DW_AT_declaration) ? named(frame, variable, 1, value)
-                                                          : DWEXPR_LIBDW_OPTIMIZED_AWAY;
-    if (!is_fixed(&attribute))
+        return named(frame, variable, value);
+    if (!is_fixed(&attribute)) {
         code = find_owner(frame, variable, &given.frame);
-    else
-        code = dwarf_hasattr_integrate(variable, DW_AT_external) ? named(frame, variable, 0, value) : 0;
-    return code || *value ? code : attribute_value(&given, &attribute, value);
+        return code ? code : attribute_value(&given, &attribute, value);
+    }
+    code = attribute_value(&given, &attribute, value);
+    return dwarf_hasattr_integrate(variable, DW_AT_external) ? replaced(frame, variable, code, value) : code;
 }
 
 uint32_t dwexpr_libdw_on_entry(dwexpr_libdw_frame *frame, Dwarf_Die *parameter, dwexpr_libdw_value **value)
@@ -669,13 +704,11 @@ uint32_t dwexpr_libdw_number_with(const struct dwexpr_libdw_given *given, Dwarf_
 {
     const unsigned name = dwarf_whatattr(attribute);
     struct dwexpr_libdw_given own = *given;
-    const uint32_t code = dwexpr_libdw_find_place(given->frame);
     Dwarf_Die entry;
     *number = 0;
+    dwexpr_libdw_find_place(given->frame);
     if (name == DW_AT_data_member_location || name == DW_AT_vtable_elem_location)
         own.initial = given->object;
-    if (code == DWEXPR_LIBDW_NO_MEMORY)
-        return code;
     if (is_location(attribute))
         return attribute_number(&own, attribute, number);
     if (dwarf_formref_die(attribute, &entry))

@@ -61,7 +61,9 @@ uint64_t dwexpr_libdw_entry_of(const dwexpr_libdw_frame *frame)
 {
     Dwarf_Die function = frame->place.function;
     Dwarf_Addr entry;
+    /* GCOVR_EXCL_BR_START: a function that has an address has an entry */
     return function.addr && dwexpr_libdw_has_entry(&function, &entry) ? entry + frame->place.bias : 0;
+    /* GCOVR_EXCL_BR_STOP */
 }
 
 /* ---- scopes */
@@ -301,21 +303,21 @@ static void add_variables(struct found *found, Dwarf_Die *parent, Dwarf_Die *sco
 uint32_t dwexpr_libdw_variables(dwexpr_libdw_frame *frame, dwexpr_libdw_entry **entries, size_t *count)
 {
     struct found found = {.level = 0};
-    Dwarf_Die *scopes, *scope, *function;
-    size_t length;
+    Dwarf_Die *scopes;
+    size_t length, function, scope = 0;
     found.entries.code = dwexpr_libdw_scopes(frame, &scopes, &length);
-    for (scope = function = scopes; function < scopes + length; function++) {
-        const int tag = dwarf_tag(function);
+    for (function = 0; function < length; function++) {
+        const int tag = dwarf_tag(&scopes[function]);
         if (tag != DW_TAG_subprogram && tag != DW_TAG_inlined_subroutine)
             continue;
-        add_entry(&found, function);
+        add_entry(&found, &scopes[function]);
         for (; scope <= function; scope++) {
             Dwarf_Attribute attribute;
             Dwarf_Die origin;
-            add_variables(&found, scope, NULL);
+            add_variables(&found, &scopes[scope], NULL);
             /* what only the entry has of which this one is an instance */
-            if (dwarf_formref_die(dwarf_attr(scope, DW_AT_abstract_origin, &attribute), &origin))
-                add_variables(&found, &origin, scope);
+            if (dwarf_formref_die(dwarf_attr(&scopes[scope], DW_AT_abstract_origin, &attribute), &origin))
+                add_variables(&found, &origin, &scopes[scope]);
         }
         found.level++;
         found.is_enclosing |= tag == DW_TAG_subprogram;

@@ -1,4 +1,4 @@
-/* What is looked for by its name: variables of modules, symbols, and the definitions of what is only declared. */
+/* What is looked for by its name: variables of modules, and the definitions of types that are only declared. */
 #include "private.h"
 
 /* A search through units. */
@@ -7,21 +7,15 @@ struct search {
     int (*visit)(struct search *search, const struct dwexpr_libdw_walk *walk);
     const char *name;              /* of a variable; NULL for all */
     struct dwexpr_libdw_walk type; /* the path to a declaration of a type */
-    struct dwexpr_libdw_list found;
-    int ends; /* with the first that is found */
+    struct dwexpr_libdw_list found; /* its code ends the search */
 };
-
-static int has_ended(const struct search *search)
-{
-    return search->found.code || (search->ends && search->found.length);
-}
 
 static void search_unit(struct search *search, const Dwarf_Die *unit)
 {
     struct dwexpr_libdw_walk walk;
     int enters = 1;
     dwexpr_libdw_begin_walk(&walk, unit);
-    while (!has_ended(search) && dwexpr_libdw_next_entry(&walk, enters))
+    while (!search->found.code && dwexpr_libdw_next_entry(&walk, enters))
         enters = search->visit(search, &walk);
     free(walk.path.items);
     search->found.code |= walk.path.code;
@@ -31,7 +25,7 @@ static void search_module(struct search *search, Dwfl_Module *module, const void
 {
     Dwarf_Die *unit = NULL;
     Dwarf_Addr bias;
-    while (!has_ended(search) && (unit = dwfl_module_nextcu(module, unit, &bias)) != NULL) {
+    while (!search->found.code && (unit = dwfl_module_nextcu(module, unit, &bias)) != NULL) {
         const Dwarf_Die entries = dwexpr_libdw_entries(unit);
         if (entries.addr != passed)
             search_unit(search, &entries);
@@ -48,7 +42,7 @@ static void search_modules(struct search *search, dwexpr_libdw_frame *frame)
     if (first->addr)
         search_unit(search, first);
     search_module(search, frame->place.module, first->addr);
-    while (!has_ended(search) && (at = dwexpr_libdw_next_module(frame->source.dwfl, at, &module)) > 0)
+    while (!search->found.code && (at = dwexpr_libdw_next_module(frame->source.dwfl, at, &module)) > 0)
         if (module != frame->place.module)
             search_module(search, module, first->addr);
 }
@@ -116,113 +110,125 @@ static int visit_type(struct search *search, const struct dwexpr_libdw_walk *wal
     return same && depth < wanted;
 }
 
+/* ---- definitions that may differ */
+
+/* How much of two definitions is compared. */
+struct comparison {
+    unsigned left, level;
+};
+
+/* The attributes of a type, or of a member, that say how its bits are laid out. */
+static const unsigned laid_out[] = {
+    DW_AT_byte_size, DW_AT_bit_size, DW_AT_data_member_location, DW_AT_data_bit_offset, DW_AT_bit_offset,
+    DW_AT_encoding, DW_AT_count, DW_AT_lower_bound, DW_AT_upper_bound, DW_AT_const_value, DW_AT_endianity,
+};
+
+static int has_same_number(Dwarf_Die *first, Dwarf_Die *second, unsigned name)
+{
+    Dwarf_Attribute attribute, other_attribute;
+    Dwarf_Word number, other;
+    const int has = dwarf_attr_integrate(first, name, &attribute) != NULL;
+    if (has != (dwarf_attr_integrate(second, name, &other_attribute) != NULL))
+        return 0;
+    return !has || (!dwarf_formudata(&attribute, &number) && !dwarf_formudata(&other_attribute, &other) &&
+                    number == other);
+}
+
+static int is_pointer(int tag)
+{
+    return tag == DW_TAG_pointer_type || tag == DW_TAG_reference_type || tag == DW_TAG_rvalue_reference_type ||
+           tag == DW_TAG_ptr_to_member_type;
+}
+
+/* Goes from an entry to the first one that is a part of a type, among the entry and those after it. */
+static int find_part(int more, Dwarf_Die *entry)
+{
+    for (; more == 0; more = dwarf_siblingof(entry, entry)) {
+        const int tag = dwarf_tag(entry);
+        if (tag == DW_TAG_member || tag == DW_TAG_inheritance || tag == DW_TAG_enumerator ||
+            tag == DW_TAG_subrange_type || tag == DW_TAG_variant_part || tag == DW_TAG_variant)
+            return 1;
+    }
+    return 0;
+}
+
+static int are_alike(Dwarf_Die *first, Dwarf_Die *second, struct comparison *comparison);
+
+/* Whether two entries have types that are alike, or none. What a pointer points to has to have the same name. */
+static int have_types_alike(Dwarf_Die *first, Dwarf_Die *second, struct comparison *comparison)
+{
+    Dwarf_Die type, other;
+    const int has_type = !dwexpr_libdw_type(first, &type);
+    if (dwarf_tag(first) == DW_TAG_subrange_type)
+        return 1;
+    if (has_type != !dwexpr_libdw_type(second, &other))
+        return 0;
+    if (has_type && is_pointer(dwarf_tag(first)) && dwarf_diename(&type))
+        return dwarf_tag(&type) == DW_TAG_base_type ? dwarf_tag(&other) == DW_TAG_base_type : is_same(&type, &other);
+    return !has_type || is_pointer(dwarf_tag(first)) || are_alike(&type, &other, comparison);
+}
+
+/* Whether two definitions of a type lay out the same parts in the same way. Compilers name base types differently. */
+static int are_alike(Dwarf_Die *first, Dwarf_Die *second, struct comparison *comparison)
+{
+    const int tag = dwarf_tag(first), has_name = tag != DW_TAG_base_type && dwarf_diename(first);
+    Dwarf_Die part, other;
+    size_t i;
+    int more, alike = comparison->left > 0 && comparison->level < 32 &&
+                      (has_name ? is_same(first, second) : tag == dwarf_tag(second));
+    for (i = 0; alike && i < sizeof laid_out / sizeof *laid_out; i++)
+        alike = has_same_number(first, second, laid_out[i]);
+    if (!alike)
+        return 0;
+    comparison->left--;
+    comparison->level++;
+    alike = have_types_alike(first, second, comparison);
+    more = find_part(dwarf_child(first, &part), &part);
+    alike = alike && more == find_part(dwarf_child(second, &other), &other);
+    while (alike && more) {
+        alike = are_alike(&part, &other, comparison);
+        more = find_part(dwarf_siblingof(&part, &part), &part);
+        alike = alike && more == find_part(dwarf_siblingof(&other, &other), &other);
+    }
+    comparison->level--;
+    return alike;
+}
+
 uint32_t dwexpr_libdw_definition(dwexpr_libdw_frame *frame, Dwarf_Die *type, Dwarf_Die *definition)
 {
-    struct search search = {.visit = visit_type, .ends = 1};
+    struct search search = {.visit = visit_type};
     Dwarf_Die unit, *found;
-    size_t count;
+    Dwfl_Module *module;
+    Dwarf_Addr bias;
+    size_t count, i;
+    uint32_t code;
     dwarf_diecu(type, &unit, NULL, NULL);
     dwexpr_libdw_begin_walk(&search.type, &unit);
+    /* GCOVR_EXCL_BR_START: no memory; a type is in its unit */
     while (!search.type.path.code && dwexpr_libdw_here(&search.type)->addr != type->addr &&
+    /* GCOVR_EXCL_BR_STOP */
            dwexpr_libdw_next_entry(&search.type, 1))
         ;
     search.found.code = search.type.path.code;
     search_unit(&search, &unit);
-    search_modules(&search, frame);
+    if (!search.found.length) {
+        dwexpr_libdw_find_module(frame, type->cu, &module, &bias);
+        search_module(&search, module, unit.addr);
+    }
+    if (!search.found.length)
+        search_modules(&search, frame);
     found = dwexpr_libdw_give(&search.found, &count);
-    if (count)
+    code = search.found.code;
+    if (!code && !count) /* GCOVR_EXCL_BR_LINE: no memory */
+        code = DWEXPR_LIBDW_NOT_DEFINED;
+    for (i = 1; i < count && !code; i++) {
+        struct comparison comparison = {10000, 0};
+        if (!are_alike(&found[0], &found[i], &comparison))
+            code = DWEXPR_LIBDW_AMBIGUOUS;
+    }
+    if (!code)
         *definition = *found;
     free(found);
     free(search.type.path.items);
-    return search.found.code ? search.found.code : count ? 0 : DWEXPR_LIBDW_NOT_DEFINED;
-}
-
-/* ---- symbols */
-
-int dwexpr_libdw_find_segment(Dwfl_Module *module, unsigned type, GElf_Phdr *segment, Dwarf_Addr *bias)
-{
-    Elf *elf = dwfl_module_getelf(module, bias);
-    size_t count = 0, i;
-    elf_getphdrnum(elf, &count);
-    segment->p_type = PT_NULL;
-    for (i = 0; i < count && segment->p_type != type; i++)
-        gelf_getphdr(elf, (int)i, segment);
-    return segment->p_type == type;
-}
-
-/* Whether a module that exports symbols is the program: only the program's dynamic section has DT_DEBUG. */
-static int is_program(Dwfl_Module *module)
-{
-    GElf_Phdr segment;
-    GElf_Dyn entry = {.d_tag = DT_NULL};
-    Dwarf_Addr bias;
-    Elf_Data *entries;
-    int i;
-    if (!dwexpr_libdw_find_segment(module, PT_DYNAMIC, &segment, &bias))
-        return 0;
-    entries = elf_getdata_rawchunk(dwfl_module_getelf(module, &bias), (int64_t)segment.p_offset,
-                                   (size_t)segment.p_filesz, ELF_T_DYN);
-    for (i = 0; entry.d_tag != DT_DEBUG && gelf_getdyn(entries, i, &entry); i++)
-        ;
-    return entry.d_tag == DT_DEBUG;
-}
-
-/* Finds a symbol among those that a module exports. */
-static int is_exported(Dwfl_Module *module, struct dwexpr_libdw_symbol *symbol)
-{
-    GElf_Shdr header = {.sh_type = SHT_NULL};
-    Dwarf_Addr bias;
-    Elf *elf = dwfl_module_getelf(module, &bias);
-    Elf_Scn *section = NULL;
-    int i;
-    while (header.sh_type != SHT_DYNSYM && (section = elf_nextscn(elf, section)) != NULL)
-        gelf_getshdr(section, &header);
-    for (i = 1; gelf_getsym(elf_getdata(section, NULL), i, &symbol->symbol); i++) {
-        const char *name = elf_strptr(elf, header.sh_link, symbol->symbol.st_name);
-        if (!name || symbol->symbol.st_shndx == SHN_UNDEF || strcmp(name, symbol->name))
-            continue;
-        symbol->module = module;
-        symbol->address = symbol->symbol.st_value + bias;
-        return 1;
-    }
-    return 0;
-}
-
-int dwexpr_libdw_find_symbol(Dwfl_Module *module, Dwarf_Addr address, struct dwexpr_libdw_symbol *symbol)
-{
-    int i;
-    symbol->module = module;
-    for (i = module ? dwfl_module_getsymtab(module) : 0; i > 0; i--) {
-        const char *found = dwfl_module_getsym_info(module, i - 1, &symbol->symbol, &symbol->address, NULL, NULL, NULL);
-        const int type = GELF_ST_TYPE(symbol->symbol.st_info);
-        /* each unit may have a variable of a name to itself */
-        const int is_wanted = address ? symbol->address == address
-                                      : GELF_ST_BIND(symbol->symbol.st_info) != STB_LOCAL || type == STT_FUNC;
-        if (found && is_wanted && symbol->symbol.st_shndx != SHN_UNDEF && !strcmp(found, symbol->name))
-            return 1;
-    }
-    return 0;
-}
-
-int dwexpr_libdw_resolve(Dwfl *dwfl, Dwfl_Module *module, int is_its_own, struct dwexpr_libdw_symbol *symbol)
-{
-    struct dwexpr_libdw_symbol other = *symbol;
-    const int own = module && is_exported(module, symbol);
-    Dwfl_Module *exporter;
-    ptrdiff_t at = 0;
-    int count = 0;
-    if (!own && is_its_own)
-        return 0;
-    if (!own && dwexpr_libdw_find_symbol(module, 0, symbol))
-        return 1;
-    while ((at = dwexpr_libdw_next_module(dwfl, at, &exporter)) > 0) {
-        if (!is_exported(exporter, &other))
-            continue;
-        count++;
-        if (!own || is_program(exporter))
-            *symbol = other;
-        if (is_program(exporter))
-            return 1;
-    }
-    return own || count == 1;
+    return code;
 }

@@ -116,7 +116,7 @@ uint64_t dwexpr_libdw_entry_of(const dwexpr_libdw_frame *frame);
  * is to be freed. */
 int dwexpr_libdw_find_state(const dwexpr_libdw_frame *frame, Dwarf_Frame **state, Elf **elf);
 
-/* ---- globals.c */
+/* ---- symbols.c */
 
 /* A symbol: its name, and where it is found. */
 struct dwexpr_libdw_symbol {
@@ -126,16 +126,46 @@ struct dwexpr_libdw_symbol {
     Dwarf_Addr address; /* unless it is in thread-local storage */
 };
 
+/* What the dynamic linker writes for a symbol: its address, or that and a number; a copy of it; or, if it is in
+ * thread-local storage, its module's number, its distance from the thread pointer, or either after a function. */
+enum dwexpr_libdw_relocation_kind {
+    IS_OTHER, IS_COPY, HAS_ADDRESS, HAS_SUM, HAS_MODULE, HAS_DISTANCE, HAS_DESCRIPTOR
+};
+
+struct dwexpr_libdw_relocation {
+    enum dwexpr_libdw_relocation_kind kind;
+    Dwfl_Module *module;
+    uint64_t place; /* in the process */
+    int64_t addend;
+};
+
 /* Finds a symbol of a module by its name: at an address if that isn't 0, as a function may have several, and else that
  * of a function, or of a variable that isn't local. Gives back whether there is one. */
 int dwexpr_libdw_find_symbol(Dwfl_Module *module, Dwarf_Addr address, struct dwexpr_libdw_symbol *symbol);
-/* Finds the symbol that a name in a module's code stands for: the module's own if it doesn't export that, else that of
- * the program, the module's own, or that of the only module which exports it. If `is_its_own`, only if the module
- * exports it. Gives back whether there is one. */
-int dwexpr_libdw_resolve(Dwfl *dwfl, Dwfl_Module *module, int is_its_own, struct dwexpr_libdw_symbol *symbol);
+/* Finds the first module that exports a symbol. Gives back whether there is one. */
+int dwexpr_libdw_find_exported(Dwfl *dwfl, struct dwexpr_libdw_symbol *symbol);
+/* Finds what a name stands for in the code of a module: what the dynamic linker wrote for the module's relocation or,
+ * if it has none, the module's own symbol. `own` is the address of its own variable, or NULL if that isn't known.
+ * Returns 0; DWEXPR_LIBDW_AMBIGUOUS; DWEXPR_LIBDW_NOT_DEFINED if the name was bound to nothing; or DWEXPR_LIBDW_FAILED
+ * if it has neither a relocation nor a symbol. */
+uint32_t dwexpr_libdw_resolve(dwexpr_libdw_frame *frame, Dwfl_Module *module, const uint64_t *own,
+                              struct dwexpr_libdw_symbol *symbol);
+/* Finds what a name stands for in a module that doesn't have it: the program's copy, the symbol to which the relocation
+ * is bound unless it is NULL, or that of the only module which exports it. Returns 0; DWEXPR_LIBDW_AMBIGUOUS; or
+ * DWEXPR_LIBDW_NOT_DEFINED. */
+uint32_t dwexpr_libdw_look_up(dwexpr_libdw_frame *frame, const struct dwexpr_libdw_relocation *relocation,
+                              struct dwexpr_libdw_symbol *symbol);
 
 /* The first segment of a type that a module has, and the bias of its address. Gives back whether there is one. */
 int dwexpr_libdw_find_segment(Dwfl_Module *module, unsigned type, GElf_Phdr *segment, Dwarf_Addr *bias);
+
+/* ---- thread_local.c */
+
+/* Whether the dynamic linker bound a relocation to this symbol in thread-local storage. */
+int dwexpr_libdw_is_bound(const dwexpr_libdw_frame *frame, const struct dwexpr_libdw_relocation *relocation,
+                          const struct dwexpr_libdw_symbol *symbol);
+
+/* ---- globals.c */
 
 /* The name that an entry has for the linker, or else in its source. */
 const char *dwexpr_libdw_linkage_name(Dwarf_Die *entry);

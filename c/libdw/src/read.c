@@ -37,30 +37,37 @@ static void mark_unknown(const struct destination *place, uint64_t at, uint64_t 
         set_bit(place->unknown, i, 1, place->big_endian);
 }
 
-/* Copies bits from memory. Bytes that can't be read are unknown. */
+/* Copies bits from memory: whole bytes at once if all can be read, and else page by page, and each byte of a page that
+ * can't be read by itself. Bytes that can't be read are unknown. */
 static uint32_t copy_memory(const struct destination *place, uint64_t address, uint64_t bit, uint64_t at,
                             uint64_t count)
 {
-    uint8_t part[256];
+    uint8_t part[4096];
     uint32_t code = 0;
-    uint64_t most = 8 * sizeof part;
+    size_t alone = 0; /* how many bytes are read by themselves from here on */
     address += bit / 8;
     bit %= 8;
+    if (!((bit | at | count) % 8)) {
+        uint8_t *whole = place->bytes + at / 8;
+        if (!dwexpr_libdw_memory(place->frame, address, whole, (size_t)(count / 8)))
+            return 0;
+        memset(whole, 0, (size_t)(count / 8));
+    }
     while (count) {
-        const uint64_t bits = count < most - bit ? count : most - bit;
+        const uint64_t most = 8 * (alone ? 1 : sizeof part - address % sizeof part) - bit;
+        const uint64_t bits = count < most ? count : most;
         const size_t size = (size_t)((bit + bits + 7) / 8);
         memset(part, 0, size);
         if (!dwexpr_libdw_memory(place->frame, address, part, size)) {
             copy_bits(place->bytes, at, part, bit, bits, place->big_endian);
         } else if (size > 1) {
-            most = 8 * ((size + 1) / 2);
+            alone = size;
             continue;
         } else {
             mark_unknown(place, at, bits);
             code = DWEXPR_LIBDW_NOT_READABLE;
         }
-        /* what follows may be readable */
-        most = code ? 8 * sizeof part : most;
+        alone -= alone > 0;
         address += size;
         at += bits;
         count -= bits;
@@ -145,12 +152,13 @@ const char *dwexpr_libdw_code_name(uint32_t code)
         "a location is smaller than its piece", "the answers take too many expressions", "there are more frames",
         "a callback gave a register of too many bytes", "there is no such number",
         "a variable of another function", "it is only declared", "the frames are cut off",
+        "there are several definitions",
     };
     const char *name;
     if (code >= DWEXPR_LIBDW_WANTS)
         name = dwexpr_request_name(code - DWEXPR_LIBDW_WANTS);
     else if (code >= DWEXPR_LIBDW_FAILED)
-        name = code <= DWEXPR_LIBDW_CUT_OFF ? names[code - DWEXPR_LIBDW_FAILED] : NULL;
+        name = code <= DWEXPR_LIBDW_AMBIGUOUS ? names[code - DWEXPR_LIBDW_FAILED] : NULL;
     else
         name = dwexpr_code_name(code);
     return name ? name : "unknown code";

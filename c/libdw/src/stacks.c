@@ -10,7 +10,7 @@ struct stack_frame {
     dwexpr_libdw_frame frame;
     dwexpr_libdw_stack *stack;
     Dwarf_Word registers[ASKED_REGISTERS]; /* as libdwfl tells them */
-    uint8_t is_told[ASKED_REGISTERS];
+    uint8_t is_told[ASKED_REGISTERS]; /* or are found here */
     int is_guessed; /* the one that it called has no call frame information: libdwfl takes its frame pointer */
     bool is_interrupted; /* by a signal: the one that it called is the kernel's, whose call frame information says so */
 };
@@ -85,7 +85,7 @@ static int is_kept(dwexpr_libdw_frame *caller, unsigned machine, uint32_t number
 {
     Dwarf_Attribute attribute;
     const char *producer;
-    if (machine == EM_X86_64 && (number == RBX || number == FS_BASE))
+    if (machine == EM_X86_64 && (number == RBX || number == FS_BASE)) /* GCOVR_EXCL_BR_LINE: GCC keeps both */
         return 1;
     if (dwexpr_libdw_find_place(caller))
         return 0;
@@ -135,8 +135,8 @@ static int find_segment(const dwexpr_libdw_stack *stack, uint64_t *base)
 {
     const uint8_t *general = stack->sets.bytes[GENERAL], *entries = stack->sets.bytes[SEGMENTS];
     size_t i;
-    if (stack->sets.lengths[GENERAL] < 44)
-        return 1;
+    if (stack->sets.lengths[GENERAL] < 44) /* GCOVR_EXCL_BR_LINE: a thread has them */
+        return 1; /* GCOVR_EXCL_LINE: likewise */
     for (i = 0; i + 16 <= stack->sets.lengths[SEGMENTS]; i += 16)
         if (dwexpr_libdw_number_of(entries + i, 4, 0) == dwexpr_libdw_number_of(general + 40, 4, 0) >> 3) {
             *base = dwexpr_libdw_number_of(entries + i + 4, 4, 0);
@@ -151,74 +151,254 @@ static int find_thread_pointer(const dwexpr_libdw_stack *stack, uint64_t *pointe
     size_t size;
     if (stack->target->machine == EM_386)
         return find_segment(stack, pointer);
-    if (stack->target->machine != EM_X86_64 || read_set(stack, FS_BASE, bytes, &size))
-        return 1;
+    if (read_set(stack, FS_BASE, bytes, &size)) /* GCOVR_EXCL_BR_LINE: another machine, which has no such set */
+        return 1; /* GCOVR_EXCL_LINE: likewise */
     *pointer = dwexpr_libdw_number_of(bytes, size, 0);
     return 0;
 }
 
 static int find_tls(void *context, Dwfl_Module *module, uint64_t offset, uint64_t *address)
 {
-    const dwexpr_libdw_stack *stack = ((const struct stack_frame *)context)->stack;
+    const struct stack_frame *frame = (const struct stack_frame *)context;
     uint64_t pointer;
-    return find_thread_pointer(stack, &pointer) ||
-           dwexpr_libdw_find_block(stack->target, &stack->sets, module, pointer, offset, address);
+    return find_thread_pointer(frame->stack, &pointer) ||
+           dwexpr_libdw_find_block(&frame->frame, &frame->stack->sets, module, pointer, offset, address);
 }
 
 /* ---- the walk through the frames */
+
+static const dwexpr_libdw_source callbacks = {.read_register = read_register, .read_memory = read_memory,
+                                              .find_tls = find_tls};
+
+/* Adds a frame that stands at an address. */
+static int add_frame(dwexpr_libdw_stack *stack, struct stack_frame *frame, Dwarf_Addr pc, int is_activation)
+{
+    dwexpr_libdw_source source = callbacks;
+    source.dwfl = stack->target->dwfl;
+    source.pc = pc;
+    source.is_activation = is_activation;
+    frame->stack = stack;
+    dwexpr_libdw_begin_frame(&frame->frame, &source);
+    stack->code = dwexpr_libdw_add(&stack->frames, frame, sizeof *frame);
+    return stack->code != 0;
+}
+
+static struct stack_frame *last_of(const dwexpr_libdw_stack *stack)
+{
+    return frames_of(stack) + stack->frames.length - 1;
+}
+
+/* Why frames may be missing. */
+static void cut_off(dwexpr_libdw_stack *stack, const char *why)
+{
+    dwexpr_libdw_error = why;
+    stack->is_cut_off = 1;
+}
+
+static int has_rules(const struct stack_frame *frame)
+{
+    Dwarf_Frame *rules = NULL;
+    Elf *elf;
+    const int failed = dwexpr_libdw_find_state(&frame->frame, &rules, &elf);
+    free(rules);
+    return !failed;
+}
+
+/* Whether a frame stands where no code can be, on x86: it, or what the signal interrupted, called a bad pointer. */
+static int is_bad_call(const struct stack_frame *frame)
+{
+    const dwexpr_libdw_target *target = frame->stack->target;
+    return frame->frame.source.is_activation && (target->machine == EM_X86_64 || target->machine == EM_386) &&
+           !has_rules(frame) && !dwexpr_libdw_may_be_code(target, frame->frame.source.pc);
+}
 
 static int on_frame(Dwfl_Frame *state, void *given)
 {
     dwexpr_libdw_stack *stack = (dwexpr_libdw_stack *)given;
     struct stack_frame frame = {.stack = stack};
-    dwexpr_libdw_source source = {.dwfl = stack->target->dwfl, .read_register = read_register,
-                                  .read_memory = read_memory, .find_tls = find_tls};
     Dwarf_Frame *rules = NULL;
+    Dwarf_Addr pc;
     Elf *elf;
     bool is_activation = false;
     unsigned i;
+    if (stack->frames.length && is_bad_call(last_of(stack)))
+        return DWARF_CB_ABORT;
     if (stack->frames.length == stack->most) {
         stack->code = DWEXPR_LIBDW_TOO_MANY_FRAMES;
         return DWARF_CB_ABORT;
     }
-    dwfl_frame_pc(state, &source.pc, &is_activation);
-    source.is_activation = is_activation;
-    dwexpr_libdw_begin_frame(&frame.frame, &source);
+    dwfl_frame_pc(state, &pc, &is_activation);
     if (stack->frames.length) {
-        frame.is_guessed = dwexpr_libdw_find_state(&frames_of(stack)[stack->frames.length - 1].frame, &rules, &elf);
+        frame.is_guessed = dwexpr_libdw_find_state(&last_of(stack)->frame, &rules, &elf);
         dwarf_frame_info(rules, NULL, NULL, &frame.is_interrupted);
         free(rules);
     } else {
         dwexpr_libdw_read_sets(stack->target, stack->thread, &stack->sets);
     }
     if (frame.is_guessed)
-        dwexpr_libdw_error = "a frame has no call frame information";
-    stack->is_cut_off |= frame.is_guessed;
+        cut_off(stack, "a frame has no call frame information");
     for (i = 0; i < ASKED_REGISTERS; i++)
         frame.is_told[i] = !dwfl_frame_reg(state, i, &frame.registers[i]);
-    stack->code = dwexpr_libdw_add(&stack->frames, &frame, sizeof frame);
-    return stack->code ? DWARF_CB_ABORT : DWARF_CB_OK;
+    return add_frame(stack, &frame, pc, is_activation) ? DWARF_CB_ABORT : DWARF_CB_OK;
+}
+
+/* ---- frames that libdwfl doesn't find */
+
+/* Gives the frames from one on their callers, or all if they have moved. */
+static void link_frames(dwexpr_libdw_stack *stack, size_t from)
+{
+    struct stack_frame *frames = frames_of(stack);
+    size_t i = stack->frames.length && frames[0].frame.source.context == frames ? from : 0;
+    for (; i < stack->frames.length; i++) {
+        frames[i].frame.source.context = &frames[i];
+        frames[i].frame.source.caller = dwexpr_libdw_frame_at(stack, i + 1);
+    }
+}
+
+static int read_word(const struct stack_frame *frame, uint64_t address, uint64_t *word)
+{
+    const dwexpr_libdw_target *target = frame->stack->target;
+    uint8_t bytes[8];
+    if (dwexpr_libdw_read_memory(target, address, bytes, target->word))
+        return 1;
+    *word = dwexpr_libdw_number_of(bytes, target->word, target->big_endian);
+    return 0;
+}
+
+/* Whether a call of an address that a register or memory has, or of a stub, ends at an address. */
+static int follows_call(const struct stack_frame *frame, uint64_t address)
+{
+    uint8_t bytes[7];
+    int size;
+    if (dwexpr_libdw_read_memory(frame->stack->target, address - sizeof bytes, bytes, sizeof bytes))
+        return 0;
+    for (size = 2; size <= 7; size++)
+        if (bytes[7 - size] == 0xff && (bytes[8 - size] & 0x38) == 0x10)
+            return 1;
+    return bytes[2] == 0xe8;
+}
+
+/* Adds the frame that called a bad pointer: the return address is on top of the stack. After a return to a bad pointer
+ * that is still below the top. */
+static void add_caller_of_bad(dwexpr_libdw_stack *stack)
+{
+    struct stack_frame *last = last_of(stack), frame = *last;
+    const unsigned number = stack->target->machine == EM_386 ? 4 : 7;
+    const size_t word = stack->target->word;
+    const uint64_t pc = last->frame.source.pc;
+    uint64_t top = last->registers[number], returns = 0, below = 0;
+    if (read_word(last, top, &returns) || !follows_call(last, returns) ||
+        (pc && (read_word(last, top - word, &below) || below == pc))) {
+        cut_off(stack, "a frame stands at no code, and none has called it");
+        return;
+    }
+    frame.registers[number] = top + word;
+    frame.is_interrupted = 0;
+    add_frame(stack, &frame, returns, 0);
+}
+
+/* The content of a caller's register, by its rule. Gives back whether it is known. */
+static int has_caller_register(struct stack_frame *frame, Dwarf_Frame *rules, Elf *elf, unsigned number,
+                               uint64_t *content)
+{
+    const dwexpr_libdw_target *target = frame->stack->target;
+    uint8_t bytes[DWEXPR_LIBDW_REGISTER_SIZE];
+    dwexpr_libdw_text rule;
+    dwexpr_libdw_value *value = NULL;
+    uint32_t code = dwexpr_libdw_rule(rules, elf, (int)number, &rule);
+    if (code == DWEXPR_LIBDW_SAME_VALUE) {
+        *content = frame->registers[number];
+        return frame->is_told[number];
+    }
+    if (!code)
+        code = dwexpr_libdw_evaluate(&frame->frame, &rule, NULL, NULL, &value);
+    if (!code && rule.is_value)
+        *content = value->outcome.value;
+    else if (!code && !(code = dwexpr_libdw_read(&frame->frame, value, 8 * target->word, bytes, NULL)))
+        *content = dwexpr_libdw_number_of(bytes, target->word, target->big_endian);
+    dwexpr_libdw_release(value);
+    dwexpr_libdw_free_text(&rule);
+    return !code;
+}
+
+/* Whether the code to which a frame's function returns ends the thread with its result, as that of glibc does, or is
+ * the first of its file. */
+static int begins_thread(const struct stack_frame *frame)
+{
+    static const uint8_t exits[] = {0x48, 0x89, 0xc7, 0xb8, 60, 0, 0, 0, 0x0f, 0x05}; /* exit(rax) */
+    static const uint8_t exits_32[] = {0x89, 0xc3, 0xb8, 1, 0, 0, 0}; /* exit(eax) */
+    const dwexpr_libdw_target *target = frame->stack->target;
+    const Dwarf_Addr pc = frame->frame.source.pc;
+    const int is_wide = target->machine == EM_X86_64;
+    uint8_t bytes[sizeof exits];
+    GElf_Ehdr header = {.e_entry = 0};
+    GElf_Sym symbol;
+    GElf_Off offset = pc - 1;
+    Dwarf_Addr bias = 0;
+    Dwfl_Module *module = dwfl_addrmodule(target->dwfl, pc - 1);
+    if (!dwexpr_libdw_read_memory(target, pc, bytes, sizeof bytes) &&
+        !memcmp(bytes, is_wide ? exits : exits_32, is_wide ? sizeof exits : sizeof exits_32))
+        return 1;
+    gelf_getehdr(dwfl_module_getelf(module, &bias), &header);
+    dwfl_module_addrinfo(module, pc - 1, &offset, &symbol, NULL, NULL, NULL);
+    return header.e_entry && pc - 1 - offset == header.e_entry + bias;
+}
+
+/* Adds the caller of the last frame by its rules, unless they say that there is none. */
+static void add_caller(dwexpr_libdw_stack *stack)
+{
+    struct stack_frame *last = last_of(stack), frame = {.stack = stack};
+    Dwarf_Frame *rules;
+    Dwarf_Op kept[3], *operations = NULL;
+    Elf *elf;
+    size_t count = 0;
+    unsigned i, returns;
+    if (dwexpr_libdw_find_state(&last->frame, &rules, &elf)) {
+        if (!begins_thread(last))
+            cut_off(stack, "a frame has no call frame information");
+        return;
+    }
+    returns = (unsigned)dwarf_frame_info(rules, NULL, NULL, &frame.is_interrupted);
+    dwarf_frame_register(rules, (int)returns, kept, &operations, &count);
+    if (count || operations != kept) {
+        for (i = 0; i < ASKED_REGISTERS; i++)
+            frame.is_told[i] = (uint8_t)has_caller_register(last, rules, elf, i, &frame.registers[i]);
+        if (returns >= ASKED_REGISTERS || !frame.is_told[returns] ||
+            (!frame.registers[returns] && !frame.is_interrupted))
+            cut_off(stack, "a frame has no return address");
+        else
+            add_frame(stack, &frame, frame.registers[returns], frame.is_interrupted);
+    }
+    free(rules);
 }
 
 uint32_t dwexpr_libdw_unwind(dwexpr_libdw_target *target, pid_t thread, size_t most, dwexpr_libdw_stack **stack)
 {
     dwexpr_libdw_stack *found = (dwexpr_libdw_stack *)calloc(1, sizeof *found);
     uint32_t code;
-    size_t i;
+    size_t length = 0;
     *stack = NULL;
     if (!found)
         return DWEXPR_LIBDW_NO_MEMORY;
     found->target = target;
     found->thread = thread;
     found->most = most;
-    if (dwfl_getthread_frames(target->dwfl, thread, on_frame, found) < 0) {
-        dwexpr_libdw_error = dwfl_errmsg(-1);
-        found->is_cut_off = 1;
-    }
-    for (i = 0; i < found->frames.length; i++) {
-        dwexpr_libdw_source *source = &frames_of(found)[i].frame.source;
-        source->context = &frames_of(found)[i];
-        source->caller = dwexpr_libdw_frame_at(found, i + 1);
+    if (dwfl_getthread_frames(target->dwfl, thread, on_frame, found) < 0 &&
+        !(found->frames.length && (is_bad_call(last_of(found)) || begins_thread(last_of(found)))))
+        cut_off(found, dwfl_errmsg(-1));
+    link_frames(found, 0);
+    /* libdwfl ends at the address 0, whatever follows */
+    while (!found->code && !found->is_cut_off && length < found->frames.length) {
+        length = found->frames.length;
+        if (is_bad_call(last_of(found)))
+            add_caller_of_bad(found);
+        else
+            add_caller(found);
+        if (found->frames.length > most) {
+            found->frames.length = most;
+            found->code = DWEXPR_LIBDW_TOO_MANY_FRAMES;
+        }
+        link_frames(found, length - 1);
     }
     code = found->code;
     if (!code && !found->frames.length)

@@ -6,6 +6,7 @@
 
 #include <errno.h>
 #include <fcntl.h>
+#include <inttypes.h>
 #include <stdio.h>
 #include <sys/ptrace.h>
 #include <sys/uio.h>
@@ -117,12 +118,21 @@ static void take_sets(const dwexpr_libdw_target *target, Elf_Data *from, pid_t t
     }
 }
 
-/* Opens a file that /proc has of the process. */
+/* The path of a file that /proc has of the process. */
+struct path {
+    char text[64];
+};
+
+static struct path path_of(const dwexpr_libdw_target *target, const char *name)
+{
+    struct path path;
+    snprintf(path.text, sizeof path.text, "/proc/%ld/%s", (long)dwfl_pid(target->dwfl), name);
+    return path;
+}
+
 static int open_proc(const dwexpr_libdw_target *target, const char *name)
 {
-    char path[64];
-    snprintf(path, sizeof path, "/proc/%ld/%s", (long)dwfl_pid(target->dwfl), name);
-    return open(path, O_RDONLY | O_CLOEXEC);
+    return open(path_of(target, name).text, O_RDONLY | O_CLOEXEC);
 }
 
 /* Reads the start of such a file. Returns how many bytes there are. */
@@ -133,6 +143,28 @@ static size_t read_proc(const dwexpr_libdw_target *target, const char *name, voi
     if (file >= 0)
         close(file);
     return count > 0 ? (size_t)count : 0;
+}
+
+int dwexpr_libdw_may_be_code(const dwexpr_libdw_target *target, uint64_t address)
+{
+    FILE *maps = target->core ? NULL : fopen(path_of(target, "maps").text, "re");
+    uint64_t begin = 0, end = 0;
+    char executable = 0;
+    size_t count = 0, i;
+    int is_code = dwfl_addrmodule(target->dwfl, address) != NULL;
+    while (maps && fscanf(maps, "%" SCNx64 "-%" SCNx64 " %*c%*c%c%*[^\n]", &begin, &end, &executable) == 3)
+        if (address - begin < end - begin)
+            is_code = executable == 'x';
+    if (maps)
+        fclose(maps);
+    elf_getphdrnum(target->core, &count);
+    for (i = 0; i < count; i++) {
+        GElf_Phdr segment = {.p_type = PT_NULL};
+        gelf_getphdr(target->core, (int)i, &segment);
+        if (segment.p_type == PT_LOAD && address - segment.p_vaddr < segment.p_memsz)
+            is_code = (segment.p_flags & PF_X) != 0;
+    }
+    return is_code;
 }
 
 void dwexpr_libdw_read_sets(const dwexpr_libdw_target *target, pid_t thread, struct dwexpr_libdw_sets *sets)
@@ -200,7 +232,7 @@ static uint32_t make_target(const Dwfl_Callbacks *finders, dwexpr_libdw_target *
         return DWEXPR_LIBDW_NO_MEMORY;
     (*target)->file = -1;
     (*target)->owned = finders ? dwfl_begin(finders) : NULL;
-    return ended(finders && !(*target)->owned ? DWEXPR_LIBDW_NO_MEMORY : 0, target);
+    return ended(finders && !(*target)->owned ? DWEXPR_LIBDW_NO_MEMORY : 0, target); /* GCOVR_EXCL_BR_LINE: no memory */
 }
 
 static uint32_t begin_target(dwexpr_libdw_target *target, Dwfl *dwfl, Elf *core)
@@ -230,19 +262,22 @@ static uint32_t begin_target(dwexpr_libdw_target *target, Dwfl *dwfl, Elf *core)
 uint32_t dwexpr_libdw_attach(Dwfl *dwfl, Elf *core, dwexpr_libdw_target **target)
 {
     const uint32_t code = make_target(NULL, target);
-    return code ? code : ended(begin_target(*target, dwfl, core), target);
+    return code ? code : ended(begin_target(*target, dwfl, core), target); /* GCOVR_EXCL_BR_LINE: no memory */
 }
 
 uint32_t dwexpr_libdw_open_process(pid_t process, dwexpr_libdw_target **target)
 {
     static const Dwfl_Callbacks finders = {dwfl_linux_proc_find_elf, dwfl_standard_find_debuginfo, NULL, NULL};
     const uint32_t code = make_target(&finders, target);
-    Dwfl *dwfl = code ? NULL : (*target)->owned;
-    if (code)
-        return code;
-    if (has_failed(dwfl_linux_proc_report(dwfl, process)) || dwfl_report_end(dwfl, NULL, NULL) ||
-        has_failed(dwfl_linux_proc_attach(dwfl, process, false)))
+    Dwfl *dwfl;
+    if (code) /* GCOVR_EXCL_BR_LINE: no memory */
+        return code; /* GCOVR_EXCL_LINE: no memory */
+    dwfl = (*target)->owned;
+    if (has_failed(dwfl_linux_proc_report(dwfl, process)))
         return ended(DWEXPR_LIBDW_NO_TARGET, target);
+    dwfl_report_end(dwfl, NULL, NULL);
+    if (has_failed(dwfl_linux_proc_attach(dwfl, process, false))) /* GCOVR_EXCL_BR_LINE: it ends after the report */
+        return ended(DWEXPR_LIBDW_NO_TARGET, target); /* GCOVR_EXCL_LINE: likewise */
     return ended(begin_target(*target, dwfl, NULL), target);
 }
 
@@ -250,10 +285,11 @@ uint32_t dwexpr_libdw_open_core(const char *file, const char *program, dwexpr_li
 {
     static const Dwfl_Callbacks finders = {dwfl_build_id_find_elf, dwfl_standard_find_debuginfo, NULL, NULL};
     const uint32_t code = make_target(&finders, target);
-    Dwfl *dwfl = code ? NULL : (*target)->owned;
+    Dwfl *dwfl;
     Elf *core;
     if (code)
         return code;
+    dwfl = (*target)->owned;
     elf_version(EV_CURRENT);
     (*target)->file = open(file, O_RDONLY | O_CLOEXEC);
     if (has_failed((*target)->file < 0 ? errno : 0))
@@ -261,8 +297,10 @@ uint32_t dwexpr_libdw_open_core(const char *file, const char *program, dwexpr_li
     core = (*target)->opened = elf_begin((*target)->file, ELF_C_READ_MMAP, NULL);
     if (!core)
         dwexpr_libdw_error = elf_errmsg(-1);
-    if (!core || has_failed(-(dwfl_core_file_report(dwfl, core, program) <= 0)) || dwfl_report_end(dwfl, NULL, NULL) ||
-        has_failed(-(dwfl_core_file_attach(dwfl, core) < 0)))
+    if (!core || has_failed(-(dwfl_core_file_report(dwfl, core, program) <= 0)))
+        return ended(DWEXPR_LIBDW_NO_TARGET, target);
+    dwfl_report_end(dwfl, NULL, NULL);
+    if (has_failed(-(dwfl_core_file_attach(dwfl, core) < 0)))
         return ended(DWEXPR_LIBDW_NO_TARGET, target);
     return ended(begin_target(*target, dwfl, core), target);
 }

@@ -1,13 +1,11 @@
 /* Where a thread has the thread-local storage of a module, on x86. */
 #include "targets.h"
 
-#if _ELFUTILS_PREREQ(0, 188) /* stacks.c */
-
 /* ---- what glibc keeps of other modules */
 
-/* Reads a process's memory. After a read has failed, every later one gives 0. */
+/* Reads a frame's memory. After a read has failed, every later one gives 0. */
 struct reader {
-    const dwexpr_libdw_target *target;
+    const dwexpr_libdw_frame *frame;
     size_t word; /* the bytes of an address */
     int failed;
 };
@@ -15,8 +13,13 @@ struct reader {
 static uint64_t number_at(struct reader *reader, uint64_t address, size_t size)
 {
     uint8_t bytes[8] = {0};
-    reader->failed |= dwexpr_libdw_read_memory(reader->target, address, bytes, size);
+    reader->failed |= dwexpr_libdw_memory(reader->frame, address, bytes, size) != 0;
     return reader->failed ? 0 : dwexpr_libdw_number_of(bytes, size, 0);
+}
+
+static size_t word_of(Elf *elf)
+{
+    return gelf_getclass(elf) == ELFCLASS32 ? 4 : 8;
 }
 
 static uint64_t word_at(struct reader *reader, uint64_t address)
@@ -27,7 +30,7 @@ static uint64_t word_at(struct reader *reader, uint64_t address)
 static uint64_t symbol_at(struct reader *reader, const char *name)
 {
     struct dwexpr_libdw_symbol symbol = {.name = name};
-    reader->failed |= !dwexpr_libdw_resolve(reader->target->dwfl, NULL, 0, &symbol);
+    reader->failed |= !dwexpr_libdw_find_exported(reader->frame->source.dwfl, &symbol);
     return reader->failed ? 0 : symbol.address;
 }
 
@@ -52,6 +55,25 @@ static uint64_t find_map(struct reader *reader, Dwfl_Module *module)
     return i < 10000 ? map : 0;
 }
 
+int dwexpr_libdw_is_bound(const dwexpr_libdw_frame *frame, const struct dwexpr_libdw_relocation *relocation,
+                          const struct dwexpr_libdw_symbol *symbol)
+{
+    Dwarf_Addr bias;
+    struct reader reader = {frame, word_of(dwfl_module_getelf(relocation->module, &bias)), 0};
+    const uint64_t map = find_map(&reader, symbol->module);
+    const uint64_t block = word_at(&reader, map + offset_of(&reader, "_thread_db_link_map_l_tls_offset"));
+    const uint64_t distance = (symbol->symbol.st_value + (uint64_t)relocation->addend - block) &
+                              UINT64_MAX >> (64 - 8 * reader.word);
+    /* a descriptor has a function first, and then the distance if that is fixed */
+    const size_t after = relocation->kind == HAS_DESCRIPTOR ? reader.word : 0;
+    const uint64_t content = word_at(&reader, relocation->place + after);
+    /* it is read last, and is 0 if anything isn't known */
+    const uint64_t number = word_at(&reader, map + offset_of(&reader, "_thread_db_link_map_l_tls_modid"));
+    return number && content == (relocation->kind == HAS_MODULE ? number : distance);
+}
+
+#if _ELFUTILS_PREREQ(0, 188) /* stacks.c */
+
 /* Whether a thread's vector of blocks is up to date for a module: no older than when the module got its number. */
 static int is_current(struct reader *reader, uint64_t vector, uint64_t number)
 {
@@ -75,15 +97,15 @@ static int is_current(struct reader *reader, uint64_t vector, uint64_t number)
 
 /* The block of a module that was loaded at the start is at a distance from the thread pointer. Other blocks are in the
  * thread's vector once the thread has used them. */
-static int find_library_block(const dwexpr_libdw_target *target, Dwfl_Module *module, uint64_t pointer,
+static int find_library_block(const dwexpr_libdw_frame *frame, size_t word, Dwfl_Module *module, uint64_t pointer,
                               uint64_t offset, uint64_t *address)
 {
-    struct reader reader = {target, target->word, 0};
+    struct reader reader = {frame, word, 0};
     const uint64_t none = reader.word == 4 ? 0xffffffff : UINT64_MAX;
     const uint64_t map = find_map(&reader, module);
     const uint64_t distance = map ? word_at(&reader, map + offset_of(&reader, "_thread_db_link_map_l_tls_offset")) : 0;
     uint64_t number, vector, block;
-    if (!map || reader.failed)
+    if (!map || reader.failed) /* GCOVR_EXCL_BR_LINE: the list can be read */
         return 1;
     if (distance && distance != none) {
         *address = pointer - distance + offset;
@@ -94,7 +116,8 @@ static int find_library_block(const dwexpr_libdw_target *target, Dwfl_Module *mo
     block = word_at(&reader, vector + 2 * reader.word * number);
     *address = block + offset;
     /* an odd one isn't there yet */
-    return !number || !block || block % 2 || !is_current(&reader, vector, number) || reader.failed;
+    return !number || !block || block % 2 || !is_current(&reader, vector, number) ||
+           reader.failed; /* GCOVR_EXCL_BR_LINE: it is current if it can be read */
 }
 
 /* The program's own block ends at the thread pointer, and begins as its segment is aligned. */
@@ -114,17 +137,19 @@ static Dwarf_Addr program_of(const struct dwexpr_libdw_sets *sets, size_t word)
     return 0;
 }
 
-int dwexpr_libdw_find_block(const dwexpr_libdw_target *target, const struct dwexpr_libdw_sets *sets,
-                            Dwfl_Module *module, uint64_t pointer, uint64_t offset, uint64_t *address)
+int dwexpr_libdw_find_block(const dwexpr_libdw_frame *frame, const struct dwexpr_libdw_sets *sets, Dwfl_Module *module,
+                            uint64_t pointer, uint64_t offset, uint64_t *address)
 {
-    const Dwarf_Addr program = program_of(sets, target->word);
+    Dwarf_Addr program;
     GElf_Phdr segment;
     Dwarf_Addr bias;
+    const size_t word = word_of(dwfl_module_getelf(module, &bias));
     /* GCC 12 writes an address for an offset in split debug information of version 5 */
     if (!dwexpr_libdw_find_segment(module, PT_TLS, &segment, &bias) || offset >= segment.p_memsz)
         return 1;
-    if (!program || dwfl_addrmodule(target->dwfl, program) != module)
-        return find_library_block(target, module, pointer, offset, address);
+    program = program_of(sets, word);
+    if (!program || dwfl_addrmodule(frame->source.dwfl, program) != module)
+        return find_library_block(frame, word, module, pointer, offset, address);
     *address = program_block(&segment, pointer) + offset;
     return 0;
 }

@@ -1,22 +1,23 @@
 #!/usr/bin/env python3
-"""Checks that tests take each line and each branch of the library over libdw, but those that `untaken` names.
+"""Checks that tests take each line and each branch of the library over libdw, but those that the source marks.
 
     check_untaken.py BUILD     BUILD is the folder of the preset `coverage`, whose tests ran before
 
-It removes what the tests counted. The last line is `N passed, M failed`.
+The marks are gcovr's: GCOVR_EXCL_LINE on a line that no test runs, GCOVR_EXCL_BR_LINE on one with a branch that no test
+takes, or GCOVR_EXCL_BR_START and GCOVR_EXCL_BR_STOP around it. It removes what the tests counted. The last line is
+`N passed, M failed`.
 """
 
-import collections
 import itertools
 import json
 import pathlib
 import subprocess
 import sys
 
-TESTS = pathlib.Path(__file__).resolve().parent
-SOURCES = [*TESTS.parent.glob("src/*.c"), TESTS.parents[1] / "src/run.c"]
-# At most so many lines of 100 are named in `untaken`.
-MOST_NAMED = 3
+LIBDW = pathlib.Path(__file__).resolve().parents[1]
+SOURCES = [*LIBDW.glob("src/*.c"), LIBDW.parent / "src/run.c"]
+# At most so many lines of 100 are marked.
+MOST_MARKED = 2
 
 
 def counted_by_gcov(build):
@@ -32,21 +33,28 @@ def counted_by_gcov(build):
         file.unlink()
 
 
+def marked_in(path):
+    """The numbers of the lines that a source marks."""
+    within = False
+    for number, line in enumerate(path.read_text(encoding="utf-8").splitlines(), 1):
+        within = within and "GCOVR_EXCL_BR_STOP" not in line
+        if within or "GCOVR_EXCL_LINE" in line or "GCOVR_EXCL_BR_LINE" in line:
+            yield path, number
+        within = within or "GCOVR_EXCL_BR_START" in line
+
+
 def main():
     counts = {}
     for place, found in counted_by_gcov(sys.argv[1]):
         before = counts.setdefault(place, [0] * len(found))
         counts[place] = [one + other for one, other in itertools.zip_longest(before, found, fillvalue=0)]
-    lines = {path: path.read_text(encoding="utf-8").splitlines() for path, _ in counts}
-    places = [place for place in sorted(counts) if 0 in counts[place]]
-    found = collections.Counter(f"{path.name} {lines[path][number - 1].strip()}" for path, number in places)
-    named = (TESTS / "untaken").read_text().splitlines()
-    named = collections.Counter(line for line in named if line and not line.startswith("#"))
-    print(f"{len(places)} of {len(counts)} lines aren't taken, or have a branch that isn't")
-    faults = [f"no test takes, and it isn't named: {line}" for line in (found - named).elements()]
-    faults += [f"tests take what is named: {line}" for line in (named - found).elements()]
-    if sum(named.values()) * 100 > MOST_NAMED * len(counts):
-        faults.append("many lines are named")
+    untaken = {place for place in counts if 0 in counts[place]}
+    marked = {place for path in SOURCES for place in marked_in(path)}
+    print(f"{len(untaken)} of {len(counts)} lines aren't taken, or have a branch that isn't")
+    faults = [f"no test takes, and it isn't marked: {path}:{line}" for path, line in sorted(untaken - marked)]
+    faults += [f"tests take what is marked: {path}:{line}" for path, line in sorted(marked - untaken)]
+    if len(marked) * 100 > MOST_MARKED * len(counts):
+        faults.append("many lines are marked")
     print(*faults, f"{len(counts)} passed, {len(faults)} failed", sep="\n")
     return len(faults) > 0
 

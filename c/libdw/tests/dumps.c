@@ -48,6 +48,46 @@ static const struct {
     {0x502000, 4, ""},         {0x10, 1, NULL},
 };
 
+/* Threads that stand at no code, after the first one: how many frames are found, at most 10, and whether all are. */
+static const struct {
+    int after;
+    size_t frames;
+    uint32_t code;
+} ends[] = {
+    {0, 1, DWEXPR_LIBDW_CUT_OFF},  /* the word below the top can't be read */
+    {1, 2, 0},                     /* after a call */
+    {2, 2, 0},                     /* of NULL */
+    {3, 1, DWEXPR_LIBDW_CUT_OFF},  /* after a return */
+    {4, 1, DWEXPR_LIBDW_CUT_OFF},  /* the top follows no call */
+    {5, 1, DWEXPR_LIBDW_CUT_OFF},  /* .. nor any code */
+    {6, 2, 0},                     /* the caller ends the thread */
+    {7, 2, DWEXPR_LIBDW_CUT_OFF},  /* or has no rules */
+    {8, 3, DWEXPR_LIBDW_CUT_OFF},  /* the return address is as it was: no code is there */
+    {9, 2, DWEXPR_LIBDW_CUT_OFF},  /* it is in a register that isn't known */
+    {10, 2, DWEXPR_LIBDW_CUT_OFF}, /* a call by a register */
+    {11, 1, DWEXPR_LIBDW_CUT_OFF}, /* the top can't be read */
+    {12, 10, DWEXPR_LIBDW_TOO_MANY_FRAMES},
+};
+
+/* A call may change each register but those that the program's producer says it keeps, and it says nothing. */
+static void check_stacks(const char *machine, pid_t first, uint32_t xmm)
+{
+    uint8_t got[DWEXPR_LIBDW_REGISTER_SIZE];
+    size_t i, count;
+    for (i = 0; i < COUNT(ends); i++) {
+        dwexpr_libdw_stack *stack;
+        const uint32_t code = dwexpr_libdw_unwind(target, first + ends[i].after, 10, &stack);
+        char name[32];
+        for (count = 0; dwexpr_libdw_frame_at(stack, count);)
+            count++;
+        snprintf(name, sizeof name, "stack %d, %d frames, code %d", ends[i].after, (int)count, (int)code);
+        check(code == ends[i].code && count == ends[i].frames, machine, name);
+        check(count == 1 || dwexpr_libdw_register(dwexpr_libdw_frame_at(stack, 1), xmm, got, &count) == UNKNOWN,
+              machine, "a register that a call may change");
+        dwexpr_libdw_free_stack(stack);
+    }
+}
+
 static dwexpr_libdw_stack *unwind(pid_t thread)
 {
     dwexpr_libdw_stack *stack;
@@ -146,6 +186,7 @@ static void check_core(const char *machine, pid_t first, size_t count)
     char path[4096];
     uint8_t got[DWEXPR_LIBDW_REGISTER_SIZE], wanted[64];
     const pid_t *threads;
+    const int is_wide = first == 101;
     size_t i, size;
     uint32_t code;
     begin();
@@ -186,14 +227,15 @@ static void check_core(const char *machine, pid_t first, size_t count)
         }
         /* the CFA is a word above the stack's pointer */
         code = dwexpr_libdw_evaluate(dwexpr_libdw_frame_at(stack, 0), &text, NULL, NULL, &value);
-        check(!code && value->pieces[0].number == (count == 7 ? 0x500010 : 0x50000c), machine, "the CFA");
+        check(!code && value->pieces[0].number == (is_wide ? 0x500010 : 0x50000c), machine, "the CFA");
         dwexpr_libdw_release(value);
         check_unnamed(dwexpr_libdw_frame_at(stack, 0), machine);
         dwexpr_libdw_free_stack(stack);
+        check_stacks(machine, first + 10, is_wide ? 17 : 21);
         check_local(first, 0x600000u + (unsigned)first);
         /* on i386 the segment that gs selects may be missing */
-        check_local(first + 1, count == 7 ? 0x600000u + (unsigned)first + 1 : 0);
-        check_local(first + 2, count == 7 ? 0x600000u + (unsigned)first + 2 : 0);
+        check_local(first + 1, is_wide ? 0x600000u + (unsigned)first + 1 : 0);
+        check_local(first + 2, is_wide ? 0x600000u + (unsigned)first + 2 : 0);
     }
     if (count == 1)
         check_local(first, 0);
@@ -280,8 +322,8 @@ int main(int argc, char **argv)
     elf_version(EV_CURRENT);
     folder = argv[1];
     check(!strcmp(dwexpr_libdw_target_error(), "nothing failed"), "no error", "at first");
-    check_core("x86_64", 101, 7);
-    check_core("i386", 201, 3);
+    check_core("x86_64", 101, 20);
+    check_core("i386", 201, 16);
     check_core("big", 301, 1);
     check_core("empty", 0, 0);
     check_glibc("glibc64", 8, 1);

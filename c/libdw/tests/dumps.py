@@ -5,8 +5,11 @@ dumps.c says what is in them.
 
 from dwarf import Unit
 
-FIRST, STACK, NEXT, CUT = 0x401000, 0x500000, 0x501000, 0x502000
+FIRST, MORE, STACK, NEXT, CUT, TOPS = 0x401000, 0x402000, 0x500000, 0x501000, 0x502000, 0x504000
 CODE = bytes(range(256)) * 2
+# Calls: one after which the thread exits, one without rules, those whose return address is as it was, in register 200
+# and in memory, and one by a register.
+CALL, EXIT, EXIT_32 = b"\xe8\0\0\0\0", b"\x48\x89\xc7\xb8\x3c\0\0\0\x0f\x05", b"\x89\xc3\xb8\1\0\0\0\x90\x90\x90"
 LOAD, DYNAMIC, NOTE, TLS = 1, 2, 4, 7
 STATUS, FLOATS, PROCESS, AUXILIARY, XSAVE, FXSAVE, SEGMENTS = 1, 2, 3, 6, 0x202, 0x46E62B7F, 0x200
 
@@ -14,7 +17,7 @@ STATUS, FLOATS, PROCESS, AUXILIARY, XSAVE, FXSAVE, SEGMENTS = 1, 2, 3, 6, 0x202,
 class Core(Unit):
     def __init__(self, address_size, order="le"):
         super().__init__(address_size, 4, 4, order)
-        self.wide, self.notes = address_size == 8, b""
+        self.wide, self.notes, self.tops = address_size == 8, b"", b""
 
     def note(self, name, kind, content):
         def padded(text):
@@ -23,13 +26,13 @@ class Core(Unit):
         self.notes += self.pack("III", len(name) + 1, len(content), kind) + padded(name.encode() + b"\0")
         self.notes += padded(content)
 
-    def status(self, thread, stack, third=0):
-        """A thread that stands in the program, with the stack's pointer and the base of fs or gs's selector."""
+    def status(self, thread, stack, third=0, place=FIRST + 0x10):
+        """A thread that stands at a place, with the stack's pointer and the base of fs or gs's selector."""
         words = [0x100 * thread + number for number in range(27 if self.wide else 17)]
         if self.order == ">":
             words += range(21)
         else:
-            words[16 if self.wide else 12] = FIRST + 0x10
+            words[16 if self.wide else 12] = place
             words[19 if self.wide else 15] = stack
             words[21 if self.wide else 10] = third
         front = bytes(32 if self.wide else 24) + self.pack("I", thread) + bytes(76 if self.wide else 44)
@@ -42,11 +45,24 @@ class Core(Unit):
         if has_program:
             self.note("CORE", AUXILIARY, self.address(33, 0, 3, FIRST, 0, 0) + b"\0")
 
+    def stack(self, thread, place, top, below=0):
+        """A thread that stands at no code, with a word on top of the stack, and one below it unless that is None."""
+        if below is not None:
+            self.tops += self.address(below)
+        self.status(thread, TOPS + len(self.tops), 0, place)
+        self.tops += self.address(top)
+
     def program(self):
         self.root.add("subprogram", name="f", **self.placed(FIRST, len(CODE)))
+        returns = 16 if self.wide else 8
+        places = [b"", CALL + (EXIT if self.wide else EXIT_32), CALL, CALL, CALL, CALL, b"\xff\xd0"]
+        more = b"".join(it.ljust(0x20, b"\x90") for it in places)
+        rules = self.rules((FIRST, len(CODE)), (MORE + 0x60, 0x20, returns, bytes([0x08, returns])),
+                           (MORE + 0x80, 0x20, 200, b"\x05\xc8\1\1"),
+                           (MORE + 0xA0, 0x20, returns, bytes([0x80 + returns, 1])))
         # it begins 8 bytes after an address with its alignment, or has none
         local = (TLS, 0x403008, b"\1" * 4, 20, 16 if self.wide else 0)
-        return self.elf(self.tree() | self.rules(FIRST, len(CODE)), [(LOAD, FIRST, CODE, len(CODE)), local], 2)
+        return self.elf(self.tree() | rules, [(LOAD, FIRST, CODE, len(CODE)), (LOAD, MORE, more, len(more)), local], 2)
 
     def core(self):
         """Of the stack's segment the file has 0x20 bytes of 0x40, and then those of the next one. One ends after the
@@ -54,7 +70,7 @@ class Core(Unit):
         return self.elf({}, [
             (NOTE, 0, self.notes, 0), (LOAD, STACK, bytes(range(0x20)), 0x40), (LOAD, NEXT, b"\xee" * 0x20, 0x20),
             (LOAD, STACK + 0x20, b"\xdd" * 0x10, 0x10), (LOAD, CUT, (-4, 0x10), 0x10),
-            (LOAD, CUT + 0x10, (4, 0x10), 0x10), (NOTE, 0, (-8, 0x100), 0),
+            (LOAD, CUT + 0x10, (4, 0x10), 0x10), (LOAD, TOPS, self.tops, len(self.tops)), (NOTE, 0, (-8, 0x100), 0),
         ], 4)  # fmt: skip
 
 
@@ -133,6 +149,19 @@ class Glibc(Core):
         yield f"{name}.core", self.elf({}, [(NOTE, 0, self.notes, 0), *self.memory()], 4)
 
 
+def stacks(core, first):
+    """Threads that stand at no code."""
+    called = FIRST + CODE.index(0xE8) + 5
+    for at, (place, *top) in enumerate([
+        (0x10, called, None), (0x10, called), (0, called), (0x10, called, 0x10), (0x10, FIRST + 0x102), (0x10, 0x10),
+        *((0x10, MORE + it) for it in (0x25, 0x45, 0x65, 0x85, 0xC2)),
+    ]):  # fmt: skip
+        core.stack(first + at, place, *top)
+    core.status(first + 11, 0x10, 0, 0x10)
+    core.stack(first + 12, 0x10, MORE + 0xA5)
+    core.tops += core.address(*[MORE + 0xA5] * 12)
+
+
 def files():
     wide, narrow, big = Core(8), Core(4), Core(8, "be")
     wide.note("OTHER", STATUS, bytes(336))
@@ -146,6 +175,7 @@ def files():
     for thread, size in [(106, 512), (107, 200)]:
         wide.status(thread, STACK + 8, 0x600000 + thread)
         wide.note("CORE", FLOATS, floats(thread - 100)[:size])
+    stacks(wide, 111)
     # notes of another name, and one without registers
     for name, kind, size in [("LINUX", STATUS, 336), ("CORE", XSAVE, 336), ("LINUX", FLOATS, 336),
                              ("LINUX", AUXILIARY, 336), ("LOAD", AUXILIARY, 336), ("CORE", STATUS, 112)]:
@@ -156,6 +186,7 @@ def files():
         segments = [(5, 0x700000, 0, 0), (0x63 >> 3, 0x600000 + thread, 0, 0)][:count]
         if count:
             narrow.note("LINUX", SEGMENTS, b"".join(narrow.pack("IIII", *it) for it in segments) + b"123")
+    stacks(narrow, 211)
     big.status(301, STACK + 8)
     for name, core in [("x86_64", wide), ("i386", narrow), ("big", big), ("empty", Core(8))]:
         core.ends()

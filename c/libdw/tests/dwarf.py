@@ -159,36 +159,51 @@ class Unit:
         self.root.attributes["addr_base"] = (OFFSET, self.offset(2 * self.offset_size))
         return {".debug_addr": self.counted(self.pack("HBB", 5, self.address_size, 0) + self.address(*numbers))}
 
-    def rules(self, begin, size):
-        """.debug_frame of one function: the CFA is a word above the stack's pointer, and there is no caller."""
+    def rules(self, *functions):
+        """.debug_frame of functions, each by its begin and size: the CFA is a word above the stack's pointer, and there
+        is no caller. Others say where the return address is: the number of a register, and its rule."""
         word = self.address_size
-        pointer, returns = (7, 16) if word == 8 else (4, 8)
-        common = self.pack("IB", 0xFFFFFFFF, 4) + bytes([0, word, 0, 1]) + signed_leb(-word)
-        common += bytes([returns, 0x0C, pointer, word, 0x07, returns])
+        pointer, usual = (7, 16) if word == 8 else (4, 8)
         made = b""
-        for part in (common, self.pack("I", 0) + self.address(begin, size)):
-            part += bytes(-(len(part) + 4) % 8)
-            made += self.pack("I", len(part)) + part
+        for begin, size, *others in functions:
+            returns, rule = others or (usual, bytes([0x07, usual]))
+            common = self.pack("IB", 0xFFFFFFFF, 4) + bytes([0, word, 0, 1]) + signed_leb(-word)
+            common += unsigned_leb(returns) + bytes([0x0C, pointer, word]) + rule
+            for part in (common, self.pack("I", len(made)) + self.address(begin, size)):
+                part += bytes(-(len(part) + 4) % 8)
+                made += self.pack("I", len(part)) + part
         return {".debug_frame": made}
 
-    def elf(self, sections, segments=(), kind=1, symbols=(), table=".symtab"):
+    def table(self, name, symbols, relocations):
+        """The sections of symbols and of relocations that name them. A symbol is a name, which is None if it has none
+        in the file, an address, which is None if another file has it, what it is and, if not everyone sees it, its
+        visibility. A relocation is a place, a type, a symbol's name, and what is added."""
+        wide = self.address_size == 8
+        strings, rows, places = b"\0", bytes(24 if wide else 16), {}
+        for number, (symbol, address, what, *seen) in enumerate(symbols, 1):
+            at = 0xFFFF if symbol is None else len(strings)
+            fields = (what, *(seen or [0]), address is not None)
+            rows += self.pack(*(("IBBHQQ", at, *fields, address or 0, 8) if wide else
+                                ("IIIBBH", at, address or 0, 8, *fields)))
+            strings += (symbol or "").encode() + b"\0"
+            places.setdefault(symbol, number)
+        made = {name: rows, ".strtab": strings}
+        if relocations:
+            made[".rela.dyn" if wide else ".rel.dyn"] = b"".join(
+                self.pack("QQq", place, places[symbol] << 32 | kind, added) if wide
+                else self.pack("II", place, places[symbol] << 8 | kind) for place, kind, symbol, added in relocations)
+        return made
+
+    def elf(self, sections, segments=(), kind=1, symbols=(), table=".symtab", relocations=()):
         """The bytes of an object file with these sections, by name; or of a program or a core dump, with segments.
 
         A segment is its type, its address, its bytes, how many it has in memory, and its alignment if that isn't 1.
-        In place of bytes there may be the distance to the file's end, and how many there are said to be. A symbol is a
-        name, an address, which is None if another file has it, and what it is."""
+        In place of bytes there may be the distance to the file's end, and how many there are said to be."""
         wide = self.address_size == 8
         front, step, header = (64, 56, 64) if wide else (52, 32, 40)
         words = "IIQQQQQQ" if wide else "IIIIIIII"
         if symbols:
-            strings, rows = b"\0", bytes(24 if wide else 16)
-            for name, address, what in symbols:
-                defined, at = address is not None, address or 0
-                fields = (what, 0, defined)
-                rows += self.pack(*(("IBBHQQ", len(strings), *fields, at, 8) if wide else
-                                    ("IIIBBH", len(strings), at, 8, *fields)))
-                strings += name.encode() + b"\0"
-            sections = sections | {table: rows, ".strtab": strings}
+            sections = sections | self.table(table, symbols, relocations)
         names = "\0".join(["", *sections, ".shstrtab", ""])
         sections = sections | {".shstrtab": names.encode()}
         contents = [content for _, _, content, *_ in segments if isinstance(content, bytes)] + [*sections.values()]
@@ -204,9 +219,11 @@ class Unit:
             made += self.pack(words, *fields, *(align or [1]))
             place += length if isinstance(content, bytes) else 0
         headers = bytes(header)
-        kinds = {".shstrtab": 3, ".strtab": 3, ".symtab": 2, ".dynsym": 11}
+        kinds = {".shstrtab": 3, ".strtab": 3, ".symtab": 2, ".dynsym": 11, ".rela.dyn": 4, ".rel.dyn": 9}
+        sizes = {table: 24 if wide else 16, ".rela.dyn": 24, ".rel.dyn": 8}
         for index, (name, content) in enumerate(sections.items()):
-            links = [index + 2, 1, 8, len(rows) // (len(symbols) + 1)] if name == table and symbols else [0, 0, 1, 0]
+            # symbols link to the strings after them, and relocations to the symbols before those
+            links = [index + 2 if name == table else index - 1, 1, 8, sizes[name]] if name in sizes else [0, 0, 1, 0]
             fields = names.index(f"\0{name}\0") + 1, kinds.get(name, 1), 0, 0, place, len(content), *links
             headers += self.pack("IIQQQQIIQQ" if wide else "IIIIIIIIII", *fields)
             place += len(content)

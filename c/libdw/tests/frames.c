@@ -1,7 +1,8 @@
-/* The frames of a stopped program: how many there are, registers and values of callers, limits, places of members, and
- * reads by two threads.
+/* The frames of a stopped program: how many there are, registers and values of callers, limits, places of members, what
+ * the program itself saw, and reads by two threads.
  *
- *     frames KIND PID    KIND says what is checked, and so which program it is: processes.cmake has it */
+ *     frames KIND PID    KIND says what is checked, and so which program it is: processes.cmake has it
+ *     frames KIND FILE   the same for a core dump */
 #include <dwarf.h>
 #include <pthread.h>
 #include <stdlib.h>
@@ -306,8 +307,8 @@ static size_t globals_of(dwexpr_libdw_frame *frame, const char *name, uint64_t *
     return count;
 }
 
-/* Variables of the library, whose `library_count` is the copy in the program, and of the second library: as gdb has
- * them. `argc` is 2. */
+/* Variables of the library, whose `library_count` is the copy in the program, and of the second library. That one's
+ * functions use the first one's `library_local`: its own has 66. `argc` is 2. */
 static void check_modules(void)
 {
     static const struct {
@@ -315,7 +316,7 @@ static void check_modules(void)
         size_t count;
         uint64_t numbers[2];
     } rows[] = {{"library_count", 2, {42, 42}}, {"library_static", 2, {42, 42}}, {"library_hidden", 2, {43, 43}},
-                {"library_local", 2, {46, 66}}, {"own_local", 1, {10, 0}},       {"exchanged", 1, {0, 0}},
+                {"library_local", 2, {46, 46}}, {"own_local", 1, {10, 0}},       {"exchanged", 1, {0, 0}},
                 {"nowhere", 0, {0, 0}}};
     dwexpr_libdw_frame *frame;
     dwexpr_libdw_place place;
@@ -351,6 +352,74 @@ static void check_modules(void)
     dwexpr_libdw_release(value);
 }
 
+/* ---- what a program saw */
+
+/* How many variables have a value of so many bits, or many if one has another value. */
+static size_t have_value(dwexpr_libdw_frame *frame, Dwarf_Die *variables, size_t count, uint64_t wanted, uint64_t bits)
+{
+    size_t i, equal = 0;
+    for (i = 0; i < count; i++) {
+        dwexpr_libdw_value *value;
+        uint64_t number = 0;
+        uint32_t code = dwexpr_libdw_variable(frame, &variables[i], &value);
+        if (!code)
+            code = dwexpr_libdw_read(frame, value, bits, (uint8_t *)&number, NULL);
+        dwexpr_libdw_release(value);
+        equal += code ? 0 : number == wanted ? 1 : 1000;
+    }
+    return equal;
+}
+
+/* Checks the locals NAME_is and NAME_isnt of a frame: what it saw of NAME, which is declared in the function, or a
+ * variable of its module or else of any, and what it didn't. Returns how many there are. */
+static size_t check_seen_in(dwexpr_libdw_frame *frame, const char *function)
+{
+    dwexpr_libdw_entry *entries;
+    size_t count, i, locals = 0;
+    dwexpr_libdw_place place;
+    dwexpr_libdw_locate(frame, &place);
+    dwexpr_libdw_variables(frame, &entries, &count);
+    for (i = 0; i < count; i++) {
+        const char *said = dwarf_diename(&entries[i].entry);
+        const char *end = said ? strstr(said, "_is") : NULL;
+        char name[64] = "";
+        dwexpr_libdw_value *value = NULL;
+        Dwarf_Die type, declared, *globals;
+        uint64_t wanted = 0, bytes = 0;
+        size_t found, equal = 0;
+        if (!end)
+            continue;
+        locals++;
+        memcpy(name, said, (size_t)(end - said));
+        check(!dwexpr_libdw_type(&entries[i].entry, &type) && !dwexpr_libdw_size(frame, &type, NULL, &bytes) &&
+                  !dwexpr_libdw_variable(frame, &entries[i].entry, &value) &&
+                  !dwexpr_libdw_read(frame, value, 8 * bytes, (uint8_t *)&wanted, NULL),
+              function, said);
+        dwexpr_libdw_release(value);
+        if (find_variable(frame, name, &declared))
+            equal += have_value(frame, &declared, 1, wanted, 8 * bytes);
+        dwexpr_libdw_globals(frame, place.module, name, &globals, &found);
+        if (!found)
+            dwexpr_libdw_globals(frame, NULL, name, &globals, &found);
+        equal += have_value(frame, globals, found, wanted, 8 * bytes);
+        check(strcmp(end, "_is") ? equal >= 1000 : equal > 0 && equal < 1000, function, said);
+        free(globals);
+    }
+    free(entries);
+    return locals;
+}
+
+static void check_seen(void)
+{
+    dwexpr_libdw_frame *frame;
+    dwexpr_libdw_place place;
+    size_t i, locals = 0;
+    for (i = 0; (frame = dwexpr_libdw_frame_at(stack, i)) != NULL; i++)
+        if (!dwexpr_libdw_locate(frame, &place) && place.function.addr)
+            locals += check_seen_in(frame, dwarf_diename(&place.function));
+    check(locals > 0, "locals", "there are some");
+}
+
 /* ---- frames that are cut off */
 
 static void check_cut_off(void)
@@ -381,13 +450,14 @@ int main(int argc, char **argv)
     } kinds[] = {{"deep", check_deep},           {"members", check_members}, {"bases", check_members},
                  {"bounds", check_members},      {"variants", check_members}, {"pointers", check_pointers},
                  {"signals", check_signals},     {"modules", check_modules},
-                 {"split_modules", check_modules}, {"no_rules", check_cut_off}};
+                 {"split_modules", check_modules}, {"no_rules", check_cut_off}, {"seen", check_seen}};
     size_t i;
     const pid_t *threads;
     uint32_t code;
     if (argc != 3)
         return 2;
-    code = dwexpr_libdw_open_process((pid_t)atol(argv[2]), &target);
+    code = atol(argv[2]) ? dwexpr_libdw_open_process((pid_t)atol(argv[2]), &target)
+                         : dwexpr_libdw_open_core(argv[2], NULL, &target);
     if (!code && dwexpr_libdw_threads(target, &threads))
         code = dwexpr_libdw_unwind(target, threads[0], 1000, &stack);
     check((!code || code == DWEXPR_LIBDW_CUT_OFF) && stack, "the frames", dwexpr_libdw_code_name(code));

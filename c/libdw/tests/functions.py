@@ -190,7 +190,7 @@ class Functions(Unit):
         # an instance, a definition, a name that other units see, and that of a symbol at the same address
         self.call("0a000000", instance, call_origin=instance_of)
         self.call("0a000000", completed, call_origin=declaration)
-        self.symbols += [("alias", other.begin, 0x12), ("other_alias", other.begin, 0x12)]
+        self.symbols += [("alias", other.begin, 0x12), ("other_alias", other.begin, 0x12), (None, other.begin, 0x12)]
         circle = self.root.add("subprogram", external=True)
         circle.attributes["abstract_origin"] = circle
         self.call(UNKNOWN, called, call_origin=circle)
@@ -306,12 +306,16 @@ class Functions(Unit):
                          ("hidden", 0x1004, 0x01)]
         # one that isn't exported is found by its entry, and not that of a unit's own
         self.variable(self.root, "hidden", "addr 0x1004")
+        self.variable(self.root, "hidden", external=True)
         self.variable(self.root, "hidden", "addr 0x1020", external=True)
         # a module that exports none has each variable where its entry says
         self.row([function.begin], "in_memory in 0 is 08090a0b", "local in 0 is thread-local storage",
                  "nowhere in 0 is it is only declared", "hidden in 0 is 20212223", "defined in 0 is 18191a1b",
                  "indirect in 0 is 1c1d1e1f", "in_local in 0 is thread-local storage",
                  "nameless in 0 is it is only declared")
+        nameless = self.function()
+        self.variable(nameless, None, "addr 0x101c", external=True)
+        self.row([nameless.begin], "nameless in 0 is 1c1d1e1f")
 
     def nowhere(self):
         """A place in no function, whose caller is in one; and a place in no unit."""
@@ -344,7 +348,7 @@ class Functions(Unit):
             self.sections |= self.addresses(0x1010)
         else:
             self.parts()
-        sections = self.tree() | self.sections | {".text": CODE} | self.rules(FIRST, len(CODE))
+        sections = self.tree() | self.sections | {".text": CODE} | self.rules((FIRST, len(CODE)))
         return self.elf(sections, [(1, FIRST, CODE, len(CODE))], 2, self.symbols)
 
 

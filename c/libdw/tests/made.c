@@ -1,7 +1,7 @@
-/* The variables, types and functions of the files that entries.py, typed.py and functions.py make. The name of a
- * variable of a unit says what has to be, in words that end with a semicolon. In a program the name begins with where
- * frames stand, the innermost first, and a colon. If none is said, there is one frame without modules. The object is at
- * 0x1010.
+/* The variables, types and functions of the files that entries.py, typed.py, functions.py and links.py make. The name
+ * of a variable of a unit says what has to be, in words that end with a semicolon. In a program the name begins with
+ * where frames stand, the innermost first, and a colon. If none is said, there is one frame without modules. The object
+ * is at 0x1010.
  *
  *     value VALUE                 the variable's value: bytes, or the name of a code
  *     size N                      the bytes of its type
@@ -26,6 +26,7 @@
 #include "frame.h"
 #include "refusing.h"
 #include <fcntl.h>
+#include <gelf.h>
 #include <unistd.h>
 
 static const uint64_t object = 0x1010;
@@ -43,6 +44,24 @@ static int read_more_registers(void *context, uint32_t number, uint8_t *content,
     content[0] = 0x10;
     *size = 8;
     return 0;
+}
+
+/* Memory that a module's file has, or that of frame.h. */
+static int read_loaded(void *context, uint64_t address, uint8_t *content, size_t size)
+{
+    Dwarf_Addr bias;
+    Elf *elf = dwfl ? dwfl_module_getelf(dwfl_addrmodule(dwfl, address), &bias) : NULL;
+    size_t count = 0, i;
+    elf_getphdrnum(elf, &count);
+    for (i = 0; i < count; i++) {
+        GElf_Phdr segment;
+        gelf_getphdr(elf, (int)i, &segment);
+        if (segment.p_type == PT_LOAD && address - segment.p_vaddr < segment.p_filesz) {
+            memcpy(content, elf_rawfile(elf, NULL) + segment.p_offset + (address - segment.p_vaddr), size);
+            return 0;
+        }
+    }
+    return read_memory(context, address, content, size);
 }
 
 /* ---- types */
@@ -222,7 +241,7 @@ static void check_words(Dwarf_Die *variable, const char *words)
 
 static void check_row(Dwarf_Die *variable, const char *row)
 {
-    dwexpr_libdw_source source = {.dwfl = dwfl, .read_register = read_more_registers, .read_memory = read_memory,
+    dwexpr_libdw_source source = {.dwfl = dwfl, .read_register = read_more_registers, .read_memory = read_loaded,
                                   .context = &big_endian, .is_activation = 1};
     char words[1024], *next, *here = words;
     size_t count = 0, i;
@@ -311,9 +330,15 @@ static void check_file(const char *path)
     check(!dwarf_get_units(dwarf, cu, &cu, NULL, NULL, &unit, NULL) && !dwexpr_libdw_encoding(cu, &encoding), path,
           "its unit");
     big_endian = encoding.big_endian;
-    dwfl = strstr(path, ".functions") ? dwfl_begin(&finders) : NULL;
+    dwfl = strstr(path, ".functions") || strstr(path, ".linked") ? dwfl_begin(&finders) : NULL;
     if (dwfl) {
-        Dwfl_Module *module = dwfl_report_elf(dwfl, "functions", path, -1, 0, 0);
+        Dwfl_Module *module = dwfl_report_elf(dwfl, "program", path, -1, 0, 0);
+        int number;
+        for (number = 1; number < 4; number++) {
+            char library[4096];
+            snprintf(library, sizeof library, "%s.%d", path, number);
+            dwfl_report_elf(dwfl, library, library, -1, 0, 0);
+        }
         dwfl_report_end(dwfl, NULL, NULL);
         foreign = unit;
         unit = *dwfl_module_nextcu(module, NULL, &bias);

@@ -1,4 +1,5 @@
-/* Runs a command on a process that has stopped at SIGILL, and that nothing traces any more.
+/* Runs a command on a process that has stopped at SIGILL, or at a SIGSEGV that it doesn't handle, and that nothing
+ * traces any more.
  *
  *     on_stopped [--core FILE] [COMMAND..] -- PROGRAM WORD..
  *
@@ -29,12 +30,25 @@ static void be_traced(char **words)
     _exit(127);
 }
 
-/* Whether a process stops at SIGILL. */
+static int handles(pid_t process, int number)
+{
+    char line[256];
+    unsigned long handled = 0;
+    FILE *file;
+    snprintf(line, sizeof line, "/proc/%ld/status", (long)process);
+    file = fopen(line, "r");
+    while (file && fgets(line, sizeof line, file) && sscanf(line, "SigCgt: %lx", &handled) != 1)
+        ;
+    if (file)
+        fclose(file);
+    return handled >> (number - 1) & 1;
+}
+
 static int stops(pid_t process)
 {
     int status, number = 0;
     waitpid(process, &status, 0);
-    while (number != SIGILL) {
+    while (number != SIGILL && (number != SIGSEGV || handles(process, SIGSEGV))) {
         ptrace(PTRACE_CONT, process, NULL, number);
         if (waitpid(process, &status, 0) < 0 || !WIFSTOPPED(status))
             return 0;

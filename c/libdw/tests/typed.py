@@ -206,11 +206,63 @@ class Types(Unit):
         again.add("structure_type", name="defined", byte_size=24)
         for kind, name in [("structure", {"name": "missing"}), ("structure", {}), ("enumeration", {"name": "defined"})]:
             self.says("size none", other.add(f"{kind}_type", declaration=True, **name))
+        # the unit is no type
+        self.root.attributes["declaration"] = True
+        self.says("size none", self.root)
+
+    def alternatives(self):
+        """A class that is defined more than once in the unit: it is known if the definitions are alike."""
+        add, at0 = self.root.add, {"data_member_location": 0}
+
+        def nested(levels, times):
+            kind = self.int
+            for _ in range(levels):
+                kind = add("structure_type", *(Entry("member", type=kind, **at0) for _ in range(times)), byte_size=4)
+            return [Entry("member", type=kind, **at0)]
+
+        def member(tag="member", **attributes):
+            return [Entry(tag, **attributes, **at0)]
+
+        def pointer(kind="pointer", **attributes):
+            return member(type=add(f"{kind}_type", **attributes))
+
+        def choice(kind):
+            return [Entry("variant_part", Entry("variant", *member(type=kind), discr_value=1))]
+
+        def words(count):
+            return member(type=self.array(self.int, span(0, count=count)))
+
+        named, long = add("structure_type", name="n", byte_size=4), self.base_type(8, SIGNED)
+        letter, number = (add("base_type", name=name, byte_size=1, encoding=SIGNED) for name in ("letter", "number"))
+        for is_known, first, second in [
+            (True, member(type=self.int), member(type=self.int)), (False, member(type=self.int), member(type=long)),
+            (False, member(type=self.int), []), (False, [], member(type=self.int)),
+            (False, member(type=self.int) * 2, member(type=self.int)), (False, pointer(), pointer(type=self.int)),
+            (False, member(type=self.int, bit_size=3), member(type=self.int)),
+            (False, member(type=add("structure_type", byte_size=4)), member(type=self.int)),
+            (True, [Entry("typedef"), *member(type=self.int)], member(type=self.int)),
+            (True, pointer(type=letter), pointer(type=number)), (False, pointer(type=letter), pointer(type=named)),
+            (True, pointer(type=self.int), pointer(type=long)),
+            *((True, pointer(kind, type=named), pointer(kind, type=named))
+              for kind in ("reference", "rvalue_reference", "ptr_to_member")),
+            (True, member("inheritance", type=named), member("inheritance", type=named)),
+            (True, words(2), words(2)), (False, words(2), words(3)),
+            (True, choice(self.int), choice(self.int)), (False, choice(self.int), choice(long)),
+            (False, nested(40, 1), nested(40, 1)), (False, nested(14, 2), nested(14, 2)),
+        ]:  # fmt: skip
+            name = f"several{len(self.root.children)}"
+            self.says(f"size {24 if is_known else 'none'}", add("structure_type", name=name, declaration=True))
+            for children in (first, second, first):
+                add("structure_type", *children, name=name, byte_size=24)
+        for sizes in ((24, "lit24"), ("lit24", "lit24"), ("lit24", 24)):
+            self.says("size none", add("structure_type", name=f"s{sizes}", declaration=True))
+            for size in sizes:
+                add("structure_type", name=f"s{sizes}", byte_size=size)
 
     def sections(self):
         self.list = {}
         for write in (self.arrays, self.enumerations, self.others, self.strings, self.numbers, self.members,
-                      self.definitions):
+                      self.definitions, self.alternatives):
             write()
         return self.tree() | self.list
 

@@ -173,6 +173,33 @@ static void check_long_memory(void)
     dwexpr_libdw_free_frame(frame);
 }
 
+static size_t reads;
+
+static int count_reads(void *context, uint64_t address, uint8_t *content, size_t size)
+{
+    reads++;
+    return read_memory(context, address, content, size);
+}
+
+/* An object whose first 2 KiB of 12 can be read: once as a whole, once for each of 4 pages, and once for each byte that
+ * can't be read. */
+static void check_unreadable(void)
+{
+    static uint8_t content[0x3000], lost[sizeof content];
+    const dwexpr_libdw_value value = {.outcome = {.pieces = 1}, .encoding = LE8,
+                                      .pieces = {{.kind = DWEXPR_AT_ADDRESS, .number = 0x1800}}};
+    int big_endian = 0, wrong = 0;
+    unsigned i;
+    dwexpr_libdw_frame *frame = frame_of(read_register, count_reads, &big_endian);
+    const uint32_t code = dwexpr_libdw_read(frame, &value, 8 * sizeof content, content, lost);
+    check(code == DWEXPR_LIBDW_NOT_READABLE, "unreadable memory", dwexpr_libdw_code_name(code));
+    check(reads == 1 + 4 + 0x2800, "unreadable memory", "how often it is read");
+    for (i = 0; i < sizeof content; i++)
+        wrong += i < 0x800 ? content[i] != (uint8_t)i || lost[i] : content[i] || lost[i] != 0xff;
+    check(!wrong, "unreadable memory", "its bytes");
+    dwexpr_libdw_free_frame(frame);
+}
+
 /* An attribute of no unit, and so of no file. */
 static void check_no_unit(void)
 {
@@ -398,6 +425,7 @@ int main(void)
     check_unanswered();
     check_no_frame();
     check_long_memory();
+    check_unreadable();
     check_no_unit();
     check_narrow_value();
     check_given();
@@ -406,9 +434,9 @@ int main(void)
     check_unwritten();
     check_operation_count();
     check_operations();
-    for (code = DWEXPR_LIBDW_FAILED; code <= DWEXPR_LIBDW_CUT_OFF; code++)
+    for (code = DWEXPR_LIBDW_FAILED; code <= DWEXPR_LIBDW_AMBIGUOUS; code++)
         check(strcmp(dwexpr_libdw_code_name(code), "unknown code") != 0, "the name of a code", "it has one");
-    check(!strcmp(dwexpr_libdw_code_name(DWEXPR_LIBDW_CUT_OFF + 1), "unknown code"), "a code", "there is no such");
+    check(!strcmp(dwexpr_libdw_code_name(DWEXPR_LIBDW_AMBIGUOUS + 1), "unknown code"), "a code", "there is no such");
     check(!strcmp(dwexpr_libdw_code_name(DWEXPR_LIBDW_WANTS + DWEXPR_WANTS_CFA), "the canonical frame address"),
           "a request", "its name");
     check(!strcmp(dwexpr_libdw_code_name(DWEXPR_DIVISION_BY_ZERO), "a division by zero"), "a fault", "its name");

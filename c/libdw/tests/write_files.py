@@ -11,9 +11,10 @@ import dumps
 import entries
 import every_operation
 import functions
+import links
 import typed
 
-for module in (dumps, entries, every_operation, functions, typed):
+for module in (dumps, entries, every_operation, functions, links, typed):
     for name, content in module.files():
         (pathlib.Path(sys.argv[1]) / name).write_bytes(content)
 print(every_operation.EveryOperation.total)

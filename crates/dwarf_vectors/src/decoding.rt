@@ -10,7 +10,7 @@ use std::alloc::Global;
 
 // Fields by their names in `c/include/dwexpr.h`. Those that an operation doesn't have are 0.
 #[derive(Clone, Copy, PartialEq)]
-struct Fields {
+struct Fields<'a> {
     number: u64,
     signed_number: i64,
     register_number: u16,
@@ -18,10 +18,10 @@ struct Fields {
     deref_size: u8,
     flag: bool,
     detail: u64,
-    block: Option<Bytes>,
+    block: Option<Bytes<'a>>,
 }
 
-const NONE: Fields = Fields {
+const NONE: Fields<'static> = Fields {
     number: 0,
     signed_number: 0,
     register_number: 0,
@@ -32,7 +32,7 @@ const NONE: Fields = Fields {
     block: None,
 };
 
-fn fields_of(operation: Operation<Bytes>) -> Fields {
+fn fields_of<'a>(operation: Operation<Bytes<'a>>) -> Fields<'a> {
     match operation {
         Operation::Deref {
             size,
@@ -143,14 +143,14 @@ fn fields_of(operation: Operation<Bytes>) -> Fields {
 }
 
 // The block at a place of these bytes that a vector names, as `2, 5`: the place and the length.
-fn block_in(named: &str, bytes: Bytes) -> Option<Bytes> {
+fn block_in<'a>(named: &str, bytes: Bytes<'a>) -> Option<Bytes<'a>> {
     let (place, length) = named.split_once(", ")?;
     let mut block = bytes;
     block.skip(place.parse().ok()?).ok()?;
     block.split(length.parse().ok()?).ok()
 }
 
-fn wanted_fields(vector: Vector<'_>, bytes: Bytes) -> Option<Fields> {
+fn wanted_fields<'a>(vector: Vector<'_>, bytes: Bytes<'a>) -> Option<Fields<'a>> {
     Some(Fields {
         number: vector.number("number")?,
         signed_number: vector.get("signed_number").unwrap_or("0").parse().ok()?,
@@ -167,7 +167,7 @@ fn wanted_fields(vector: Vector<'_>, bytes: Bytes) -> Option<Fields> {
 }
 
 // Whether each front of an operation of this length is cut off.
-fn are_fronts_cut_off(bytes: Bytes, length: usize, encoding: Encoding) -> bool {
+fn are_fronts_cut_off(bytes: Bytes<'_>, length: usize, encoding: Encoding) -> bool {
     (0..length).all(|end| {
         let mut rest = bytes;
         match rest.split(end) {
@@ -181,7 +181,7 @@ fn are_fronts_cut_off(bytes: Bytes, length: usize, encoding: Encoding) -> bool {
 }
 
 // Whether the iterator gives at most as many items as there are bytes.
-fn does_iterator_end(front: Bytes, encoding: Encoding) -> bool {
+fn does_iterator_end(front: Bytes<'_>, encoding: Encoding) -> bool {
     let mut operations = Expression(front).operations(encoding);
     for _ in 0..front.len() {
         if let Ok(None) = operations.next() {
@@ -192,7 +192,7 @@ fn does_iterator_end(front: Bytes, encoding: Encoding) -> bool {
 }
 
 // Whether it does so over each front.
-fn do_iterators_end(bytes: Bytes, encoding: Encoding) -> bool {
+fn do_iterators_end(bytes: Bytes<'_>, encoding: Encoding) -> bool {
     (0..=bytes.len()).all(|end| {
         let mut rest = bytes;
         match rest.split(end) {

@@ -49,16 +49,16 @@ impl<R: Reader + Copy> EvaluationStorage<R> for PieceInLine {
 // An evaluation to do, and what it has to give.
 #[derive(Clone, Copy)]
 struct Case<'a> {
-    text: Bytes,
+    text: Bytes<'a>,
     encoding: Encoding,
     // The capacities of the lists of values, callers, pieces and replies.
     capacities: [usize; 4],
-    steps: &'a [Step<Bytes>],
+    steps: &'a [Step<Bytes<'a>>],
     output: &'a str,
     status: Option<&'a str>,
 }
 
-fn step_in(alloc: Global, line: &str, order: RunTimeEndian) -> Option<Step<Bytes>> {
+fn step_in(alloc: Global, line: &str, order: RunTimeEndian) -> Option<Step<Bytes<'static>>> {
     let (name, word) = line.split_once(' ').unwrap_or((line, ""));
     Some(match name {
         "initial" => Step::InitialValue(word.parse().ok()?),
@@ -81,7 +81,7 @@ fn step_in(alloc: Global, line: &str, order: RunTimeEndian) -> Option<Step<Bytes
     })
 }
 
-fn steps_in(alloc: Global, input: &str, order: RunTimeEndian) -> Option<Vec<Step<Bytes>>> {
+fn steps_in(alloc: Global, input: &str, order: RunTimeEndian) -> Option<Vec<Step<Bytes<'static>>>> {
     let mut steps = Vec::new(alloc);
     for line in input.split("\\n") {
         if !line.is_empty() {
@@ -92,7 +92,7 @@ fn steps_in(alloc: Global, input: &str, order: RunTimeEndian) -> Option<Vec<Step
 }
 
 // The lines that the end of a replay adds.
-fn push_end(said: &mut String, alloc: Global, end: Replayed<Bytes>) -> Result<(), AllocError> {
+fn push_end(said: &mut String, alloc: Global, end: Replayed<Bytes<'_>>) -> Result<(), AllocError> {
     match end {
         Replayed::Done => Ok(()),
         Replayed::Misplaced(index) => {
@@ -108,11 +108,11 @@ fn push_end(said: &mut String, alloc: Global, end: Replayed<Bytes>) -> Result<()
 }
 
 // Replays the steps of the case, and tells whether the lines and the status are the case's.
-fn is_replayed<S: EvaluationStorage<Bytes>, L: ArrayLike<Item = Answer<Bytes>>>(
+fn is_replayed<'a, S: EvaluationStorage<Bytes<'a>>, L: ArrayLike<Item = Answer<Bytes<'a>>>>(
     alloc: Global,
-    eval: &mut Evaluation<Bytes, S>,
+    eval: &mut Evaluation<Bytes<'a>, S>,
     mut replies: L,
-    case: &Case<'_>,
+    case: &Case<'a>,
 ) -> Result<bool, AllocError>
     requires fresh { eval.old.status ≡ Start None }
     requires empty { L.items replies ≡ [] }
@@ -131,18 +131,19 @@ fn is_replayed<S: EvaluationStorage<Bytes>, L: ArrayLike<Item = Answer<Bytes>>>(
 
 // Runs the case over arrays of these capacities.
 fn is_right_over<
+    'a,
     const STACK: usize,
     const CALLERS: usize,
     const PIECES: usize,
     const REPLIES: usize,
->(alloc: Global, case: &Case<'_>) -> Result<bool, AllocError>
+>(alloc: Global, case: &Case<'a>) -> Result<bool, AllocError>
     requires address_size { IsAddressSize case.now.encoding.address_size }
     requires stack { STACK ≤ 16 }
     requires callers { CALLERS ≤ 16 }
     requires pieces { PIECES ≤ 16 }
     requires replies { REPLIES ≤ 16 }
 {
-    let mut eval: Evaluation<Bytes, Arrays<STACK, CALLERS, PIECES>> = Evaluation::new_in(
+    let mut eval: Evaluation<Bytes<'a>, Arrays<STACK, CALLERS, PIECES>> = Evaluation::new_in(
         case.text,
         case.encoding,
         ArrayVec::new(),
@@ -152,7 +153,7 @@ fn is_right_over<
     is_replayed(
         alloc,
         &mut eval,
-        ArrayVec::<Answer<Bytes>, REPLIES>::new(),
+        ArrayVec::<Answer<Bytes<'a>>, REPLIES>::new(),
         case,
     )
 }
@@ -183,19 +184,19 @@ fn is_right_in_arrays(alloc: Global, case: &Case<'_>) -> Result<bool, AllocError
 }
 
 // Runs the case over prefixes of slices, and once more after a restart.
-fn is_right_in_slices(alloc: Global, case: &Case<'_>) -> Result<bool, AllocError>
+fn is_right_in_slices<'a>(alloc: Global, case: &Case<'a>) -> Result<bool, AllocError>
     requires { IsAddressSize case.now.encoding.address_size }
 {
     let empty = Bytes::default();
     let mut values = [Value::Generic(0); MANY];
-    let mut callers: [(Bytes, Bytes); MANY] = [(empty, empty); MANY];
-    let mut pieces: [Piece<Bytes>; MANY] = [Piece::default(); MANY];
-    let mut replies: [Answer<Bytes>; MANY] = [Answer::default(); MANY];
+    let mut callers: [(Bytes<'a>, Bytes<'a>); MANY] = [(empty, empty); MANY];
+    let mut pieces: [Piece<Bytes<'a>>; MANY] = [Piece::default(); MANY];
+    let mut replies: [Answer<Bytes<'a>>; MANY] = [Answer::default(); MANY];
     let [stack, depth, room, answers] = case.capacities;
     if stack > MANY || depth > MANY || room > MANY || answers > MANY {
         return Ok(false);
     }
-    let mut eval: Evaluation<Bytes, StoreInSlices<'_>> = Evaluation::new_in(
+    let mut eval: Evaluation<Bytes<'a>, StoreInSlices<'_>> = Evaluation::new_in(
         case.text,
         case.encoding,
         SliceVec::new(&mut values[..stack]),
@@ -219,12 +220,12 @@ fn is_right_in_slices(alloc: Global, case: &Case<'_>) -> Result<bool, AllocError
 }
 
 // Runs the case on the heap, and with storage in which a single piece takes no memory.
-fn is_right_on_heap(alloc: Global, case: &Case<'_>) -> Result<bool, AllocError>
+fn is_right_on_heap<'a>(alloc: Global, case: &Case<'a>) -> Result<bool, AllocError>
     requires { IsAddressSize case.now.encoding.address_size }
 {
     let mut eval = Expression(case.text).evaluation(alloc, case.encoding);
     let first = is_replayed(alloc, &mut eval, Vec::new(alloc), case)?;
-    let mut eval: Evaluation<Bytes, PieceInLine> = Evaluation::new_in(
+    let mut eval: Evaluation<Bytes<'a>, PieceInLine> = Evaluation::new_in(
         case.text,
         case.encoding,
         Vec::new(alloc),

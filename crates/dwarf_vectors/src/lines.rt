@@ -19,7 +19,7 @@ fn fault_line(alloc: Global, error: Error) -> Result<String, AllocError> {
 }
 
 /// The line of a reply.
-pub(crate) fn reply_line(alloc: Global, reply: Answer<Bytes>) -> Result<String, AllocError> {
+pub(crate) fn reply_line(alloc: Global, reply: Answer<Bytes<'_>>) -> Result<String, AllocError> {
     match reply.0 {
         Err(error) => fault_line(alloc, error),
         Ok(EvaluationResult::Complete) => String::from_str(alloc, "complete"),
@@ -64,7 +64,7 @@ pub(crate) fn reply_line(alloc: Global, reply: Answer<Bytes>) -> Result<String, 
     }
 }
 
-fn piece_line(alloc: Global, piece: Piece<Bytes>) -> Result<String, AllocError> {
+fn piece_line(alloc: Global, piece: Piece<Bytes<'_>>) -> Result<String, AllocError> {
     match piece {
         Piece {
             size_in_bits: None,
@@ -101,10 +101,10 @@ pub(crate) fn push_line(said: &mut String, line: &str) -> Result<(), AllocError>
 }
 
 /// Adds the lines of the pieces and of the value, if the evaluation is complete.
-pub(crate) fn push_results<S: EvaluationStorage<Bytes>>(
+pub(crate) fn push_results<'a, S: EvaluationStorage<Bytes<'a>>>(
     said: &mut String,
     alloc: Global,
-    evaluation: &Evaluation<Bytes, S>,
+    evaluation: &Evaluation<Bytes<'a>, S>,
 ) -> Result<(), AllocError> {
     if matches!(evaluation.status(), Status::Complete) {
         for piece in evaluation.as_result() {

@@ -5,7 +5,7 @@ use dwarf_base::{Encoding, EndianSlice, Error, Format, RunTimeEndian};
 use dwarf_value::{Value, ValueType};
 use std::alloc::Global;
 
-pub(crate) type Bytes = EndianSlice<'static, RunTimeEndian>;
+pub(crate) type Bytes<'a> = EndianSlice<'a, RunTimeEndian>;
 
 /// The bytes of pairs of hexadecimal digits; `-` stands for none.
 pub(crate) fn bytes_in(alloc: Global, digits: &str) -> Option<Vec<u8>> {
@@ -13,7 +13,7 @@ pub(crate) fn bytes_in(alloc: Global, digits: &str) -> Option<Vec<u8>> {
 }
 
 /// The same bytes in the vector's order. They are never freed; the program is short.
-pub(crate) fn read(alloc: Global, digits: &str, order: RunTimeEndian) -> Option<Bytes> {
+pub(crate) fn read(alloc: Global, digits: &str, order: RunTimeEndian) -> Option<Bytes<'static>> {
     Some(EndianSlice::new(bytes_in(alloc, digits)?.leak(), order))
 }
 

@@ -2,7 +2,6 @@
 
 mod allocators;
 mod bounds;
-mod cases;
 mod equality;
 mod evaluation;
 mod lists;
@@ -12,5 +11,4 @@ mod reading;
 mod reads;
 mod refusals;
 mod replays;
-mod rows;
 mod values;

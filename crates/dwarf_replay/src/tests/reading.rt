@@ -1,6 +1,6 @@
 //! Tests of reads and of offsets.
 
-use dwarf_base::{BigEndian, EndianSlice, Error, LittleEndian, Reader, ReaderOffset, reader_laws};
+use dwarf_base::{BigEndian, EndianSlice, LittleEndian, Reader, ReaderOffset, reader_laws};
 use std::process::Abort;
 
 #[test]
@@ -19,18 +19,6 @@ fn reads_in_each_order(rt: HostRuntime) {
     reader_laws();
 }
 
-#[test]
-fn fixed_numbers(rt: HostRuntime) {
-    let bytes = [1, 2, 3, 4, 5, 6, 7];
-    let mut little = EndianSlice::new(&bytes[..2], LittleEndian);
-    assert!(rt; little.read_fixed(2) == Ok(513));
-    let mut big = EndianSlice::new(&bytes[..2], BigEndian);
-    assert!(rt; big.read_fixed(2) == Ok(258));
-    let mut short = EndianSlice::new(&bytes, LittleEndian);
-    assert!(rt; matches!(short.read_fixed(8), Err(Error::UnexpectedEof(_))));
-    assert!(rt; bytes.ends_with(short.slice()));
-}
-
 // Expects `largest` to be the largest offset of this type.
 fn expect_offset<O: ReaderOffset>(rt: &impl Abort, largest: u64) {
     assert!(rt; O::from_u64(largest).is_ok());
@@ -43,5 +31,4 @@ fn expect_offset<O: ReaderOffset>(rt: &impl Abort, largest: u64) {
 fn offsets(rt: HostRuntime) {
     expect_offset::<u32>(&rt, u64::from(u32::MAX));
     expect_offset::<u64>(&rt, u64::MAX);
-    assert!(rt; <u32 as ReaderOffset>::from_u64(0x1_0000_0000) == Err(Error::UnsupportedOffset));
 }

@@ -5,7 +5,6 @@ ghost use Rattle.std.specs.Prelude.{◌≡◌, ◌<◌, [], None};
 ghost use Rattle.dwarf_meaning.specs.Rest.{Start};
 
 use crate::tests::allocators::{NEVER, RefusesGrowth};
-use crate::tests::cases::{LATER, read};
 use crate::tests::evaluation::{Bytes, COMPLETE, FULL, SMALL, little, replayed, replayed_on_heap};
 use crate::tests::lists::{ListsOfTests, RefusesOne};
 use crate::{Answer, Replayed, Step};
@@ -14,6 +13,7 @@ use dwarf_eval::eval::{Evaluation, Status};
 use dwarf_eval::op::{DieReference, EvaluationResult, Expression};
 use dwarf_eval::store::{ArrayLike, EvaluationStorage};
 use dwarf_value::Value::{self, Generic};
+use dwarf_value::ValueType;
 use std::alloc::{AllocError, Allocator, Global};
 use std::process::Abort;
 
@@ -64,10 +64,23 @@ const WANTS_CALLEE: Answer<Bytes<'static>> = Answer(Ok(EvaluationResult::Require
 
 // Adds all calls that are allowed after a fault.
 fn push_later(steps: &mut Vec<Step<Bytes<'static>>>) -> Result<(), AllocError> {
-    for step in LATER {
-        steps.push(read(*step))?;
-    }
-    Ok(())
+    steps.extend_from_slice(&[
+        Step::Evaluate,
+        Step::Evaluate,
+        Step::Memory(Generic(0)),
+        Step::Register(Generic(0)),
+        Step::WasmValue(Generic(0)),
+        Step::EntryValue(Generic(0)),
+        Step::FrameBase(0),
+        Step::Tls(0),
+        Step::CallFrameCfa(0),
+        Step::ParameterRef(0),
+        Step::RelocatedAddress(0),
+        Step::IndexedAddress(0),
+        Step::AtLocation(little(&[])),
+        Step::BaseType(ValueType::U8),
+        Step::Evaluate,
+    ])
 }
 
 // Nested calls of `TURN`. Every second frame address has bits above the address size.

@@ -48,6 +48,7 @@ enum dwexpr_libdw_code {
     DWEXPR_LIBDW_NOT_DEFINED = 143,      /* the variable is only declared, and no module has it */
     DWEXPR_LIBDW_CUT_OFF = 144,          /* the stack has no known end: frames after the last one may be missing */
     DWEXPR_LIBDW_AMBIGUOUS = 145,        /* there are several definitions, and nothing says which one is meant */
+    DWEXPR_LIBDW_NO_PART = 146,          /* an object has no such member, element or variant, or is no pointer */
     DWEXPR_LIBDW_WANTS = 192             /* plus a request: + DWEXPR_WANTS_MEMORY if memory can't be read */
 };
 
@@ -285,29 +286,93 @@ uint32_t dwexpr_libdw_read(const dwexpr_libdw_frame *frame, const dwexpr_libdw_v
  * one. Returns 0 or DWEXPR_LIBDW_FAILED if it has none. */
 uint32_t dwexpr_libdw_type(Dwarf_Die *variable, Dwarf_Die *type);
 
-/* The bytes of a type, which may be an array of variable length. Returns what dwexpr_libdw_number does. */
-uint32_t dwexpr_libdw_size(dwexpr_libdw_frame *frame, Dwarf_Die *type, const uint64_t *object, uint64_t *bytes);
-
 /* The definition of a type that its unit only declares. It is found by its name, in the unit, then in the unit's
- * module, and then in all. dwexpr_libdw_size does so by itself. Returns 0; DWEXPR_LIBDW_NOT_DEFINED;
- * DWEXPR_LIBDW_AMBIGUOUS if several units define it in different ways; or DWEXPR_LIBDW_NO_MEMORY. */
+ * module, and then in all. Objects have it by themselves. Returns 0; DWEXPR_LIBDW_NOT_DEFINED; DWEXPR_LIBDW_AMBIGUOUS
+ * if several units define it in different ways; or DWEXPR_LIBDW_NO_MEMORY. */
 uint32_t dwexpr_libdw_definition(dwexpr_libdw_frame *frame, Dwarf_Die *type, Dwarf_Die *definition);
 
-/* Where the data of an object of a type is: at the object, or where DW_AT_data_location says, as for arrays in Fortran.
- * Returns what dwexpr_libdw_number does; DWEXPR_LIBDW_OPTIMIZED_AWAY if it isn't allocated or associated. */
-uint32_t dwexpr_libdw_data(dwexpr_libdw_frame *frame, Dwarf_Die *type, uint64_t object, uint64_t *address);
+/* ---------------------------------------------------------------- objects */
 
-/* The bits of an array's element in the array's data: where they begin, counted as dwexpr_libdw_read places them, and
- * how many there are. There is an index for each dimension, as in the source; of an enumeration it is the value's
- * number. Returns what dwexpr_libdw_number does: DWEXPR_LIBDW_NO_NUMBER if there is no such element. */
-uint32_t dwexpr_libdw_element(dwexpr_libdw_frame *frame, Dwarf_Die *array, const uint64_t *object,
-                              const int64_t *indexes, size_t count, uint64_t *begin, uint64_t *bits);
+/* A variable, or a part of one, in a frame: its type, and where its bits are, which is memory or a value. What its type
+ * computes, as bounds in Fortran and Ada, is read from it once. A part needs the object that it is a part of: free the
+ * part first. Unless a call says otherwise, it returns 0 or what dwexpr_libdw_number does. */
+typedef struct dwexpr_libdw_object dwexpr_libdw_object;
 
-/* The bits of a member: where they begin, counted as dwexpr_libdw_read places them, and how many there are. `object` is
- * the address of the whole, which a virtual base needs, or NULL. `bits` may be NULL if only the place is wanted.
- * Returns what dwexpr_libdw_number does; if only the number of bits isn't known, `begin` is written. */
-uint32_t dwexpr_libdw_member(dwexpr_libdw_frame *frame, Dwarf_Die *member, const uint64_t *object, uint64_t *begin,
-                             uint64_t *bits);
+/* The object of a variable, a parameter or a constant. Returns what dwexpr_libdw_variable does, or DWEXPR_LIBDW_FAILED
+ * if it has no type. */
+uint32_t dwexpr_libdw_object_of_variable(dwexpr_libdw_frame *frame, Dwarf_Die *variable, dwexpr_libdw_object **object);
+
+/* The first of dwexpr_libdw_globals of all modules with a name that has a value. Returns as above;
+ * DWEXPR_LIBDW_NOT_DEFINED if there is none with the name. */
+uint32_t dwexpr_libdw_object_global(dwexpr_libdw_frame *frame, const char *name, dwexpr_libdw_object **object);
+
+/* An object of a type at an address. Returns 0 or DWEXPR_LIBDW_NO_MEMORY. */
+uint32_t dwexpr_libdw_object_at(dwexpr_libdw_frame *frame, const Dwarf_Die *type, uint64_t address,
+                                dwexpr_libdw_object **object);
+
+/* Frees an object. NULL is allowed. */
+void dwexpr_libdw_object_free(dwexpr_libdw_object *object);
+
+/* Its type, without typedefs and qualifiers, and not a declaration if the type is defined anywhere. */
+Dwarf_Die dwexpr_libdw_object_type(const dwexpr_libdw_object *object);
+
+/* How many bits it has. An array has them if its elements follow each other. */
+uint32_t dwexpr_libdw_object_size(const dwexpr_libdw_object *object, uint64_t *bits);
+
+/* Where its data is: an address, and the number of its first bit there, counted as dwexpr_libdw_read places them. It is
+ * where DW_AT_data_location says, as for arrays in Fortran, or else where the object is. Returns DWEXPR_LIBDW_NO_NUMBER
+ * if it is in a value, and DWEXPR_LIBDW_OPTIMIZED_AWAY if it isn't allocated or associated. */
+uint32_t dwexpr_libdw_object_address(dwexpr_libdw_object *object, uint64_t *address, uint64_t *bit);
+
+/* Its part by the entry of a member or a base class. */
+uint32_t dwexpr_libdw_object_member(dwexpr_libdw_object *object, Dwarf_Die *member, dwexpr_libdw_object **part);
+
+/* Its member with a name, also in members without names, in base classes, and in the variants that are there. Returns
+ * DWEXPR_LIBDW_NO_PART if there is none. */
+uint32_t dwexpr_libdw_object_named(dwexpr_libdw_object *object, const char *name, dwexpr_libdw_object **part);
+
+/* Which variant of an entry DW_TAG_variant_part is there, as the discriminant says. Its children are members of the
+ * object. Returns DWEXPR_LIBDW_NO_PART if there is none. */
+uint32_t dwexpr_libdw_object_variant(dwexpr_libdw_object *object, Dwarf_Die *part, Dwarf_Die *variant);
+
+/* A dimension of an array. */
+typedef struct dwexpr_libdw_dimension {
+    int64_t lower;   /* the lowest index */
+    uint64_t count;  /* of indexes */
+    int has_count;   /* 0: the array has no bound, as some in C */
+    int64_t stride;  /* bits from an element to that of the next index */
+    Dwarf_Die index; /* the type of the indexes: of an enumeration, only its values are some */
+} dwexpr_libdw_dimension;
+
+/* The dimensions of an array, in the order in which the source writes them. They belong to the object. Returns
+ * DWEXPR_LIBDW_NO_PART if it is no array. */
+uint32_t dwexpr_libdw_object_shape(dwexpr_libdw_object *object, const dwexpr_libdw_dimension **dimensions,
+                                   size_t *rank);
+
+/* The index at a place of a dimension, counted from 0. */
+int64_t dwexpr_libdw_index(const dwexpr_libdw_dimension *dimension, uint64_t place);
+
+/* The element of an array with an index for each dimension. Returns DWEXPR_LIBDW_NO_PART if there is none. */
+uint32_t dwexpr_libdw_object_element(dwexpr_libdw_object *object, const int64_t *indexes, size_t count,
+                                     dwexpr_libdw_object **element);
+
+/* What a pointer or a reference points to, also if it is a variable without an address. Returns DWEXPR_LIBDW_NO_PART if
+ * the object is neither; DWEXPR_LIBDW_FAILED if it points to no type; or what dwexpr_libdw_variable does. */
+uint32_t dwexpr_libdw_object_follow(dwexpr_libdw_object *pointer, dwexpr_libdw_object **target);
+
+/* Reads the first bits of an object's data as dwexpr_libdw_read does. DW_AT_endianity says in which order the bits of a
+ * number follow each other. Returns what both do; DWEXPR_LIBDW_TOO_SMALL if it has fewer. */
+uint32_t dwexpr_libdw_object_read(dwexpr_libdw_object *object, uint64_t size_in_bits, uint8_t *bytes, uint8_t *unknown);
+
+/* The number of an integer, a character, a truth value, an enumeration, a pointer or a reference: of its bits, extended
+ * to 64 by the sign if its type has one. Returns DWEXPR_LIBDW_NO_NUMBER if it is none, or has more than 64 bits. */
+uint32_t dwexpr_libdw_object_number(dwexpr_libdw_object *object, uint64_t *number);
+
+/* The same, or another number or a string, as text: true or false, an enumerator's name, a decimal number, or a string
+ * in quotes with a question mark for each byte that isn't printable. It is hexadecimal, after 0x, for a pointer and for
+ * numbers that are no integers or floating-point numbers of 64 bits or fewer. Returns as above; DWEXPR_LIBDW_TOO_SMALL
+ * if it doesn't fit into `room` bytes with the 0 at its end. */
+uint32_t dwexpr_libdw_object_text(dwexpr_libdw_object *object, char *text, size_t room);
 
 #ifdef __cplusplus
 }

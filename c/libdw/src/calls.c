@@ -132,7 +132,9 @@ static int find_tail_call(dwexpr_libdw_frame *between, const dwexpr_libdw_frame 
     while (next_call_site(&walk, 1, site))
         count++;
     free(walk.path.items);
-    return !walk.path.code && count == 1 && is_named(site, between, called, &address) > 0;
+    if (walk.path.code) /* GCOVR_EXCL_BR_LINE: no memory */
+        return 0; /* GCOVR_EXCL_LINE: no memory */
+    return count == 1 && is_named(site, between, called, &address) > 0;
 }
 
 /* How many functions are followed at most, in search of a tail call of the first one. */

@@ -438,8 +438,8 @@ static dwexpr_libdw_frame *enclosing_frame(dwexpr_libdw_frame *inner, const Dwar
     const int has_link = dwarf_attr_integrate(&inner->place.function, DW_AT_static_link, &attribute) &&
                          !attribute_number(&given, &attribute, &base);
     for (frame = inner->source.caller; frame; frame = frame->source.caller) {
-        if (dwexpr_libdw_find_place(frame) == DWEXPR_LIBDW_NO_MEMORY)
-            return NULL;
+        if (dwexpr_libdw_find_place(frame) == DWEXPR_LIBDW_NO_MEMORY) /* GCOVR_EXCL_BR_LINE: no memory */
+            return NULL; /* GCOVR_EXCL_LINE: no memory */
         if (frame->place.function.addr != function->addr)
             continue;
         if (has_link && !find_base(frame, NULL) && frame->base == base)
@@ -601,8 +601,8 @@ uint32_t dwexpr_libdw_variable(dwexpr_libdw_frame *frame, Dwarf_Die *variable, d
     struct dwexpr_libdw_given given = {.frame = frame};
     uint32_t code = dwexpr_libdw_find_place(frame);
     *value = NULL;
-    if (code == DWEXPR_LIBDW_NO_MEMORY)
-        return code;
+    if (code == DWEXPR_LIBDW_NO_MEMORY) /* GCOVR_EXCL_BR_LINE: no memory */
+        return code; /* GCOVR_EXCL_LINE: no memory */
     if (dwarf_attr_integrate(variable, DW_AT_const_value, &attribute)) {
         code = make_value(frame, attribute.cu, 0, value);
         return code ? code : hold_constant(*value, variable, &attribute);
@@ -668,24 +668,16 @@ static uint32_t read_number(const dwexpr_libdw_value *value, Dwarf_Word size, in
     return 0;
 }
 
-/* The number that a variable has, as a bound of an array, or a member of an object, in whole bytes at a place that is a
- * number: a discriminant in Ada. */
+/* The number that a variable has, as a bound of an array. */
 static uint32_t variable_number(const struct dwexpr_libdw_given *given, Dwarf_Die *variable, uint64_t *number)
 {
-    const int is_member = dwarf_tag(variable) == DW_TAG_member;
     dwexpr_libdw_value *value;
-    Dwarf_Attribute attribute;
     Dwarf_Die type;
-    Dwarf_Word size, encoding, place;
+    Dwarf_Word size, encoding;
     uint32_t code;
     if (dwexpr_libdw_type(variable, &type) || dwexpr_libdw_scalar(&type, &size, &encoding))
         return DWEXPR_LIBDW_NO_NUMBER;
-    if (is_member && (!given->object || dwarf_hasattr(variable, DW_AT_bit_size) ||
-                      dwarf_hasattr(variable, DW_AT_data_bit_offset) ||
-                      dwarf_formudata(dwarf_attr(variable, DW_AT_data_member_location, &attribute), &place)))
-        return DWEXPR_LIBDW_NO_NUMBER;
-    code = is_member ? make_value(given->frame, attribute.cu, *given->object + place, &value)
-                     : dwexpr_libdw_variable(given->frame, variable, &value);
+    code = dwexpr_libdw_variable(given->frame, variable, &value);
     if (!code)
         code = read_number(value, size, encoding == DW_ATE_signed || encoding == DW_ATE_signed_char, number);
     dwexpr_libdw_release(value);
@@ -712,7 +704,8 @@ uint32_t dwexpr_libdw_number_with(const struct dwexpr_libdw_given *given, Dwarf_
     if (is_location(attribute))
         return attribute_number(&own, attribute, number);
     if (dwarf_formref_die(attribute, &entry))
-        return variable_number(given, &entry, number);
+        return dwarf_tag(&entry) == DW_TAG_member ? dwexpr_libdw_discriminant(given->holder, &entry, number)
+                                                  : variable_number(given, &entry, number);
     return dwarf_formudata(attribute, number) ? DWEXPR_LIBDW_NO_NUMBER : 0;
 }
 

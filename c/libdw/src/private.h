@@ -69,6 +69,13 @@ int dwexpr_libdw_next_entry(struct dwexpr_libdw_walk *walk, int enters);
 /* The innermost function in which an entry stands, of `first` and those in it. Its `addr` is NULL if there is none. */
 Dwarf_Die dwexpr_libdw_function_around(const Dwarf_Die *first, const Dwarf_Die *entry);
 
+/* Whether types of a tag lay out nothing: typedefs and qualifiers. */
+int dwexpr_libdw_is_left_out(int tag);
+/* The type of which a type is a range, or the type itself. */
+Dwarf_Die dwexpr_libdw_base(Dwarf_Die *type);
+/* Finds an attribute of a type or, if it is a range or an enumeration, of its base type. Gives back whether it is
+ * there. */
+int dwexpr_libdw_has_in_base(Dwarf_Die *type, unsigned name, Dwarf_Attribute *attribute);
 /* The bytes of a number and its encoding, as a type says them, or that of which it is a range. Gives back 0 if both are
  * known. */
 int dwexpr_libdw_scalar(Dwarf_Die *type, Dwarf_Word *size, Dwarf_Word *encoding);
@@ -84,7 +91,9 @@ enum dwexpr_libdw_purpose { FOR_VALUE, FOR_BASE, FOR_CFA };
 struct dwexpr_libdw_given {
     dwexpr_libdw_frame *frame;
     const uint64_t *object, *initial;
-    uint32_t code; /* why the first number of several isn't known, else 0 */
+    const dwexpr_libdw_object *holder; /* that may have the member of which it is the number, or NULL */
+    unsigned arrays; /* how many arrays are within each other */
+    uint32_t code;   /* why the first number of several isn't known, else 0 */
     enum dwexpr_libdw_purpose purpose;
     uint32_t *left; /* how many more expressions may be evaluated; NULL for as many as the frame's limit says */
 };
@@ -93,6 +102,53 @@ uint32_t dwexpr_libdw_number_with(const struct dwexpr_libdw_given *given, Dwarf_
 /* The bytes of a string, by DW_AT_string_length, which is the place of a number. */
 uint32_t dwexpr_libdw_string_length(const struct dwexpr_libdw_given *given, Dwarf_Die *type,
                                     Dwarf_Attribute *attribute, uint64_t *bytes);
+
+/* ---- layouts.c */
+
+/* The number of an attribute, or `other` if the entry has none. After one that isn't known each is 0. */
+uint64_t dwexpr_libdw_number_or(struct dwexpr_libdw_given *given, Dwarf_Die *entry, unsigned name, uint64_t other);
+uint64_t dwexpr_libdw_whole_bytes(uint64_t bits);
+/* Goes from a type to the one that says how it is laid out: without typedefs and qualifiers, and not a declaration. */
+uint32_t dwexpr_libdw_find_layout(dwexpr_libdw_frame *frame, Dwarf_Die *type);
+/* Goes from an entry to the first enumerator among it and those after it, unless `more` isn't 0, and gives its number.
+ * Gives back whether there is one. */
+int dwexpr_libdw_find_enumerator(int more, Dwarf_Die *entry, Dwarf_Word *number);
+
+/* How an array lays out its elements. */
+struct dwexpr_libdw_shape {
+    struct dwexpr_libdw_list dimensions;
+    Dwarf_Die element;
+    uint64_t bits;     /* of an element */
+    uint64_t total;    /* of all elements */
+    int is_contiguous; /* each bound is known, and they follow each other */
+};
+
+/* Free its dimensions. */
+void dwexpr_libdw_read_shape(struct dwexpr_libdw_given *given, Dwarf_Die *array, struct dwexpr_libdw_shape *shape);
+/* How many indexes are below a number, and not below a lower one. */
+uint64_t dwexpr_libdw_indexes(Dwarf_Die *type, int64_t lower, int64_t number);
+/* The bits of a type. Those of an array are known if its elements follow each other. */
+uint64_t dwexpr_libdw_size_of(struct dwexpr_libdw_given *given, Dwarf_Die *type);
+/* The bit at which a member begins and, if the member says it, how many bits it has; else 0. */
+uint64_t dwexpr_libdw_member_begin(struct dwexpr_libdw_given *given, Dwarf_Die *member, Dwarf_Die *type,
+                                   uint64_t *bits);
+
+/* ---- objects.c */
+
+/* The number of a member, in whole bytes at a place that is a number, of an object or of one that has it as a part: a
+ * discriminant in Ada. */
+uint32_t dwexpr_libdw_discriminant(const dwexpr_libdw_object *object, Dwarf_Die *member, uint64_t *number);
+
+/* ---- read.c */
+
+/* Reads bits of a value that has `size` bits, from one on, as dwexpr_libdw_read does. */
+uint32_t dwexpr_libdw_read_part(const dwexpr_libdw_frame *frame, const dwexpr_libdw_value *value, uint64_t size,
+                                uint64_t begin, uint64_t count, uint8_t *bytes, uint8_t *unknown);
+/* Reads bits of memory likewise. */
+uint32_t dwexpr_libdw_read_at(const dwexpr_libdw_frame *frame, uint64_t address, uint64_t begin, uint64_t count,
+                              int big_endian, uint8_t *bytes, uint8_t *unknown);
+/* Copies bits from one on, in an order. */
+void dwexpr_libdw_take_bits(uint8_t *to, const uint8_t *from, uint64_t begin, uint64_t count, int big_endian);
 
 /* ---- frames.c */
 

@@ -1,7 +1,7 @@
-"""Runs in gdb. Compares what examples/where.c prints of a program that stops, and of its core dump, with what gdb says
-of the dump.
+"""Runs in gdb. Compares what bytes.c prints of a program that stops, and of its core dump, with what gdb says of the
+dump.
 
-    gdb -nx -batch -ex "python words = 'WHERE|ON_STOPPED|PLACES|PROGRAM|WORD..'.split('|')" -x compare_gdb.py
+    gdb -nx -batch -ex "python words = 'BYTES|ON_STOPPED|PLACES|PROGRAM|WORD..'.split('|')" -x compare_gdb.py
 
 The program gets one more word: the number of the place where it stops. Variables of each thread are compared, up to
 `main`, bit for bit but for padding. Each one that differs is a line. The last line is `N passed, M failed`.
@@ -20,7 +20,7 @@ NUMBERS = {
     gdb.TYPE_CODE_INT, gdb.TYPE_CODE_CHAR, gdb.TYPE_CODE_BOOL, gdb.TYPE_CODE_ENUM, gdb.TYPE_CODE_FLT, gdb.TYPE_CODE_PTR
 }  # fmt: skip
 REFERENCES = {gdb.TYPE_CODE_REF, gdb.TYPE_CODE_RVALUE_REF}
-# examples/where.c prints no more
+# bytes.c prints no more
 MOST_BYTES = 4096
 # In libc it has a system call's answer. The signals that stop and dump a process change it in a thread that waits in the
 # call.
@@ -112,10 +112,10 @@ def of_thread():
         frame = frame.older()
 
 
-# ---- what examples/where.c says
+# ---- what bytes.c says
 
 
-def of_where(text):
+def of_bytes(text):
     """What is printed of each variable by its thread, level, function and name, in order."""
     found = collections.defaultdict(list)
     for part in re.split("^thread ", text, flags=re.M)[1:]:
@@ -132,8 +132,6 @@ def of_where(text):
 def bits_of(text, size):
     """The bits that are printed, as a number, and which of them are unknown."""
     everything = (1 << 8 * size) - 1
-    if number := re.fullmatch(r"(-?\d+)(?: \(0x[0-9a-f]+\))?", text):
-        return int(number[1]) & everything, 0
     if not re.fullmatch(r"((\?\?|[0-9a-f]{2}(\?[0-9a-f]{2})?) )+", text):
         return 0, everything
     bytes_of = ["00?ff" if part == "??" else part if "?" in part else f"{part}?00" for part in text.split()]
@@ -151,13 +149,15 @@ def kind_of(level, function, name, size, theirs, text):
     everything = (1 << 8 * size) - 1
     ours, unknown = bits_of(text, size)
     bits, known, lost = (0, 0, everything) if isinstance(theirs, str) else theirs
+    if not size:
+        return "known here alone, as gdb gives it no size"
     if re.fullmatch("([0-9a-f]{2} )+", text) and len(text.split()) != size:
         return None
     if theirs == "no bytes":
         return "known here alone, as gdb's Python has no bytes of it"
     if not known and unknown == everything:
         return "known to neither"
-    if not known and (function, name) in OF_LEVEL and text == str(OF_LEVEL[function, name](level)):
+    if not known and (function, name) in OF_LEVEL and ours == OF_LEVEL[function, name](level):
         return "known here alone, as the source says, after more expressions than gdb evaluates"
     if level > 0 and text in ("memory or a register can't be read", "unknown: a register"):
         # the compiler isn't GCC, which would say that the call keeps it
@@ -175,10 +175,10 @@ def kind_of(level, function, name, size, theirs, text):
 
 def run(*words):
     done = subprocess.run(words, cwd=folder, timeout=300, stdout=subprocess.PIPE, text=True, errors="replace")
-    return of_where(done.stdout)
+    return of_bytes(done.stdout)
 
 
-WHERE, ON_STOPPED, PLACES, PROGRAM, *WORDS = words
+BYTES, ON_STOPPED, PLACES, PROGRAM, *WORDS = words
 gdb.execute(f"file {PROGRAM}")
 gdb.execute("set backtrace past-main on")
 gdb.execute("set language c")  # other languages have other hexadecimal numbers
@@ -186,12 +186,12 @@ kinds = collections.Counter()
 with tempfile.TemporaryDirectory() as folder:
     for place in map(str, range(1, int(PLACES) + 1)):
         core = pathlib.Path(folder, place)
-        process = run(ON_STOPPED, "--core", core, WHERE, "--pid", "PID", "--", PROGRAM, *WORDS, place)
+        process = run(ON_STOPPED, "--core", core, BYTES, "PID", "--", PROGRAM, *WORDS, place)
         if not core.exists():
             print(f"there is no core dump at place {place}")
             kinds[None] += 1
             continue
-        dump = run(WHERE, "--core", core)
+        dump = run(BYTES, core)
         gdb.execute(f"core-file {core}", to_string=True)
         for thread in gdb.selected_inferior().threads():
             thread.switch()

@@ -1,5 +1,5 @@
-/* The frames of a stopped program: how many there are, registers and values of callers, limits, places of members, what
- * the program itself saw, and reads by two threads.
+/* The frames of a stopped program: how many there are, registers and values of callers, limits, what the program itself
+ * saw, and reads by two threads.
  *
  *     frames KIND PID    KIND says what is checked, and so which program it is: processes.cmake has it
  *     frames KIND FILE   the same for a core dump */
@@ -174,25 +174,9 @@ static void check_signals(void)
     check_readers();
 }
 
-/* ---- types */
+/* ---- modules */
 
 static const char *kind;
-
-/* The frame that has a variable of this name in memory, the variable's type, and its address; or NULL. */
-static dwexpr_libdw_frame *place_of(const char *name, Dwarf_Die *type, uint64_t *object)
-{
-    dwexpr_libdw_frame *frame;
-    dwexpr_libdw_value *value;
-    Dwarf_Die variable;
-    size_t i = 0;
-    while ((frame = dwexpr_libdw_frame_at(stack, i++)) && !find_variable(frame, name, &variable))
-        ;
-    if (!frame || dwexpr_libdw_type(&variable, type) || dwexpr_libdw_variable(frame, &variable, &value))
-        return NULL;
-    *object = value->pieces[0].number;
-    dwexpr_libdw_release(value);
-    return frame;
-}
 
 /* The member of a type, or its base, of this name. */
 static int find_member(Dwarf_Die *type, const char *name, Dwarf_Die *member)
@@ -206,62 +190,6 @@ static int find_member(Dwarf_Die *type, const char *name, Dwarf_Die *member)
             return 1;
     }
     return 0;
-}
-
-/* Where a member begins, and its bits; or those of the whole. */
-static uint32_t extent_of(dwexpr_libdw_frame *frame, Dwarf_Die *type, Dwarf_Die *member, const uint64_t *object,
-                          uint64_t *begin, uint64_t *bits)
-{
-    uint32_t code;
-    if (member)
-        return dwexpr_libdw_member(frame, member, object, begin, bits);
-    code = dwexpr_libdw_size(frame, type, object, bits);
-    *bits *= 8;
-    return code;
-}
-
-/* Variables of pieces.c, bases.cpp, variants.adb and bounds.f90, as the ABI and gdb have them: (3:7, -1:1) of 60 bytes,
- * and (2, 2:4) of 24. Of some the object has to be given. */
-static void check_members(void)
-{
-    static const struct {
-        const char *kind, *variable, *base, *member;
-        uint64_t begin, bits;
-        int needs_object;
-    } rows[] = {
-        {"members", "given", NULL, "low", 0, 3, 0},
-        {"members", "given", NULL, "middle", 3, 7, 0},
-        {"members", "given", NULL, "high", 10, 13, 0},
-        {"members", "given", NULL, "sign", 23, 5, 0},
-        {"members", "given", NULL, "wide", 64, 40, 0},
-        {"members", "given", NULL, "last", 104, 1, 0},
-        {"bases", "copied", NULL, "right", 8 * 16, 8 * 24, 0},
-        {"bases", "copied", "left", "shared", 8 * 36, 8 * 4, 1},
-        {"bounds", "table", NULL, NULL, 0, 8 * 60, 1},
-        {"bounds", "part", NULL, NULL, 0, 8 * 24, 1},
-        {"variants", "object", NULL, NULL, 0, 8 * 28, 1},
-        {"variants", "object", NULL, "count", 32, 32, 0},
-        {"variants", "object", NULL, "last", 64, 32, 0},
-        {"variants", "object", NULL, "items", 96, 128, 1},
-    };
-    size_t i;
-    for (i = 0; i < COUNT(rows); i++) {
-        Dwarf_Die type, member, *part = rows[i].member ? &member : NULL;
-        const char *name = part ? rows[i].member : rows[i].variable;
-        uint64_t object = 0, begin = 0, bits = 0;
-        dwexpr_libdw_frame *frame;
-        uint32_t code = DWEXPR_LIBDW_FAILED;
-        if (strcmp(rows[i].kind, kind))
-            continue;
-        frame = place_of(rows[i].variable, &type, &object);
-        if (frame && rows[i].base && find_member(&type, rows[i].base, &member))
-            dwexpr_libdw_type(&member, &type);
-        if (frame && (!part || find_member(&type, rows[i].member, part)))
-            code = extent_of(frame, &type, part, &object, &begin, &bits);
-        check(!code && begin == rows[i].begin && bits == rows[i].bits, name, dwexpr_libdw_code_name(code));
-        check(!code && !extent_of(frame, &type, part, NULL, &begin, &bits) == !rows[i].needs_object, name,
-              "without an object");
-    }
 }
 
 static void check_pointers(void)
@@ -383,25 +311,25 @@ static size_t check_seen_in(dwexpr_libdw_frame *frame, const char *function)
         const char *said = dwarf_diename(&entries[i].entry);
         const char *end = said ? strstr(said, "_is") : NULL;
         char name[64] = "";
-        dwexpr_libdw_value *value = NULL;
-        Dwarf_Die type, declared, *globals;
-        uint64_t wanted = 0, bytes = 0;
+        dwexpr_libdw_object *object = NULL;
+        Dwarf_Die declared, *globals;
+        uint64_t wanted = 0, bits = 0;
         size_t found, equal = 0;
         if (!end)
             continue;
         locals++;
         memcpy(name, said, (size_t)(end - said));
-        check(!dwexpr_libdw_type(&entries[i].entry, &type) && !dwexpr_libdw_size(frame, &type, NULL, &bytes) &&
-                  !dwexpr_libdw_variable(frame, &entries[i].entry, &value) &&
-                  !dwexpr_libdw_read(frame, value, 8 * bytes, (uint8_t *)&wanted, NULL),
+        check(!dwexpr_libdw_object_of_variable(frame, &entries[i].entry, &object) &&
+                  !dwexpr_libdw_object_size(object, &bits) &&
+                  !dwexpr_libdw_object_read(object, bits, (uint8_t *)&wanted, NULL),
               function, said);
-        dwexpr_libdw_release(value);
+        dwexpr_libdw_object_free(object);
         if (find_variable(frame, name, &declared))
-            equal += have_value(frame, &declared, 1, wanted, 8 * bytes);
+            equal += have_value(frame, &declared, 1, wanted, bits);
         dwexpr_libdw_globals(frame, place.module, name, &globals, &found);
         if (!found)
             dwexpr_libdw_globals(frame, NULL, name, &globals, &found);
-        equal += have_value(frame, globals, found, wanted, 8 * bytes);
+        equal += have_value(frame, globals, found, wanted, bits);
         check(strcmp(end, "_is") ? equal >= 1000 : equal > 0 && equal < 1000, function, said);
         free(globals);
     }
@@ -447,8 +375,7 @@ int main(int argc, char **argv)
     static const struct {
         const char *name;
         void (*checks)(void);
-    } kinds[] = {{"deep", check_deep},           {"members", check_members}, {"bases", check_members},
-                 {"bounds", check_members},      {"variants", check_members}, {"pointers", check_pointers},
+    } kinds[] = {{"deep", check_deep},           {"pointers", check_pointers},
                  {"signals", check_signals},     {"modules", check_modules},
                  {"split_modules", check_modules}, {"no_rules", check_cut_off}, {"seen", check_seen}};
     size_t i;

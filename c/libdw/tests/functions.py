@@ -43,10 +43,14 @@ class Functions(Unit):
 
     def row(self, frames, *said):
         """Frames, by where each stands, and what is said of their variables."""
-        self.root.add("variable", name=" ".join(f"{at:x}" for at in frames) + ": " + "; ".join(said))
+        places = " ".join(at if isinstance(at, str) else f"{at:x}" for at in frames)
+        self.root.add("variable", name=places + ": " + "; ".join(said))
 
     def bases(self):
+        address = self.base_type(4, 7)
         for base, said in [
+            # a number of a base type
+            (f"const4u 0x1010 convert {address}", "x in 0 is 10111213"),
             # it asks for itself, or for a value on entry
             ("fbreg 0", "x in 0 is the frame base"), (ENTRY_0, "x in 0 is the frame base"),
             # a number is the address, and so is the content of a register; one has 16 bytes
@@ -77,9 +81,12 @@ class Functions(Unit):
         self.variable(function, "cut_off", "03")
         self.variable(function, "no_place", 5)
         self.variable(function, "odd", f"lit1 convert {self.base_type(4, 0x105)} stack_value")
+        # a character has no sign: -2 is divided as a large number
+        letter = self.base_type(4, 0x10)
+        self.variable(function, "letter", f"consts -2 convert {letter} lit2 convert {letter} div stack_value")
         self.row([begin + 0x12], "inner in 0 is 01000000", "not_there in 0 is 00000000", "shared in 0 is 10111213",
                  "number in 0 is fdffffff", "too_deep in 0 is missing", "try_block in 0 is missing",
-                 "odd in 0 is a base type", "cut_off in 0 is an operation is cut off",
+                 "odd in 0 is a base type", "letter in 0 is ffffff7f", "cut_off in 0 is an operation is cut off",
                  "no_place in 0 is libdw refuses the debug information")
 
     def siblings(self):
@@ -145,6 +152,14 @@ class Functions(Unit):
         for at in (outside, OUTSIDE):
             self.row([at], "kept of outer is a variable of another function")
 
+    def stopped(self):
+        """A caller that a signal stopped stands at its next instruction, and another one in its call before that."""
+        before, function = self.function(), self.function()
+        for number, it in enumerate((before, function)):
+            self.variable(it, "here", f"lit{number} stack_value")
+        self.row([before.begin, f"{function.begin:x}!"], "here in 1 is 01000000")
+        self.row([before.begin, function.begin], "here in 1 is 00000000")
+
     def site(self, caller, at, value="lit10", place="reg0", **attributes):
         """A call that returns to an address in its caller, and passes a value in register 0."""
         site = caller.add("call_site", **({"call_return_pc": (ADDRESS, self.address(at))} if at else {}), **attributes)
@@ -202,6 +217,12 @@ class Functions(Unit):
             (other, "0a000000", {"name": "x", "MIPS_linkage_name": "alias"}),
         ]:  # fmt: skip
             self.call(said, function, call_origin=self.root.add("subprogram", **DECLARED, **attributes))
+        # places of 29 bytes at most
+        for length, said in ((17, "0a000000"), (29, "0a000000"), (30, "an operation can't be encoded")):
+            place = "reg0" + (length - 1) * " nop"
+            self.parameter(called, f"of_{length}", place)
+            self.call(UNKNOWN, called, place=place, **named)
+            self.row([called.begin + 3, self.place], f"entry of of_{length} is {said}")
         parameters = [
             ("held", "reg0", "0a000000"), ("long", "reg0" + 40 * " nop", "an operation can't be encoded"),
             ("without", None, "optimized away"), ("typed", f"regval_type 0 {self.int}", "0a000000"),
@@ -284,12 +305,21 @@ class Functions(Unit):
             expression = self.expression(f"lit{at} stack_value")
             content += front + self.address(begin, begin + 8)
             content += bytes(len(length)) if at == 2 else length + expression
-        sections, offset = self.lists(content + end)
+        base = self.expression("const4u 0x1010")
+        second = len(content + end)
+        content += end + front + self.address(function.begin, function.begin + 8)
+        content += (bytes([len(base)]) if self.version >= 5 else self.pack("H", len(base))) + base + end
+        sections, offset = self.lists(content)
         self.sections |= sections
         for parent, name in [(function, "listed"), (self.root, "listed_global")]:
             self.variable(parent, name, (OFFSET, self.offset(offset)))
         for at, said in [(0, "00000000"), (9, "01000000"), (0x11, "optimized away"), (0x20, "optimized away")]:
             self.row([function.begin + at], f"listed in 0 is {said}")
+        # the memory of an expression isn't lost if it may not be evaluated any more
+        function.attributes["frame_base"] = (OFFSET, self.offset(offset + second))
+        self.variable(function, "based", "fbreg 0")
+        self.row([function.begin], "based in 0 is 10111213")
+        self.row([function.begin], "limit 0", "based in 0 is the answers take too many expressions")
 
     def declared(self):
         """Variables that are only declared: each is at a symbol, unless that is in thread-local storage or isn't there.
@@ -337,12 +367,17 @@ class Functions(Unit):
         self.variable(self.root.add("module", name="module"), "in_module", "lit0")
         self.variable(self.root, None, "lit0")
         self.root.add("constant", name="fixed", type=self.int, const_value=1)
-        names = "global", "linked", "in_namespace", "in_module", "fixed"
-        self.row([OUTSIDE], *(f"all of {name} is 1" for name in names), "all of no_such is 0")
+        self.variable(self.root, "twice")
+        self.variable(self.root, "twice", "lit5 stack_value")
+        self.variable(self.root, "twice", "lit6 stack_value")
+        self.variable(self.root, "lost")
+        names = "global", "linked", "in_namespace", "in_module", "fixed", "lost"
+        self.row([OUTSIDE], *(f"all of {name} is 1" for name in names), "all of no_such is 0", "first of fixed is 1",
+                 "first of twice is 5", "first of lost is optimized away", "first of no_such is it is only declared")
 
     def program(self):
-        for write in (self.instances, self.globals, self.bases, self.blocks, self.siblings, self.nested, self.calls,
-                      self.tail_calls, self.listed, self.declared, self.nowhere):
+        for write in (self.instances, self.globals, self.bases, self.blocks, self.siblings, self.nested, self.stopped,
+                      self.calls, self.tail_calls, self.listed, self.declared, self.nowhere):
             write()
         if self.version >= 5:
             self.sections |= self.addresses(0x1010)
@@ -352,6 +387,25 @@ class Functions(Unit):
         return self.elf(sections, [(1, FIRST, CODE, len(CODE))], 2, self.symbols)
 
 
+    def misled(self):
+        """A program whose .debug_aranges names another unit for all code: one that has none of it."""
+        function = self.function()
+        self.variable(function, "here", "lit7 stack_value")
+        self.row([function.begin + 3], "here in 0 is 07000000")
+        sections = self.tree()
+        other = Unit(8, 4, self.version, "le", **self.placed(FIRST + len(CODE), SIZE))
+        other.abbreviations = self.abbreviations
+        second = len(sections[".debug_info"])
+        both = other.tree()
+        sections[".debug_abbrev"] = both[".debug_abbrev"]
+        sections[".debug_info"] += both[".debug_info"]
+        sections[".debug_aranges"] = self.counted(self.pack("H", 2) + self.offset(second) + bytes([8, 0]) + bytes(4) +
+                                                  self.address(FIRST, len(CODE), 0, 0))  # fmt: skip
+        sections |= {".text": CODE}
+        return self.elf(sections, [(1, FIRST, CODE, len(CODE))], 2)
+
+
 def files():
     for version in (4, 5):
         yield f"{version}.functions", Functions(version).program()
+        yield f"{version}.misled.functions", Functions(version).misled()

@@ -24,14 +24,45 @@ static int read_memory(void *context, uint64_t address, uint8_t *bytes, size_t s
     return address % 16 == 3;
 }
 
+/* Reads an object's text, and parts of it: of each kind one, and all members. */
+static void read_parts(dwexpr_libdw_object *object, unsigned level)
+{
+    const dwexpr_libdw_dimension *dimensions;
+    Dwarf_Die type = dwexpr_libdw_object_type(object), child, variant;
+    dwexpr_libdw_object *part;
+    int64_t indexes[64];
+    size_t rank, i;
+    char text[64];
+    int more;
+    dwexpr_libdw_object_text(object, text, sizeof text);
+    for (more = level < 3 ? dwarf_child(&type, &child) : 1; more == 0; more = dwarf_siblingof(&child, &child)) {
+        dwexpr_libdw_object_variant(object, &child, &variant);
+        if (!dwexpr_libdw_object_member(object, &child, &part))
+            read_parts(part, level + 1);
+        dwexpr_libdw_object_free(part);
+    }
+    dwexpr_libdw_object_named(object, "low", &part);
+    dwexpr_libdw_object_free(part);
+    if (level < 3 && !dwexpr_libdw_object_follow(object, &part)) {
+        read_parts(part, level + 1);
+        dwexpr_libdw_object_free(part);
+    }
+    if (dwexpr_libdw_object_shape(object, &dimensions, &rank))
+        return;
+    for (i = 0; i < rank; i++)
+        indexes[i] = dwexpr_libdw_index(&dimensions[i], any() % 8);
+    if (!dwexpr_libdw_object_element(object, indexes, rank, &part))
+        read_parts(part, level + 1);
+    dwexpr_libdw_object_free(part);
+}
+
 static size_t variables, values, whole;
 
 static void read_variable(dwexpr_libdw_frame *frame, Dwarf_Die *variable)
 {
     static uint8_t bytes[256], unknown[256];
     dwexpr_libdw_value *value;
-    Dwarf_Die type, member;
-    uint64_t size, bits;
+    dwexpr_libdw_object *object;
     uint32_t code = dwexpr_libdw_variable(frame, variable, &value);
     variables++;
     if (!code) {
@@ -44,12 +75,9 @@ static void read_variable(dwexpr_libdw_frame *frame, Dwarf_Die *variable)
     if (!dwexpr_libdw_on_entry(frame, variable, &value))
         dwexpr_libdw_read(frame, value, 64, bytes, unknown);
     dwexpr_libdw_release(value);
-    if (!dwexpr_libdw_type(variable, &type)) {
-        int more;
-        dwexpr_libdw_size(frame, &type, NULL, &size);
-        for (more = dwarf_child(&type, &member); more == 0; more = dwarf_siblingof(&member, &member))
-            dwexpr_libdw_member(frame, &member, NULL, &size, &bits);
-    }
+    if (!dwexpr_libdw_object_of_variable(frame, variable, &object))
+        read_parts(object, 0);
+    dwexpr_libdw_object_free(object);
 }
 
 /* The rules of the CFA and of registers. */

@@ -1,17 +1,22 @@
 /* The variables, types and functions of the files that entries.py, typed.py, functions.py and links.py make. The name
  * of a variable of a unit says what has to be, in words that end with a semicolon. In a program the name begins with
- * where frames stand, the innermost first, and a colon. If none is said, there is one frame without modules. The object
- * is at 0x1010.
+ * where frames stand, the innermost first, and a colon; with `!` after it, a signal stopped the frame there. If none is
+ * said, there is one frame without modules. The object is at 0x1010.
  *
  *     value VALUE                 the variable's value: bytes, or the name of a code
  *     size N                      the bytes of its type
  *     at I,J B N                  where the element begins in bits, and how many it has
- *     member NAME B N             the same for a member
+ *     member PATH B N             the same for a member
  *     data N                      the address of the data; `memory` if it is read there
  *     vtable N                    where its virtual function is
- *     without                     the size isn't known without the object
+ *     without                     the size isn't known of the variable, which has no address
+ *     nowhere                     the variable has no address
  *     type none                   it has no type
+ *     PATH is TEXT                the text of a part: .NAME is a member, [I,J] an element, * what a pointer points to
+ *     =PATH is TEXT               the same for the variable, or a part of it, where its location says
  *     NAME in FRAME is VALUE      the value of a variable in that frame
+ *     first of NAME is TEXT       the text of the first global with the name that has a value
+ *     limit N                     so many expressions may be evaluated for one in the first frame
  *     NAME of FUNCTION is VALUE   the same for a variable of a function, in the first frame
  *     NAME from FUNCTION is VALUE the same if the file is in no module; the function may be `unit`
  *     entry of NAME is VALUE      its value on entry
@@ -69,65 +74,151 @@ static int read_loaded(void *context, uint64_t address, uint8_t *content, size_t
 /* Whether a number is the word's, or is missing if the word is `none`. */
 static int is_said(const char *word, uint32_t code, uint64_t number)
 {
+    if (code && refused_call)
+        return 1;
     return strcmp(word, "none") ? !code && number == strtoull(word, NULL, 10) : code != 0;
 }
 
-static int is_element(Dwarf_Die *type, const char *said, const char *begins, const char *has)
+/* The object of a row and, one after the other, those on the path to a part of it. */
+static dwexpr_libdw_object *parts[8];
+static size_t parts_length;
+
+static void free_parts(void)
 {
-    int64_t indexes[80];
-    uint64_t begin, bits;
-    size_t count = 0;
-    uint32_t code;
-    int read;
-    for (; sscanf(said, "%ld%n", &indexes[count], &read) == 1; said += read + (said[read] == ','))
-        count++;
-    code = dwexpr_libdw_element(frames[0], type, &object, indexes, count, &begin, &bits);
-    return is_said(begins, code, begin) && (code || is_said(has, code, bits));
+    while (parts_length)
+        dwexpr_libdw_object_free(parts[--parts_length]);
 }
 
-static int is_member(Dwarf_Die *type, const char *name, const char *begins, const char *has)
+static uint32_t begin_parts(Dwarf_Die *type)
 {
-    Dwarf_Die member;
-    uint64_t begin = 1, bits, alone = 1;
-    uint32_t code, alone_code;
-    int more = dwarf_child(type, &member);
-    while (more == 0 && strcmp(dwarf_diename(&member), name))
-        more = dwarf_siblingof(&member, &member);
-    code = dwexpr_libdw_member(frames[0], &member, &object, &begin, &bits);
-    alone_code = dwexpr_libdw_member(frames[0], &member, &object, &alone, NULL);
-    /* the place may be known where the bits aren't, and alone if they aren't counted from the highest one */
-    return is_said(has, code, bits) && (!strcmp(begins, "none") || begin == strtoull(begins, NULL, 10)) &&
-           (dwarf_hasattr(&member, DW_AT_bit_offset) || is_said(begins, alone_code, alone));
+    const uint32_t code = dwexpr_libdw_object_at(frames[0], type, object, &parts[0]);
+    parts_length = !code;
+    return code;
+}
+
+/* Finds an element, each of whose indexes has a place. */
+static uint32_t find_element(dwexpr_libdw_object *array, const char *said, dwexpr_libdw_object **element)
+{
+    const dwexpr_libdw_dimension *dimensions;
+    int64_t indexes[80];
+    size_t count = 0, rank, i;
+    uint64_t at;
+    int read;
+    uint32_t code;
+    for (; sscanf(said, "%ld%n", &indexes[count], &read) == 1; said += read + (said[read] == ','))
+        count++;
+    code = dwexpr_libdw_object_element(array, indexes, count, element);
+    for (i = 0; !dwexpr_libdw_object_shape(array, &dimensions, &rank) && i < rank && i < count; i++) {
+        for (at = 0; at < 100 && dwexpr_libdw_index(&dimensions[i], at) != indexes[i]; at++)
+            ;
+        check(code || at < (dimensions[i].has_count ? dimensions[i].count : 100), said, "the places of indexes");
+    }
+    return code;
+}
+
+/* Goes to the part that a path names. */
+static uint32_t go(const char *path)
+{
+    uint32_t code = 0;
+    for (; *path && !code; parts_length += !code) {
+        dwexpr_libdw_object *whole = parts[parts_length - 1], **part = &parts[parts_length];
+        const size_t length = strcspn(path + 1, ".[*");
+        char name[64] = "";
+        memcpy(name, path + 1, length);
+        code = *path == '.'   ? dwexpr_libdw_object_named(whole, name, part)
+               : *path == '[' ? find_element(whole, name, part)
+                              : dwexpr_libdw_object_follow(whole, part);
+        path += 1 + length;
+    }
+    return code;
+}
+
+/* Whether a part of the object is where a word says, in bits from the object's data, and has so many bits. */
+static int is_placed(Dwarf_Die *type, const char *path, const char *begins, const char *has)
+{
+    uint64_t data = 0, address = 0, bit = 0, bits = 0;
+    uint32_t code = begin_parts(type), unknown = 0;
+    if (!code)
+        code = dwexpr_libdw_object_address(parts[0], &data, &bit);
+    if (!code)
+        code = go(path);
+    if (!code)
+        code = dwexpr_libdw_object_address(parts[parts_length - 1], &address, &bit);
+    if (!code)
+        unknown = dwexpr_libdw_object_size(parts[parts_length - 1], &bits);
+    free_parts();
+    return is_said(begins, code, 8 * (address - data) + bit) && (code || is_said(has, unknown, bits));
+}
+
+/* Whether an object has the number that its text says, if that is one, and its bits are known then; and no number if it
+ * has no text. */
+static int has_number(dwexpr_libdw_object *part, uint32_t code, const char *text)
+{
+    uint8_t bytes[64], unknown[64] = {1};
+    uint64_t number = 0, bits;
+    const int is_known = !dwexpr_libdw_object_number(part, &number);
+    if (dwexpr_libdw_object_size(part, &bits) || bits > 8 * sizeof bytes)
+        return !is_known;
+    if (!dwexpr_libdw_object_read(part, bits + 1, bytes, unknown))
+        return 0;
+    if (code)
+        return !is_known || code == DWEXPR_LIBDW_TOO_SMALL;
+    return !dwexpr_libdw_object_read(part, bits, bytes, unknown) && !unknown[0] &&
+           (!is_known || !strspn(text, "-0123456789") || strtoull(text, NULL, 0) == number);
+}
+
+/* Whether a part of an object, which a call with this code gave, has a text. */
+static int has_text(uint32_t code, const char *path, const char *said)
+{
+    char text[64];
+    int holds;
+    parts_length = !code;
+    if (!code)
+        code = go(path);
+    holds = code != 0;
+    if (!code) {
+        code = dwexpr_libdw_object_text(parts[parts_length - 1], text, sizeof text);
+        holds = has_number(parts[parts_length - 1], code, text);
+    }
+    free_parts();
+    return (code && refused_call) || (holds && !strcmp(code ? dwexpr_libdw_code_name(code) : text, said));
 }
 
 /* Checks the size of a type, and of the variable's as it stands: that of a typedef. */
 static int has_size(Dwarf_Die *variable, Dwarf_Die *type, const char *said)
 {
     Dwarf_Attribute attribute;
-    uint64_t number;
-    uint32_t code = dwexpr_libdw_size(frames[0], type, &object, &number);
-    int holds = is_said(said, code, number);
-    if (dwarf_formref_die(dwarf_attr(variable, DW_AT_type, &attribute), type)) {
-        code = dwexpr_libdw_size(frames[0], type, &object, &number);
-        holds &= is_said(said, code, number);
-    }
+    char bits[32] = "none";
+    int holds;
+    if (strcmp(said, "none"))
+        snprintf(bits, sizeof bits, "%llu", 8 * strtoull(said, NULL, 10));
+    holds = is_placed(type, "", "0", bits);
+    if (dwarf_formref_die(dwarf_attr(variable, DW_AT_type, &attribute), type))
+        holds &= is_placed(type, "", "0", bits);
     return holds;
 }
 
-static int is_type(Dwarf_Die *variable, char word[4][64])
+static int is_type(Dwarf_Die *variable, char word[4][64], const char *said)
 {
     Dwarf_Die type = {.addr = NULL};
     Dwarf_Attribute attribute;
-    uint64_t number = 0;
+    uint64_t number = 0, bit;
+    char path[64];
     uint32_t code = dwexpr_libdw_type(variable, &type);
     if (!strcmp(word[0], "size"))
         return has_size(variable, &type, word[1]);
-    if (!strcmp(word[0], "at"))
-        return is_element(&type, word[1], word[2], word[3]);
-    if (!strcmp(word[0], "member"))
-        return is_member(&type, word[1], word[2], word[3]);
+    snprintf(path, sizeof path, !strcmp(word[0], "at") ? "[%s]" : ".%s", word[1]);
+    if (!strcmp(word[0], "at") || !strcmp(word[0], "member"))
+        return is_placed(&type, path, word[2], word[3]);
+    if (*word[0] == '=')
+        return has_text(dwexpr_libdw_object_of_variable(frames[0], variable, &parts[0]), word[0] + 1, said);
+    if (strchr(".[*", *word[0]))
+        return has_text(begin_parts(&type), word[0], said);
     if (!strcmp(word[0], "data")) {
-        code = dwexpr_libdw_data(frames[0], &type, object, &number);
+        code = begin_parts(&type);
+        if (!code)
+            code = dwexpr_libdw_object_address(parts[0], &number, &bit);
+        free_parts();
         return strcmp(word[1], "memory") ? is_said(word[1], code, number) : !code && number != object;
     }
     if (!strcmp(word[0], "vtable")) {
@@ -135,9 +226,14 @@ static int is_type(Dwarf_Die *variable, char word[4][64])
         code = dwexpr_libdw_number(frames[0], &attribute, &object, &number);
         return is_said(word[1], code, number);
     }
-    if (!strcmp(word[0], "without"))
-        code = dwexpr_libdw_size(frames[0], &type, NULL, &number);
-    else if (strcmp(word[0], "type"))
+    if (!strcmp(word[0], "without") || !strcmp(word[0], "nowhere")) {
+        code = dwexpr_libdw_object_of_variable(frames[0], variable, &parts[0]);
+        parts_length = !code;
+        if (!code)
+            code = *word[0] == 'w' ? dwexpr_libdw_object_size(parts[0], &number)
+                                   : dwexpr_libdw_object_address(parts[0], &number, &bit);
+        free_parts();
+    } else if (strcmp(word[0], "type"))
         return 0;
     return code != 0;
 }
@@ -203,6 +299,8 @@ static int is_found(char word[4][64], const char *said)
         const dwexpr_libdw_text text = {.text = {bytes, bytes_of(name, bytes)}, .encoding = LE8};
         return is_value(frame, said, dwexpr_libdw_evaluate(frame, &text, NULL, NULL, &value), &value);
     }
+    if (!strcmp(name, "first") && !strcmp(kind, "of"))
+        return has_text(dwexpr_libdw_object_global(frame, where, &parts[0]), "", said);
     if (!strcmp(name, "all")) {
         const uint32_t code = dwexpr_libdw_globals(frame, NULL, where, &globals, &total);
         free(globals);
@@ -230,10 +328,13 @@ static void check_words(Dwarf_Die *variable, const char *words)
     dwexpr_libdw_value *value;
     int holds;
     sscanf(words, "%63s %63s %63s %63s", word[0], word[1], word[2], word[3]);
-    if (!strcmp(word[0], "value"))
+    if (!strcmp(word[0], "limit")) {
+        dwexpr_libdw_set_limit(frames[0], (uint32_t)atol(word[1]));
+        holds = 1;
+    } else if (!strcmp(word[0], "value"))
         holds = is_value(frames[0], words + 6, dwexpr_libdw_variable(frames[0], variable, &value), &value);
     else
-        holds = said ? is_found(word, said + 4) : is_type(variable, word);
+        holds = said && !strchr(".[*=", *words) ? is_found(word, said + 4) : is_type(variable, word, said + 4);
     check(holds, place, words);
 }
 
@@ -246,10 +347,12 @@ static void check_row(Dwarf_Die *variable, const char *row)
     char words[1024], *next, *here = words;
     size_t count = 0, i;
     unsigned long places[8] = {0};
-    int read;
+    int stopped[8] = {0}, read;
     snprintf(words, sizeof words, "%s", row);
-    for (; dwfl && sscanf(here, "%lx%n", &places[count], &read) == 1; here += read)
-        count++;
+    for (; dwfl && sscanf(here, "%lx%n", &places[count], &read) == 1; here += read) {
+        stopped[count] = here[read] == '!';
+        read += stopped[count++];
+    }
     here += dwfl ? strcspn(here, " ") + 1 : 0;
     if (!count) {
         source.unit = dwfl ? &unit : NULL;
@@ -258,7 +361,7 @@ static void check_row(Dwarf_Die *variable, const char *row)
     }
     for (i = count; i-- > 0;) {
         source.pc = places[i];
-        source.is_activation = i == 0;
+        source.is_activation = i == 0 || stopped[i];
         source.caller = i + 1 < count ? frames[i + 1] : NULL;
         if (dwexpr_libdw_make_frame(&source, &frames[i]))
             break;

@@ -49,6 +49,12 @@ dwexpr_program(scopes-rustc rustc stopped/scopes.rs -Ccodegen-units=1)
 dwexpr_program(shapes-g++ g++ stopped/shapes.cpp ${CMAKE_CURRENT_SOURCE_DIR}/shapes.cpp -O2)
 dwexpr_program(shapes-clang++ clang++ stopped/shapes.cpp ${CMAKE_CURRENT_SOURCE_DIR}/shapes.cpp -O0)
 dwexpr_program(bases g++ stopped/bases.cpp -O0)
+dwexpr_program(objects-gcc gcc objects.c -O0)
+dwexpr_program(objects-gcc-4 gcc objects.c -O0 -gdwarf-4)
+dwexpr_program(objects-clang clang objects.c -O0)
+dwexpr_program(objects-f90 gfortran objects.f90 -O0)
+dwexpr_program(objects-rs rustc objects.rs)
+dwexpr_program(objects gnatmake objects.adb -O0)
 dwexpr_program(arrays gnatmake stopped/arrays.adb -O0)
 dwexpr_program(variants gnatmake stopped/variants.adb -O0)
 dwexpr_program(fortran gfortran stopped/arrays.f90 -O0)
@@ -130,11 +136,9 @@ function(dwexpr_frames which program place)
   dwexpr_on_stopped("libdw_frames ${which} ${program}" 0 "(.*\n)?[1-9][0-9]* passed, 0 failed\n" ${program} ${place}
     $<TARGET_FILE:test_libdw_frames> ${which} PID)
 endfunction()
-foreach(kind bases bounds deep no_rules variants)
+foreach(kind deep no_rules)
   dwexpr_frames(${kind} ${kind} 1)
 endforeach()
-dwexpr_frames(members pieces-gcc-O0-4 1)
-dwexpr_frames(members pieces-gcc-O0-5 1)
 dwexpr_frames(modules whole/modules 1)
 dwexpr_frames(pointers pieces-gcc-O2-5 10)
 dwexpr_frames(signals signals-clang 1)
@@ -170,8 +174,7 @@ set(where $<TARGET_FILE:where>)
 set(frame "\n#[0-9] 0x[0-9a-f]+\nin ")
 string(CONCAT lines "thread [0-9]+${frame}middle\ninner = 43\nn = 6\nsquare = 36\nlocal = 35"
   "${frame}outermost\nn = 3\ntwice = 6\n[^#]*${frame}main\nargc = 2\n.*")
-string(CONCAT characters ".*\nnegative = -98\nlarge = 202 [(]0xca[)]\ncounted = 7\nletter = -3\n.*"
-  "\nis_set = 1 [(]0x1[)]\n.*")
+string(CONCAT characters ".*\nnegative = -98\nlarge = 202\ncounted = 7\nletter = -3\n.*\nis_set = true\n.*")
 dwexpr_on_stopped("examples/where.c --pid" 0 "${lines}" ${pieces} ${where} --pid PID)
 dwexpr_on_stopped("examples/where.c, characters" 0 "${characters}" registers-O0 3 ${where} --pid PID)
 # After a call of a bad pointer the stack goes on at the call, as under a handler (1, 2).
@@ -190,14 +193,46 @@ dwexpr_on_stopped("examples/where.c, a bad return" 2 "${handled}1234567\n${cut}"
 dwexpr_on_stopped("examples/where.c, the first function" 0 "thread [0-9]+${frame}begin\n#1 0x[0-9a-f]+\n" start 1
   ${where} --pid PID)
 dwexpr_on_stopped("examples/where.c, threads" 0 "thread [0-9]+.*\nthread [0-9]+.*" threads 1 ${where} --pid PID)
-string(REPEAT "[a-z]+ has no size: there are several definitions\n" 8 several)
-string(REPEAT "00 " 12 front)
-string(REPEAT "00 " 27 rest)
+# These lines have to be among what is printed, one after the other.
+function(dwexpr_where what program)
+  string(JOIN "\n" lines ${ARGN})
+  string(REGEX REPLACE "([][*+.])" "[\\1]" lines "${lines}")
+  dwexpr_on_stopped("examples/where.c, ${what} of ${program}" 0 ".*\n${lines}\n.*" ${program} 1 ${where} --pid PID)
+endfunction()
 foreach(version 4 5)
-  dwexpr_on_stopped("examples/where.c, definitions ${version}" 0
-    "thread [0-9]+${frame}main\n${several}same = ${front}07 ${rest}\nonly = 9 [(]0x9[)]\n.*" definitions-${version} 1
-    ${where} --pid PID)
+  set(several)
+  foreach(name node named placed typed narrow counted within pointing)
+    list(APPEND several "${name} = there are several definitions")
+  endforeach()
+  dwexpr_where(definitions definitions-${version} ${several} "same.next = 0x0" "same.parts[0].letter = 0"
+    "same.parts[1].letter = 0" "same.either.whole = 7" "same.either.real = 9.80908925e-45" "same.color = RED"
+    "same.low = 0" "same.high = 0" "same.call = 0x0" "same.any = 0x0" "only.number = 9")
 endforeach()
+dwexpr_where("another order" objects-gcc "swapped.a = 9" "swapped.b = 11" "swapped.c = -5")
+dwexpr_where("another order" objects-gcc-4 "swapped.a = 9" "swapped.b = 11" "swapped.c = -5")
+foreach(kind gcc gcc-4 clang)
+  dwexpr_where(structures objects-${kind} "held.whole = 1069547520" "held.real = 1.5" "held.low = -2" "held.high = 7"
+    "held.table[0,0] = 1" "held.table[0,1] = 2" "held.table[0,2] = 3" "held.table[1,0] = 4" "held.table[1,1] = 5"
+    "held.table[1,2] = -6" "held.next = 0x0" "held.color = BLUE" "held.is_set = true")
+endforeach()
+dwexpr_where(bases bases "*given.last = 3")
+dwexpr_where("a base" bases "copied.right.two = 2")
+dwexpr_where("bounds" objects "*given.first = 2" "*given.size = 5" "*given.last = 9" "*given.data[2] = 7"
+  "*given.data[3] = 7" "*given.data[4] = 7" "*given.data[5] = 7")
+dwexpr_where("indexes" arrays "colors[1] = 1" "colors[5] = 22" "colors[9] = 3")
+dwexpr_where("variants" objects "first.kind = red" "first.number = 4" "first.low = 11")
+dwexpr_where("another variant" objects "second.kind = green" "second.number = -2" "second.middle = -12")
+dwexpr_where("the other variant" objects "third.kind = blue" "third.number = 6" "third.high = 1.5")
+dwexpr_where("a part" bounds "part[1,2] = 9" "part[1,3] = 5" "part[1,4] = 5" "part[2,2] = 5" "part[2,3] = 5"
+  "part[2,4] = 5")
+dwexpr_where("an array backwards" objects-f90 "part[1] = 8" "part[2] = 6" "part[3] = 4" "part[4] = 2")
+dwexpr_where("a structure" objects-f90 "held.pad = 7" "held.vals[3] = 1.5" "held.vals[4] = 2" "held.vals[5] = 3")
+dwexpr_where("any rank" objects-f90 "any[1,1] = 1" "any[1,2] = 3" "any[1,3] = 5" "any[2,1] = 2" "any[2,2] = 4"
+  "any[2,3] = 6")
+dwexpr_where("variants" objects-rs "circle.Circle.radius = 5" "rectangle.Rectangle.__0 = 7"
+  "rectangle.Rectangle.__1 = -8" "nothing.Nothing = {}")
+dwexpr_where("elements" objects-rs "colors[0].__0 = Blue" "colors[0].__1 = true" "colors[1].__0 = Red"
+  "colors[1].__1 = false")
 dwexpr_prints("examples/where.c, no process" 2 "${no_process}" ${where} --pid 4194305)
 dwexpr_prints("examples/where.c, a program" 2 "[^\n]+\n" ${where} --core ${where})
 
@@ -235,10 +270,10 @@ if(program IN_LIST programs AND NOT pattern MATCHES "^[|/]")
   if(valgrind)
     dwexpr_prints("examples/where.c, core dump, valgrind" 0 "${lines}" ${valgrind} ${where} --core ${dump}11)
   endif()
-  # The program's file doesn't have what `shared` was: {70, 76}.
-  set(shared "46 00 00 00 00 00 00 00 4c 00 00 00 00 00 00 00 ")
-  dwexpr_prints("examples/where.c, core dump, data" 0 ".*\nshared = ${shared}\n.*" ${where} --core ${dump}8)
-  dwexpr_prints("examples/where.c, core dump, no data" 0 ".*\nshared = memory or a register can't be read\n.*"
+  # The program's file doesn't have what `shared` was.
+  dwexpr_prints("examples/where.c, core dump, data" 0 ".*\nshared.first = 70\nshared.second = 76\n.*"
+    ${where} --core ${dump}8)
+  dwexpr_prints("examples/where.c, core dump, no data" 0 ".*\nshared.first = memory or a register can't be read\n.*"
     ${where} --core ${dump}cut)
 else()
   message(STATUS "left out: core dumps: the kernel writes none into a process's folder")
@@ -263,12 +298,12 @@ get_property(tests DIRECTORY PROPERTY TESTS)
 list(FILTER tests INCLUDE REGEX "core dump")
 set_property(TEST ${tests} PROPERTY FIXTURES_REQUIRED dumps)
 
-# ---- gdb, which finds the same values as examples/where.c in core dumps, by `ctest -C gdb`
+# ---- gdb, which finds the same values in core dumps, by `ctest -C gdb`
 
 # A program's places from 1 to `places` are compared.
 function(dwexpr_gdb program places)
   cmake_path(ABSOLUTE_PATH program BASE_DIRECTORY ${CMAKE_CURRENT_BINARY_DIR} OUTPUT_VARIABLE file)
-  string(JOIN "|" words ${where} $<TARGET_FILE:on_stopped> ${places} ${file} ${ARGN})
+  string(JOIN "|" words $<TARGET_FILE:test_libdw_bytes> $<TARGET_FILE:on_stopped> ${places} ${file} ${ARGN})
   add_test(NAME "libdw_gdb ${program}" CONFIGURATIONS gdb
     COMMAND ${GDB} -nx -batch -ex "python words = '${words}'.split('|')"
       -x ${CMAKE_CURRENT_SOURCE_DIR}/compare_gdb.py)

@@ -32,8 +32,9 @@ static void keep(size_t frame, Dwarf_Die *variable, int on_entry, uint32_t code,
 static void read_variable(dwexpr_libdw_frame *frame, size_t frame_index, Dwarf_Die *variable)
 {
     dwexpr_libdw_value *value;
+    dwexpr_libdw_object *object, *part = NULL;
     Dwarf_Die type, member;
-    uint64_t number, size, begin, bits;
+    uint64_t number;
     /* for the second frame that would need the debug information of libc */
     int on_entry;
     for (on_entry = 0; on_entry < (frame_index ? 1 : 2); on_entry++) {
@@ -45,11 +46,16 @@ static void read_variable(dwexpr_libdw_frame *frame, size_t frame_index, Dwarf_D
         dwexpr_libdw_release(value);
         keep(frame_index, variable, on_entry, code, number);
     }
-    if (!dwexpr_libdw_type(variable, &type) && !dwexpr_libdw_size(frame, &type, NULL, &size) &&
-        dwarf_child(&type, &member) == 0) {
-        dwexpr_libdw_member(frame, &member, NULL, &begin, &bits);
-        without_memory += dwexpr_libdw_definition(frame, &type, &type) == DWEXPR_LIBDW_NO_MEMORY;
+    without_memory += dwexpr_libdw_object_of_variable(frame, variable, &object) == DWEXPR_LIBDW_NO_MEMORY;
+    if (object) {
+        type = dwexpr_libdw_object_type(object);
+        if (dwarf_child(&type, &member) == 0) {
+            without_memory += dwexpr_libdw_object_member(object, &member, &part) == DWEXPR_LIBDW_NO_MEMORY;
+            without_memory += dwexpr_libdw_definition(frame, &type, &type) == DWEXPR_LIBDW_NO_MEMORY;
+        }
     }
+    dwexpr_libdw_object_free(part);
+    dwexpr_libdw_object_free(object);
 }
 
 static void read_frame(dwexpr_libdw_frame *frame, size_t index)

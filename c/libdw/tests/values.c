@@ -200,6 +200,21 @@ static void check_unreadable(void)
     dwexpr_libdw_free_frame(frame);
 }
 
+/* Bits from the middle of a byte that can't be read, below memory: 4 of it, and 20 of the next ones. */
+static void check_unreadable_bits(void)
+{
+    static const uint8_t seen[] = {0x00, 0x10, 0x20}, unseen[] = {0x0f, 0x00, 0x00};
+    const dwexpr_libdw_value value = {.outcome = {.pieces = 1}, .encoding = LE8,
+                                      .pieces = {{.kind = DWEXPR_AT_ADDRESS, .number = 0xfff, .bit_offset = 4}}};
+    uint8_t content[3], lost[3];
+    int big_endian = 0;
+    dwexpr_libdw_frame *frame = make_frame(&big_endian);
+    const uint32_t code = dwexpr_libdw_read(frame, &value, 24, content, lost);
+    check(code == DWEXPR_LIBDW_NOT_READABLE, "unreadable bits", dwexpr_libdw_code_name(code));
+    check(!memcmp(content, seen, 3) && !memcmp(lost, unseen, 3), "unreadable bits", "those after them");
+    dwexpr_libdw_free_frame(frame);
+}
+
 /* An attribute of no unit, and so of no file. */
 static void check_no_unit(void)
 {
@@ -426,6 +441,7 @@ int main(void)
     check_no_frame();
     check_long_memory();
     check_unreadable();
+    check_unreadable_bits();
     check_no_unit();
     check_narrow_value();
     check_given();
@@ -434,9 +450,9 @@ int main(void)
     check_unwritten();
     check_operation_count();
     check_operations();
-    for (code = DWEXPR_LIBDW_FAILED; code <= DWEXPR_LIBDW_AMBIGUOUS; code++)
+    for (code = DWEXPR_LIBDW_FAILED; code <= DWEXPR_LIBDW_NO_PART; code++)
         check(strcmp(dwexpr_libdw_code_name(code), "unknown code") != 0, "the name of a code", "it has one");
-    check(!strcmp(dwexpr_libdw_code_name(DWEXPR_LIBDW_AMBIGUOUS + 1), "unknown code"), "a code", "there is no such");
+    check(!strcmp(dwexpr_libdw_code_name(DWEXPR_LIBDW_NO_PART + 1), "unknown code"), "a code", "there is no such");
     check(!strcmp(dwexpr_libdw_code_name(DWEXPR_LIBDW_WANTS + DWEXPR_WANTS_CFA), "the canonical frame address"),
           "a request", "its name");
     check(!strcmp(dwexpr_libdw_code_name(DWEXPR_DIVISION_BY_ZERO), "a division by zero"), "a fault", "its name");

@@ -75,10 +75,16 @@ fn is_number_right(given: Result<u64>, answer: &str) -> bool {
 pub(crate) fn is_right(alloc: Global, vector: Vector<'_>) -> Option<bool> {
     let answer = vector.get("answer")?;
     Some(match vector.get("call")? {
-        "is_addr_mask" => is_addr_mask(vector.number("mask")?) == (answer == "true"),
+        "is_addr_mask" => {
+            let is_mask = is_addr_mask(vector.number("mask")?);
+            answer == if is_mask { "true" } else { "false" }
+        }
         "from_encoding" => {
             let encoding = DwAte(vector.get("encoding")?.parse().ok()?);
-            ValueType::from_encoding(encoding, vector.number("size")?) == type_in(answer)
+            match ValueType::from_encoding(encoding, vector.number("size")?) {
+                Some(value_type) => type_in(answer) == Some(value_type),
+                None => answer == "none",
+            }
         }
         "u32_from_u64" => {
             let offset = <u32 as ReaderOffset>::from_u64(vector.number("number")?);

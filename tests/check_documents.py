@@ -8,6 +8,8 @@
   crate. Figures of README.md and the guide are those of the sources.
 - docs/DIFFERENCES.md names exactly the public names that gimli doesn't have, and the types with a default. DWEXPR_GIMLI
   names a folder with gimli 0.34; without it, the page may have too few names.
+- crates/dwarf_expr/CALLING.md has the contract of each public call in the files that it names, and dwarf_example calls
+  each.
 - c/include/dwexpr.h asserts the place of each field, as docs/PROOFS.md says.
 - All files that name the version name one. The manual page has no fault that groff knows, if that is there.
 
@@ -53,6 +55,8 @@ TYPE = re.compile(r"^pub (?:enum|trait) (\w+)[^{]*\{\n(.*?)^\}", re.MULTILINE | 
 MEMBER = re.compile(r"^    (?:final )?(?:(?:fn|const|type) (\w+)|([A-Z]\w+)[,({ ])", re.MULTILINE)
 IN_GIMLI = re.compile(rf"\b{WORDS} (\w+)|^    ([A-Z]\w+)|\b(D[wW]\w+)", re.MULTILINE)
 DEFAULT = re.compile(r"^pub (?:struct|enum) (\w+)<(?:[^>({]*, )?\w+ = ", re.MULTILINE)
+# A public call with a contract: its name, and the rest up to its body.
+CALL = re.compile(r"^ *pub fn (\w+)((?:(?!\n *(?:pub )?fn ).)*?)\n *\{(?:\})?$", re.MULTILINE | re.DOTALL)
 QUOTED = re.compile(r"`(\w+)`")
 # The files and folders of the repository; an editor's are none.
 PLACES = [it.relative_to(TOP) for it in TOP.rglob("*") if not re.match(r"\.?#|.*(?:\.sw.|~)$", it.name)]
@@ -120,8 +124,28 @@ def manual(page):
     expect(not said, "man/dwexpr.1", said)
 
 
+def shown(call, contract):
+    """A call as CALLING.md shows it: `S` and `S'` are what `self` is at the call and at the return."""
+    signature, *clauses = [" ".join(it.split()) for it in re.split(r"\n *(?=requires|ensures)", contract)]
+    clauses = [re.sub(r"^([\w ]+?) \{ (.*) \}$", r"\1: \2", it) for it in clauses]
+    text = "\n  ".join([f"fn {call}{signature}".replace("( ", "(").replace(", )", ")"), *clauses])
+    return re.sub(r"\bself\.(?:old|now)\b", "S", re.sub(r"\bself\.new\b", "S'", text))
+
+
+def calling(page, text):
+    """A file, and then the contract of each public call in it; and calls of each."""
+    example = "\n".join(it.read_text(encoding="utf-8") for it in (TOP / "crates/dwarf_example/src").glob("*.rt"))
+    for path, listed in re.findall(r"^(\w+/\S+\.rt)\n(.*?)\n(?:\n|```)", text, re.MULTILINE | re.DOTALL):
+        known = CALL.findall(read(f"crates/{path}"))
+        same = listed.split() == " ".join(shown(*it) for it in known).split()
+        expect(known and same, f"{page} doesn't have the contracts of {path}")
+        for call, _ in known:
+            expect(re.search(rf"\b{call}\(", example), f"dwarf_example doesn't call {call} of {path}")
+
+
 # What is wrong on purpose.
 WRONG = [
+    (calling, "dwarf_replay/src/stepping.rt\nfn take_step()\n```"),
     (paths, "`tests/nothing.py`"),
     (links, "[a page](nothing.md)"),
     (links, "[a part](README.md#nothing)"),
@@ -168,6 +192,7 @@ def main():
     manual(page)
     if shutil.which("groff"):
         checks.expect_failure(manual, f"{page}.nothing\n")
+    calling("CALLING.md", read("crates/dwarf_expr/CALLING.md"))
     page = read("docs/DIFFERENCES.md")
     differences("docs/DIFFERENCES.md", page)
     checks.expect_failure(differences, "docs/DIFFERENCES.md", page.replace("`copy_of`", "`copy`"))

@@ -3,14 +3,21 @@
 
 ghost use Rattle.dwarf_expr.specs.Evaluation.{IsClosed};
 
+mod listing;
+mod meanings;
+mod outcomes;
 mod registers;
 mod replays;
 mod requests;
+mod single;
 mod storage;
 
-use crate::registers::complete_with_registers;
+use crate::listing::{first_number, first_operation};
+use crate::outcomes::{evaluate_literal, evaluate_three, find_local};
+use crate::registers::{complete_with_registers, complete_with_zeros};
 use crate::replays::replay_bounded;
 use crate::requests::{Process, complete, count_requests};
+use crate::single::{is_taken, local_pieces, member_address};
 use crate::storage::PieceInLine;
 use dwarf_expr::base::{
     DebugAddrIndex, Encoding, EndianSlice, Error, Format, Reader, Register, Result, RunTimeEndian,
@@ -192,6 +199,15 @@ fn show_registers<'a>(
     }
 }
 
+/// Prints whether 0 in every register completes the expression.
+fn show_zeros(rt: &HostRuntime, bytes: Bytes<'_>) -> io::Result<()> {
+    let mut evaluation = Evaluation::new(rt.alloc(), bytes, ENCODING);
+    match complete_with_zeros(&mut evaluation) {
+        Ok(complete) => println!(rt; "zeros alone: {complete}"),
+        Err(error) => println!(rt; "zeros alone: {error:?}"),
+    }
+}
+
 /// Prints how many requests the expression makes.
 fn show_requests(rt: &HostRuntime, bytes: Bytes<'_>) -> io::Result<()> {
     let mut evaluation = Evaluation::new(rt.alloc(), bytes, ENCODING);
@@ -212,6 +228,34 @@ fn show_replayed<'a>(
     let mut answers = Vec::new(rt.alloc());
     let replayed = replay_bounded(&mut evaluation, 100_000, steps, &mut answers);
     println!(rt; "replayed: {replayed:?} {:?}", answers.as_slice())
+}
+
+/// Prints what is decoded of an expression, and what evaluations of few calls give.
+fn show_single<'a>(rt: &HostRuntime, bytes: Bytes<'a>, process: &Stopped<'a>) -> io::Result<()> {
+    let mut evaluation = Evaluation::new(rt.alloc(), bytes, ENCODING);
+    println!(rt;
+        "decoded: {:?} {:?}",
+        first_operation(bytes, ENCODING),
+        first_number(bytes, ENCODING)
+    )?;
+    println!(rt;
+        "single: {:?} {:?} {}",
+        member_address(rt.alloc(), bytes, ENCODING, process.frame_base),
+        local_pieces(rt.alloc(), bytes, ENCODING, process.frame_base),
+        is_taken(&mut evaluation, Step::Evaluate)
+    )
+}
+
+/// Prints the replies whose outcomes are proved.
+fn show_outcomes(rt: &HostRuntime) -> io::Result<()> {
+    let five = EndianSlice::new(&[0x35], RunTimeEndian::Little);
+    let mut evaluation = Evaluation::new(rt.alloc(), five, ENCODING);
+    println!(rt;
+        "outcomes: {:?} {:?} {:?}",
+        evaluate_three(&mut evaluation),
+        find_local(&mut evaluation, 0x3000),
+        evaluate_literal(&mut evaluation, five, 5)
+    )
 }
 
 /// Prints the outcome of some expressions.
@@ -241,8 +285,15 @@ fn show_all(rt: &HostRuntime) -> io::Result<()> {
         show_in_line(rt, bytes, &process)?;
         show_registers(rt, bytes, &process, 1)?;
         show_registers(rt, bytes, &process, 2)?;
+        show_zeros(rt, bytes)?;
         show_requests(rt, bytes)?;
     }
+    show_single(
+        rt,
+        EndianSlice::new(expressions[0], RunTimeEndian::Little),
+        &process,
+    )?;
+    show_outcomes(rt)?;
     show_restarted(rt, &expressions, &process)?;
     show_lent(rt, &expressions, &process)?;
     show_replayed(

@@ -1,4 +1,4 @@
-//! A loop that answers only requests for registers, and raises the maximum number of operations at each.
+//! Two loops that answer only requests for registers. One raises the maximum number of operations at each.
 
 ghost use Rattle.std.specs.Prelude.{◌≡◌, IfOk, true};
 ghost use Rattle.dwarf_expr.specs.Evaluation.{IsClosed, IsComplete};
@@ -37,4 +37,19 @@ pub fn complete_with_registers<R: Reader + Copy + PartialEq, S: EvaluationStorag
         }
     }
     Ok(true)
+}
+
+/// Evaluates with 0 as the value of every register. `false` if the expression asks for anything else; that request stays
+/// open.
+pub fn complete_with_zeros<R: Reader + Copy, S: EvaluationStorage<R>>(
+    evaluation: &mut Evaluation<R, S>,
+) -> Result<bool>
+    requires { IsClosed evaluation.old.status }
+    ensures { IfOk result (λ complete. complete ≡ true → IsComplete evaluation.new.status) }
+{
+    let mut request = evaluation.evaluate()?;
+    'requests: while let EvaluationResult::RequiresRegister { .. } = request {
+        request = evaluation.resume_with_register(Value::Generic(0))?;
+    }
+    Ok(matches!(request, EvaluationResult::Complete))
 }

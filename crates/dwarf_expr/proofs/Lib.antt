@@ -2,3 +2,6 @@ pub mod Twins
 pub mod StepLogs
 pub mod Inlined
 pub mod Refused
+pub mod Unlimited
+pub mod CallOutcomes
+pub mod Computing

@@ -16,8 +16,12 @@ ghost use Rattle.dwarf_meaning.specs.Agreement.{AgreeingSteps};
 ghost use Rattle.dwarf_laws.specs.Inlining.{CallSite, outer_text, inlined_text};
 ghost use Rattle.dwarf_laws.specs.LawRows.{IsWorked, started_steps};
 ghost use Rattle.dwarf_expr.specs.Inlined.{MayInline, InlinedReplay};
+ghost use Rattle.dwarf_expr.specs.Outcomes.{EvaluateGives, ResumeGives};
 ghost use Rattle.dwarf_expr.specs.Twins.{MayReplay, TwoReplays, MeetRefusal};
 
+use dwarf_base::Reader;
+use dwarf_eval::eval::Evaluation;
+use dwarf_eval::store::EvaluationStorage;
 pub use dwarf_laws::{
     bound_rows, called_rows, high_bits, inlining, premises_of_high_bits, premises_of_inlining,
     tight_bounds, twin_rows,
@@ -52,4 +56,13 @@ pub fn inlined_replay()
         → MayInline (fresh_state dwarf4 (outer_text site))
         (fresh_state dwarf4 (inlined_text site)) site
         (UnitRef 5) (Evaluate ∷ []) }
+{}
+
+/// What the next call of an evaluation gives, after any answers and settings.
+///
+/// It does nothing. Its contract states the law of `step_outcome` for `evaluate` at the start, and for the resume that
+/// answers a request. Call it in front of the call.
+pub fn next_outcome<R: Reader + Copy, S: EvaluationStorage<R>>(evaluation: &Evaluation<R, S>)
+    ensures evaluate { EvaluateGives R.text R.Offset.number evaluation.now }
+    ensures resume { ResumeGives R.text R.Offset.number evaluation.now }
 {}

@@ -2,6 +2,7 @@
 #![tactic(auto)]
 
 pub mod laws;
+pub mod outcomes;
 pub mod store;
 
 pub use dwarf_base as base;

@@ -122,22 +122,23 @@ static int enter(dwexpr_libdw_frame *caller, uint64_t address, dwexpr_libdw_fram
     return address && !dwexpr_libdw_find_place(entered) && dwexpr_libdw_entry_of(entered) == address;
 }
 
-/* Finds the tail call by which a function left for that of a frame. Gives back whether there is one, and no other. */
-static int find_tail_call(dwexpr_libdw_frame *between, const dwexpr_libdw_frame *called, Dwarf_Die *site)
+/* Finds the tail call by which a frame's function left, and which it calls, as is_named says. Gives back -1 if there is
+ * none or another one, or if it isn't known which. */
+static int find_tail_call(dwexpr_libdw_frame *between, const dwexpr_libdw_frame *called, Dwarf_Die *site,
+                          uint64_t *address)
 {
     struct dwexpr_libdw_walk walk;
-    uint64_t address;
     int count = 0;
     dwexpr_libdw_begin_walk(&walk, &between->place.function);
     while (next_call_site(&walk, 1, site))
         count++;
     free(walk.path.items);
     if (walk.path.code) /* GCOVR_EXCL_BR_LINE: no memory */
-        return 0; /* GCOVR_EXCL_LINE: no memory */
-    return count == 1 && is_named(site, between, called, &address) > 0;
+        return -1; /* GCOVR_EXCL_LINE: no memory */
+    return count == 1 ? is_named(site, between, called, address) : -1;
 }
 
-/* How many functions are followed at most, in search of a tail call of the first one. */
+/* How many functions are followed at most, in search of tail calls. */
 enum { MOST_FUNCTIONS = 32 };
 
 /* Whether the function of a frame may have called itself by tail calls: then its caller's call site tells nothing. It
@@ -213,13 +214,17 @@ static int find_passed(struct dwexpr_libdw_question *question, Dwarf_Attribute *
     return 0;
 }
 
-/* The caller called another function, at `address`, which then left for this one by a tail call. Asks for what that
- * function passed. Its own values are those that it had on entry. */
+/* The caller called another function, at `address`, which left for this one by tail calls, each of them the only one of
+ * its function. Asks for what the last one passed. Its own values are those that it had on entry. */
 static int ask_between(struct dwexpr_libdw_question *question, uint64_t address, Dwarf_Attribute *value)
 {
+    int steps, is_called = 0;
     question->asked = &question->between;
-    return enter(question->frame->source.caller, address, &question->between) &&
-           find_tail_call(&question->between, question->frame, &question->site) && find_passed(question, value);
+    for (steps = 0; steps < MOST_FUNCTIONS && !is_called; steps++)
+        is_called = enter(question->frame->source.caller, address, &question->between)
+                        ? find_tail_call(&question->between, question->frame, &question->site, &address)
+                        : -1;
+    return is_called > 0 && find_passed(question, value);
 }
 
 int dwexpr_libdw_ask(struct dwexpr_libdw_question *question, Dwarf_Attribute *value)

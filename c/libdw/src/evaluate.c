@@ -629,7 +629,7 @@ uint32_t dwexpr_libdw_on_entry(dwexpr_libdw_frame *frame, Dwarf_Die *parameter, 
         return code;
     if (!frame->place.function.addr || !dwarf_attr_integrate(parameter, DW_AT_location, &attribute))
         return DWEXPR_LIBDW_OPTIMIZED_AWAY;
-    code = dwexpr_libdw_expression(&attribute, dwexpr_libdw_entry_of(frame) - frame->place.bias, &expression);
+    code = dwexpr_libdw_entry_expression(&attribute, dwexpr_libdw_entry_of(frame) - frame->place.bias, &expression);
     length = expression.text.length;
     if (!code && length > sizeof bytes - 3)
         code = DWEXPR_LIBDW_NOT_ENCODABLE;

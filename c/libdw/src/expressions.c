@@ -113,6 +113,21 @@ uint32_t dwexpr_libdw_expression(Dwarf_Attribute *attribute, Dwarf_Addr address,
     return from_operations(operations, count, expression);
 }
 
+uint32_t dwexpr_libdw_entry_expression(Dwarf_Attribute *attribute, Dwarf_Addr entry, dwexpr_libdw_text *expression)
+{
+    const uint32_t code = dwexpr_libdw_expression(attribute, entry, expression);
+    Dwarf_Addr base, begin = 0, end = 0;
+    Dwarf_Op *operations;
+    size_t count;
+    ptrdiff_t at = 0;
+    while ((at = dwarf_getlocations(attribute, at, &base, &begin, &end, &operations, &count)) > 0)
+        if (begin == entry && end == entry) {
+            dwexpr_libdw_free_text(expression);
+            return count ? from_operations(operations, count, expression) : DWEXPR_LIBDW_OPTIMIZED_AWAY;
+        }
+    return code;
+}
+
 /* ---- call frame information */
 
 /* What libdw 0.188 takes as the ABI of x86-64: it mixes up two registers that no rule names. A call may change rax,

@@ -52,6 +52,10 @@ void dwexpr_libdw_free_memory(void *first);
 /* Puts the memory of an expression to a list. */
 void dwexpr_libdw_keep(dwexpr_libdw_text *expression, void **list);
 
+/* The expression of an attribute on entry of a function: GCC's lists may have a range there that has no addresses (a
+ * location view), for the time before the first instruction. Returns what dwexpr_libdw_expression does. */
+uint32_t dwexpr_libdw_entry_expression(Dwarf_Attribute *attribute, Dwarf_Addr entry, dwexpr_libdw_text *expression);
+
 /* ---- entries.c */
 
 /* A walk through entries, each before its children, without recursion. It ends, since libdw goes to no entry that

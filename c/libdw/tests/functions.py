@@ -6,7 +6,7 @@ Each function has 256 bytes of code, from 0x401000 on. The name of a variable of
 from dwarf import ADDRESS, OFFSET, Unit
 
 FIRST, SIZE = 0x401000, 0x100
-CODE = b"\x90" * 0x10000
+CODE = b"\x90" * 0x18000
 OUTSIDE = 0x41FF00
 ENTRY_0 = "entry_value 1 reg0 stack_value"
 UNKNOWN = "an entry value"
@@ -252,12 +252,15 @@ class Functions(Unit):
 
     def tail_calls(self):
         left = {"call_tail_call": True}
-        # through one function, and not through two; one of two tail calls; a site that isn't one
+        # through functions, and not through too many; one of two tail calls; a site that isn't one
         two, three, several = self.chain(2), self.chain(3), self.chain(2)
+        most, more, parted = self.chain(33), self.chain(34), (self.chain(2), self.chain(2))
         plain = self.function(), self.function()
         self.site(several[0], None, call_origin=several[1], **left)
         self.site(plain[0], plain[0].begin + 8, call_origin=plain[1])
-        for said, first, last in [("0b000000", two[0], two[1]), (UNKNOWN, three[0], three[2]),
+        for said, first, last in [("0b000000", two[0], two[1]), ("0b000000", three[0], three[2]),
+                                  ("0b000000", most[0], most[-1]), (UNKNOWN, more[0], more[-1]),
+                                  (UNKNOWN, parted[0][0], parted[1][1]),
                                   (UNKNOWN, several[0], several[1]), (UNKNOWN, plain[0], plain[1])]:
             self.tail(said, last, call_origin=first)
         # by an address that the caller computes, and one at which no function begins
@@ -309,7 +312,21 @@ class Functions(Unit):
         second = len(content + end)
         content += end + front + self.address(function.begin, function.begin + 8)
         content += (bytes([len(base)]) if self.version >= 5 else self.pack("H", len(base))) + base + end
+        # what a parameter has before the first instruction
+        called, caller = self.function(), self.function()
+        self.site(caller, caller.begin + 0x10, call_origin=called)
+        lists = {}
+        for first, then, said in [("reg0", "reg1", "0a000000"), ("", "reg0", "optimized away")]:
+            lists[len(content)] = said
+            for size, register in ((0, first), (8, then)):
+                place = self.expression(register)
+                content += front + self.address(called.begin, called.begin + size)
+                content += bytes([len(place)]) + length[1:] + place
+            content += end
         sections, offset = self.lists(content)
+        for place, said in lists.items():
+            self.parameter(called, f"viewed{place}", (OFFSET, self.offset(offset + place)))
+            self.row([called.begin + 3, caller.begin + 0x10], f"entry of viewed{place} is {said}")
         self.sections |= sections
         for parent, name in [(function, "listed"), (self.root, "listed_global")]:
             self.variable(parent, name, (OFFSET, self.offset(offset)))

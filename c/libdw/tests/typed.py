@@ -155,8 +155,9 @@ class Types(Unit):
         def base(**attributes):
             return {"type": add("base_type", **attributes)} | here
 
-        minus = add("variable", type=self.base_type(1, SIGNED), location="const4u 0x10fe")
-        self.says("size 5", self.array(self.byte, span(minus, 2)))
+        for sign in (SIGNED, 6):  # also of a character
+            minus = add("variable", type=self.base_type(1, sign), location="const4u 0x10fe")
+            self.says("size 5", self.array(self.byte, span(minus, 2)))
         for said, attributes in [
             (35, {"type": self.byte} | here), (35, base(byte_size=1, encoding=6)),
             (35, {"type": add("subrange_type", type=self.byte)} | here), ("none", here), ("none", {"type": self.byte}),
@@ -180,6 +181,10 @@ class Types(Unit):
             self.says(f"member items{number} 32 {said}", structure)
             self.says("size none", array)
         self.says(f"member inner.items0 160 {8 * 35}", outer)
+        signed = add("structure_type", byte_size=256)
+        lowest = signed.add("member", name="lowest", type=self.base_type(1, SIGNED), data_member_location=0xE0)
+        signed.add("member", name="items", type=self.array(self.byte, span(lowest, -14)), data_member_location=4)
+        self.says("member items 32 24; .items[-15] is 21", signed)
         self.says("=.items0[0] is there is no such number", structure, location="implicit_value 8" + 8 * " 01")
         if self.version >= 5:
             # the value 3 at each address

@@ -3,7 +3,7 @@
 
 ghost use Rattle.std.specs.Prelude.{◌≡◌, ◌+◌, ◌-◌, ◌≤◌, ◌<◌, [], ◌∷◌, None};
 ghost use Rattle.dwarf_expr.specs.Value.TheVariants.{Generic};
-ghost use Rattle.dwarf_expr.specs.WaitingKind.TheVariants as kind;
+ghost use Rattle.dwarf_expr.specs.WaitingKind.TheVariants.{FrameBase};
 ghost use Rattle.dwarf_expr.specs.EndianSlice.{slice_text};
 ghost use Rattle.dwarf_expr.specs.Locations.{HoldsValue};
 ghost use Rattle.dwarf_expr.specs.Meaning.{CompleteOutcome, RequestOutcome, meaning, whole_piece};
@@ -36,7 +36,7 @@ pub fn below_frame_base<'a>() -> Bytes<'a>
 pub fn with_frame_base(frame_base: u32)
     requires { 16 ≤ frame_base }
     ensures { meaning dwarf4 Never (text (0x91 ∷ 0x70 ∷ [])) unset
-        (inputs_of unset (NumberAnswer kind.FrameBase frame_base ∷ [])) ≡ value_at (frame_base - 16) (frame_base - 16) }
+        (inputs_of unset (NumberAnswer FrameBase frame_base ∷ [])) ≡ value_at (frame_base - 16) (frame_base - 16) }
 {}
 
 /// A law: what `DW_OP_lit0` to `DW_OP_lit31` give.

@@ -2,7 +2,7 @@
 
 ghost use Rattle.std.specs.Prelude.{◌≡◌, ◌+◌, ◌-◌, ◌≤◌, ◌<◌, [], ◌∷◌, None};
 ghost use Rattle.dwarf_expr.specs.Value.TheVariants.{Generic};
-ghost use Rattle.dwarf_expr.specs.WaitingKind.TheVariants as kind;
+ghost use Rattle.dwarf_expr.specs.WaitingKind.TheVariants.{FrameBase};
 ghost use Rattle.dwarf_expr.specs.EndianSlice.{slice_text};
 ghost use Rattle.dwarf_expr.specs.Locations.{HoldsValue};
 ghost use Rattle.dwarf_expr.specs.Meaning.{CompleteOutcome, RequestOutcome, whole_piece};
@@ -54,7 +54,7 @@ pub fn find_local<'a, S: EvaluationStorage<Bytes<'a>>>(
 ) -> Result<EvaluationResult<Bytes<'a>>>
     requires { 16 ≤ frame_base }
     ensures { GivesOutcome slice_text (λ x. x) dwarf4 (text (0x91 ∷ 0x70 ∷ [])) unset
-        (inputs_of unset (NumberAnswer kind.FrameBase frame_base ∷ []))
+        (inputs_of unset (NumberAnswer FrameBase frame_base ∷ []))
         (value_at (frame_base - 16) (frame_base - 16)) result evaluation.new }
 {
     let address = u64::from(frame_base);

@@ -4,7 +4,7 @@ ghost use Rattle.std.specs.Prelude.{◌≢◌, ◌<◌, IfOk, OnOk};
 ghost use Rattle.dwarf_expr.specs.Bounds.{calls_left};
 ghost use Rattle.dwarf_expr.specs.Evaluation.{IsClosed, IsComplete};
 ghost use Rattle.dwarf_expr.specs.Permits.{Admits, IsOpenFor};
-ghost use Rattle.dwarf_expr.specs.EvaluationResult.TheVariants as reply;
+ghost use Rattle.dwarf_expr.specs.EvaluationResult.TheVariants.{Complete};
 
 use dwarf_expr::base::{DebugAddrIndex, Reader, Register, Result, UnitOffset};
 use dwarf_expr::eval::{Evaluation, Status, WaitingKind};
@@ -76,7 +76,7 @@ fn answer<R: Reader + Copy, S: EvaluationStorage<R>, P: Process<R>>(
     process: &P,
 ) -> Result<EvaluationResult<R>>
     requires open { Admits request evaluation.old.status }
-    requires asks { request ≢ reply.Complete }
+    requires asks { request ≢ Complete }
     ensures admits { IfOk result (λ replied. Admits replied evaluation.new.status) }
     ensures fewer { IfOk result (λ replied. calls_left evaluation.new < calls_left evaluation.old) }
 {

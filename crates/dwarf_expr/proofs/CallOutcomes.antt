@@ -25,8 +25,8 @@ use Rattle.dwarf_eval.specs.declared.op.results.EvaluationResult.TheVariants as 
 use Rattle.dwarf_eval.proofs.Following.{total_open, total_complete, total_meaning}
 use Rattle.dwarf_replay.specs.Replays.{IsInRequest, IsInFault}
 use Rattle.dwarf_replay.proofs.Standings.{later_before}
+use Rattle.dwarf_laws.proofs.Unrefused.{full_or_unlimited}
 use Rattle.dwarf_expr.specs.Outcomes.{unlimited, IsFull, GivesBy, HasTaken, GivesOutcome, EvaluateGives, ResumeGives}
-use Rattle.dwarf_expr.proofs.Unlimited.{full_or_unlimited}
 
 -- ---- replies
 

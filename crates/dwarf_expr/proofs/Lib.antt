@@ -2,6 +2,5 @@ pub mod Twins
 pub mod StepLogs
 pub mod Inlined
 pub mod Refused
-pub mod Unlimited
 pub mod CallOutcomes
 pub mod Computing

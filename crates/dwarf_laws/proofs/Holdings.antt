@@ -141,21 +141,21 @@ module _ (Free : Type 0) where
         inputs = λ refusal refusal' e. map_free refusal_after_input refusal refusal' e;
       }
 
-calm_rooms : Rooms calmed None None
-calm_rooms n n' refusal refusal' e never =
-    subst (λ (r : Refusal). AgreeingRooms calmed (refusal_after_push refusal) (refusal_after_push r)) (sym never)
-    (at _ (after_push_is refusal))
+calm_rooms : (limit : Option ℕ) → Rooms calmed limit None
+calm_rooms limit n n' refusal refusal' e never =
+    subst (λ (r : Refusal). AgreeingRooms calmed (push_with_room limit n refusal) (refusal_after_push r)) (sym never)
+    (at _ (room_is limit n refusal))
   where
     at : (r : Result Refusal Fault) → IsRoom r → AgreeingRooms calmed r (Ok Never)
     at r is_left = results refl
     at r is_full = result_first tt
 
-pub pushing_calmed : Pushing calmed no_limits no_limits
-pushing_calmed =
+pub pushing_calmed : (limits : Limits) → Pushing calmed limits no_limits
+pushing_calmed limits =
     record {
-      values = calm_rooms;
-      callers = calm_rooms;
-      pieces = calm_rooms;
+      values = calm_rooms limits.values;
+      callers = calm_rooms limits.callers;
+      pieces = calm_rooms limits.pieces;
       inputs = λ refusal refusal' never. ap refusal_after_input never;
     }
 

@@ -1,4 +1,4 @@
--- Without limits a run in which no push is refused is the run without a refusal.
+-- Limits and refused pushes change no outcome, except to a refused push.
 use Rattle.std.proofs.Common.{ℕ, ◌≡◌, refl, sym, subst, ◌⊎◌, inl, inr, List, Option, Some, None}
 use Rattle.dwarf_base.specs.declared.errors.Error.TheVariants.{StackFull}
 use Rattle.dwarf_base.specs.Reads.{Text}
@@ -10,7 +10,7 @@ use Rattle.dwarf_meaning.specs.Refusals.{Limits, Refusal, Never}
 use Rattle.dwarf_meaning.specs.RowWords.{no_limits}
 use Rattle.dwarf_meaning.specs.Agreement.{Both, nothing, something, AgreeingAnswers, value, number, location, base_type, AgreeingSettings, AgreeingInputs}
 use Rattle.dwarf_meaning.proofs.Pairs.{paired_refl}
-use Rattle.dwarf_laws.proofs.Holdings.{calmed, Pushing, pushing_calmed}
+use Rattle.dwarf_laws.proofs.Holdings.{calmed, pushing_calmed}
 use Rattle.dwarf_laws.proofs.Meanings.{AgreeUnlessFull, agree, full_first, full_second, courses_both, course_both}
 
 -- ---- the same agrees
@@ -38,15 +38,24 @@ full_or_same w x y (agree a same) = inr (same tt)
 full_or_same w x y (full_first free e) = inl e
 full_or_same w x y (full_second impossible e) = absurd impossible
 
--- a push was refused, or it is its outcome without a refusal
+-- a push was refused, or it is the outcome without limits and refusals
+pub full_or_unlimited : (setup : Setup) (refusal : Refusal) (text : Text) (first : First) (inputs : List Input)
+    → (meaning setup refusal text first inputs ≡ FaultOutcome StackFull)
+    ⊎ (meaning setup refusal text first inputs ≡ meaning (record setup { limits = no_limits }) Never text first inputs)
+unfolding meaning
+full_or_unlimited setup refusal text first inputs =
+    let w = address_bits setup in
+    full_or_same w _ _ (courses_both calmed setup no_limits (pushing_calmed setup.limits) (inr tt) _ _
+    (course_both calmed setup no_limits (pushing_calmed setup.limits) (inr tt) refusal Never refl text first first inputs inputs
+    (record { initial_value = both_refl (λ n. refl) first.initial_value; settings = settings_refl w first.settings }) (λ k. refl)
+    (record { each = paired_refl (inputs_refl w) inputs; same = λ k. refl })))
+
+-- if there are no limits, a push was refused, or it is the outcome without a refusal
 pub meaning_calm : (setup : Setup) → setup.limits ≡ no_limits → (refusal : Refusal) (text : Text) (first : First) (inputs : List Input)
     → (meaning setup refusal text first inputs ≡ FaultOutcome StackFull)
     ⊎ (meaning setup refusal text first inputs ≡ meaning setup Never text first inputs)
-unfolding meaning
 meaning_calm setup h refusal text first inputs =
-    let w = address_bits setup in
-    let pushing = subst (λ (l : Limits). Pushing calmed l l) (sym h) pushing_calmed in
-    full_or_same w _ _ (courses_both calmed setup setup.limits pushing (inr tt) _ _
-    (course_both calmed setup setup.limits pushing (inr tt) refusal Never refl text first first inputs inputs
-    (record { initial_value = both_refl (λ n. refl) first.initial_value; settings = settings_refl w first.settings }) (λ k. refl)
-    (record { each = paired_refl (inputs_refl w) inputs; same = λ k. refl })))
+    subst
+    (λ (l : Limits). (meaning setup refusal text first inputs ≡ FaultOutcome StackFull)
+    ⊎ (meaning setup refusal text first inputs ≡ meaning (record setup { limits = l }) Never text first inputs))
+    (sym h) (full_or_unlimited setup refusal text first inputs)

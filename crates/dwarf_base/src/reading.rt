@@ -187,7 +187,7 @@ pub trait Reader {
 
     /// Reads an unsigned LEB128 number of 32 bits. It fails as `read_uleb128` does, and with `BadUnsignedLeb128` if the
     /// number is above 4294967295.
-    #[inline(always)]
+    #[inline]
     final fn read_uleb128_u32(&mut self) -> Result<u32>
     where
         Self: Copy,

@@ -1,10 +1,12 @@
 //! Two loops that answer only requests for registers. One raises the maximum number of operations at each.
 
-ghost use Rattle.std.specs.Prelude.{◌≡◌, IfOk, true};
+ghost use Rattle.std.specs.Prelude.{◌≡◌, ◌↔◌, IfOk, true};
 ghost use Rattle.dwarf_expr.specs.Evaluation.{IsClosed, IsComplete};
+ghost use Rattle.dwarf_expr.specs.Permits.{IsOpenFor};
+ghost use Rattle.dwarf_expr.specs.WaitingKind.TheVariants.{Register};
 
 use dwarf_expr::base::{Reader, Result};
-use dwarf_expr::eval::Evaluation;
+use dwarf_expr::eval::{Evaluation, Status, WaitingKind};
 use dwarf_expr::op::EvaluationResult;
 use dwarf_expr::store::EvaluationStorage;
 use dwarf_expr::value::Value;
@@ -45,11 +47,13 @@ pub fn complete_with_zeros<R: Reader + Copy, S: EvaluationStorage<R>>(
     evaluation: &mut Evaluation<R, S>,
 ) -> Result<bool>
     requires { IsClosed evaluation.old.status }
-    ensures { IfOk result (λ complete. complete ≡ true → IsComplete evaluation.new.status) }
+    ensures complete { IfOk result
+        (λ complete. (complete ≡ true) ↔ IsComplete evaluation.new.status) }
+    ensures registers { IfOk result (λ complete. IsOpenFor Register evaluation.new.status → ⊥) }
 {
-    let mut request = evaluation.evaluate()?;
-    'requests: while let EvaluationResult::RequiresRegister { .. } = request {
-        request = evaluation.resume_with_register(Value::Generic(0))?;
+    evaluation.evaluate()?;
+    'requests: while evaluation.is_open_for(WaitingKind::Register) {
+        evaluation.resume_with_register(Value::Generic(0))?;
     }
-    Ok(matches!(request, EvaluationResult::Complete))
+    Ok(matches!(evaluation.status(), Status::Complete))
 }

@@ -1,10 +1,10 @@
 //! Made-up cases, and answers to what they ask.
 
-use crate::Subject;
 use crate::calls::{Outcome, Settings};
-use crate::shown::{COMPLETE, TYPES};
-use dwexpr::{Encoding, EndianSlice, Format, RunTimeEndian, Value};
-use dwexpr_cli::parts::{Bytes, DecodingContext, Step};
+use crate::conformance::{Encoding, Step};
+use crate::shown::{self, COMPLETE, TYPES};
+use crate::{Subject, ours};
+use dwexpr::{Value, ValueType};
 use std::sync::LazyLock;
 
 /// A generator of numbers (xorshift, Marsaglia 2003). The same seed gives the same numbers in every run.
@@ -61,7 +61,6 @@ static FORMS: LazyLock<[u8; 256]> = LazyLock::new(|| {
 #[derive(Debug)]
 pub struct Case {
     pub encoding: Encoding,
-    pub order: RunTimeEndian,
     pub texts: Vec<Vec<u8>>,
     pub maximum: u32,
     pub object_address: Option<u64>,
@@ -79,10 +78,10 @@ impl Case {
         let mut case = Case {
             encoding: Encoding {
                 address_size: if numbers.one_in(3) { numbers.below(8) as u8 + 1 } else { numbers.one_of(&[4, 8]) },
-                format: numbers.one_of(&[Format::Dwarf32, Format::Dwarf64]),
+                is_dwarf64: numbers.one_of(&[false, true]),
                 version: numbers.below(4) as u16 + 2,
+                is_big_endian: numbers.one_of(&[false, true]),
             },
-            order: numbers.one_of(&[RunTimeEndian::Little, RunTimeEndian::Big]),
             texts: Vec::new(),
             maximum: if numbers.one_in(8) { numbers.below(16) as u32 } else { 200 },
             object_address: numbers.one_in(2).then_some(numbers.edge()),
@@ -122,7 +121,7 @@ impl Case {
     /// What is evaluated.
     pub fn subject(&self) -> Subject<'_> {
         Subject {
-            context: DecodingContext { encoding: self.encoding, order: self.order },
+            encoding: self.encoding,
             texts: self.texts.iter().map(Vec::as_slice).collect(),
             settings: Settings {
                 max_iterations: self.maximum,
@@ -145,18 +144,14 @@ impl Case {
             }
             b'h' if self.numbers.below(4) > 0 => {
                 let distance = self.numbers.below(24) as i16 - 8;
-                text.extend(if self.order == RunTimeEndian::Big {
-                    distance.to_be_bytes()
-                } else {
-                    distance.to_le_bytes()
-                });
+                text.extend(if self.encoding.is_big_endian { distance.to_be_bytes() } else { distance.to_le_bytes() });
             }
             b'H' | b'h' | b'w' => self.fixed(2, text),
             b'I' | b'i' | b'x' => self.fixed(4, text),
             b'Q' | b'q' => self.fixed(8, text),
             b'a' => self.fixed(self.encoding.address_size, text),
             b'p' if self.encoding.version == 2 => self.fixed(self.encoding.address_size, text),
-            b'r' | b'p' => self.fixed(self.encoding.format.word_size(), text),
+            b'r' | b'p' => self.fixed(shown::encoding_of(self.encoding).offset_size, text),
             b'u' | b's' | b'P' | b'K' | b'R' | b'O' | b'V' => self.leb128(text),
             b'W' => text.push(self.numbers.below(5) as u8),
             b'T' | b'L' => self.base_type(text),
@@ -198,8 +193,8 @@ impl Case {
         self.numbers.clone()
     }
 
-    /// The answer after an outcome, mostly to its request; `None` if no more are given.
-    pub fn answer(&self, given: usize, outcome: &Outcome, numbers: &mut Numbers) -> Option<Step<Bytes<'_>>> {
+    /// The answer after an outcome, mostly to its request, and a text; `None` if no more are given.
+    pub fn answer(&self, given: usize, outcome: &Outcome, numbers: &mut Numbers) -> Option<(Step, usize)> {
         // An evaluation keeps a fault, and stays complete. That is tried now and then.
         let is_over = outcome.request <= COMPLETE;
         if given == 24 || (is_over && !numbers.one_in(16)) {
@@ -209,22 +204,22 @@ impl Case {
         let is_generic = !matches!(outcome.request, 8 | 12) && outcome.base_type == 0;
         let wanted = if is_generic { 1 } else { usize::from(self.home) };
         let value_type = TYPES[if numbers.one_in(8) { numbers.below(9) } else { wanted - 1 }];
-        let (number, text) = (numbers.edge(), &self.texts[numbers.below(self.texts.len())]);
-        let text = EndianSlice::new(text.as_slice(), self.order);
+        let (number, text) = (numbers.edge(), numbers.below(self.texts.len()));
         let request = if is_over || numbers.one_in(48) { any } else { outcome.request };
-        Some(answer_to(request, Value::from_u64(value_type, number).expect("it is a type of integers"), number, text))
+        Some((answer_to(request, value_type, number), text))
     }
 }
 
-/// The answer to a request, of what it asks for.
-pub fn answer_to<'a>(request: u32, value: Value, number: u64, text: Bytes<'a>) -> Step<Bytes<'a>> {
+/// The answer to a request, of what it asks for. A text is said beside it.
+pub fn answer_to(request: u32, value_type: ValueType, number: u64) -> Step {
+    let value = ours::plain(Value::from_u64(value_type, number).expect("it is a type of integers"));
     match request {
         2 => Step::Memory(value),
         3 => Step::Register(value),
         4 => Step::FrameBase(number),
         5 => Step::Tls(number),
         6 => Step::CallFrameCfa(number),
-        7 => Step::AtLocation(text),
+        7 => Step::AtLocation(vec![]),
         8 => Step::EntryValue(value),
         9 => Step::ParameterRef(number),
         10 => Step::RelocatedAddress(number),

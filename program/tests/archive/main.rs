@@ -6,44 +6,61 @@
 #![cfg(archive)]
 
 mod calls;
-mod cases;
-mod decoded;
-#[path = "../../../tests/conformance/src/json.rs"]
-mod json;
-mod lines;
+#[allow(dead_code)]
+#[path = "../../../tests/conformance/src/lib.rs"]
+mod conformance;
 mod made_up;
-#[path = "../rows/rows.rs"]
-mod rows;
 mod shown;
 
 use calls::{Answer, Held, MAX_CALLERS, MAX_PIECES, MAX_VALUES, Outcome, Settings, decode};
+// The suite's macro names these from the crate.
+use conformance::{Call, Case, Encoding, Implementation, Operation, Step, Value, ValueType};
+use dwexpr::ValueType::{Generic, U8};
 use dwexpr::{
-    Encoding, EndianSlice, Evaluation, Format, Operation, Piece, RunTimeEndian, SliceVec, Status, StoreInSlices, Value,
+    EndianSlice, Evaluation, EvaluationResult, EvaluationStorage, Piece, RunTimeEndian, SliceVec, Status, StoreInSlices,
 };
-use dwexpr_cli::parts::{Bytes, DecodingContext, Step};
 use std::collections::BTreeSet;
 use std::fmt::Debug;
 use std::panic::{AssertUnwindSafe, catch_unwind, set_hook, take_hook};
 use std::sync::Once;
 use std::thread;
 
+implementation!(ours = dwexpr);
+
+type Bytes<'a> = EndianSlice<'a, RunTimeEndian>;
+type Reply<R> = dwexpr::Result<EvaluationResult<R>>;
+
+/// A step, and the number of the text that it gives, if it answers a call.
+type Taken = (Step, usize);
+
 /// How many made-up cases are compared, and how many of them share their lists and the archive's memory.
 const COUNT: u64 = if cfg!(target_arch = "x86_64") { 1_000_000 } else { 20_000 };
 const PART: u64 = 1_000;
+/// Addresses of 8 bytes.
+const WIDE: Encoding = Encoding { address_size: 8, is_dwarf64: false, version: 5, is_big_endian: false };
 /// What has to come up: operations, errors without that of an offset, replies, an answer out of turn, kinds of pieces,
 /// and a value of each type or none.
 const MET: usize = 55 + 20 + 15 + 1 + 6 + 10;
 
 /// An evaluation of the first text.
 struct Subject<'a> {
-    context: DecodingContext,
+    encoding: Encoding,
     texts: Vec<&'a [u8]>,
     settings: Settings,
 }
 
 impl<'a> Subject<'a> {
     fn read(&self, text: usize) -> Bytes<'a> {
-        EndianSlice::new(self.texts[text], self.context.order)
+        EndianSlice::new(self.texts[text], ours::order_of(self.encoding))
+    }
+
+    /// Takes a step, which panics if it is out of turn.
+    fn take<S: EvaluationStorage<Bytes<'a>>>(
+        &self,
+        it: &mut Evaluation<Bytes<'a>, S>,
+        (step, text): &Taken,
+    ) -> Option<Reply<Bytes<'a>>> {
+        ours::take(it, step, |_| self.read(*text))
     }
 }
 
@@ -72,9 +89,9 @@ fn hide_expected_panics() {
 fn comparing<'a, T>(compare: impl FnOnce(&mut Comparison<'a>) -> T) -> T {
     HOOK.call_once(hide_expected_panics);
     let nothing = EndianSlice::new(&[][..], RunTimeEndian::Little);
-    let encoding = Encoding { address_size: 8, format: Format::Dwarf32, version: 5 };
+    let encoding = ours::encoding_of(WIDE);
     // They are never freed, and there are few.
-    let values = SliceVec::new(vec![Value::Generic(0); MAX_VALUES].leak());
+    let values = SliceVec::new(vec![dwexpr::Value::default(); MAX_VALUES].leak());
     let callers = SliceVec::new(vec![(nothing, nothing); MAX_CALLERS].leak());
     let pieces = SliceVec::new(vec![Piece::default(); MAX_PIECES].leak());
     let in_slices = Evaluation::with_lists(nothing, encoding, values, callers, pieces);
@@ -89,37 +106,34 @@ fn name_of(shown: &impl Debug) -> String {
 impl<'a> Comparison<'a> {
     /// Expects that both say the same.
     fn same<T: PartialEq + Debug>(&self, of: &Subject, theirs: T, ours: T) -> Result<(), String> {
-        let differs = || format!("{:?}, {:x?}: the archive: {theirs:x?}, the crate: {ours:x?}", of.context, of.texts);
+        let differs = || format!("{:?}, {:x?}: the archive: {theirs:x?}, the crate: {ours:x?}", of.encoding, of.texts);
         if theirs == ours { Ok(()) } else { Err(differs()) }
     }
 
     /// The encoding for the archive.
     fn encoding(&self, of: &Subject) -> calls::Encoding {
-        let it = shown::encoding_of(of.context);
+        let it = shown::encoding_of(of.encoding);
         calls::Encoding { big_endian: it.big_endian ^ u8::from(self.is_wrong), ..it }
     }
 
     /// Compares the operations of each text.
     fn decode(&mut self, of: &Subject<'a>) -> Result<(), String> {
-        let DecodingContext { encoding, order } = of.context;
         for text in of.texts.iter().copied() {
             let mut offset = 0;
             while offset < text.len() {
                 let shown = decode(text, self.encoding(of), offset);
                 let place = (shown.offset, shown.opcode);
                 self.same(of, place, (offset, text[offset].into()))?;
-                let mut rest = EndianSlice::new(&text[offset..], order);
-                match Operation::parse(&mut rest, encoding) {
+                let rest = EndianSlice::new(&text[offset..], ours::order_of(of.encoding));
+                match ours::decoded(rest, ours::encoding_of(of.encoding)) {
                     Ok(operation) => {
-                        let size = text.len() - offset - rest.slice().len();
-                        self.same(of, (shown.fault, shown.size), (0, size))?;
-                        self.met.insert(operation.name().into());
-                        let ours = (operation.name().into(), decoded::fields_of(operation));
-                        self.same(of, shown::operation_of(text, &shown), ours)?;
-                        offset += size;
+                        self.same(of, shown.fault, 0)?;
+                        self.met.insert(operation.name.clone());
+                        offset += operation.length;
+                        self.same(of, shown::operation_of(text, &shown), operation)?;
                     }
-                    Err(error) => {
-                        let (fault, detail) = shown::code_of(error);
+                    Err(said) => {
+                        let (fault, detail) = shown::code_of(&said);
                         let ours = calls::Operation { offset, opcode: place.1, fault, detail, ..Default::default() };
                         self.same(of, shown, ours)?;
                         break;
@@ -131,9 +145,9 @@ impl<'a> Comparison<'a> {
     }
 
     /// Compares what a reply led to with it. The pieces and the value are compared too.
-    fn reply(&mut self, of: &Subject<'a>, reply: lines::Reply<Bytes<'a>>) -> Result<(), String> {
+    fn reply(&mut self, of: &Subject<'a>, reply: Reply<Bytes<'a>>) -> Result<(), String> {
         let mut ours = shown::outcome_of(&of.texts, reply);
-        self.met.insert(reply.map_or_else(decoded::fault_of, |it| name_of(&it)).split(' ').next().unwrap().into());
+        self.met.insert(reply.map_or_else(ours::fault, |it| name_of(&it)).split(' ').next().unwrap().into());
         if self.in_slices.status() == Status::Complete {
             let (value, pieces) = (self.in_slices.value_result(), self.in_slices.as_result());
             let kinds = pieces.iter().map(|it| format!("in {}", name_of(&it.location)));
@@ -166,39 +180,38 @@ impl<'a> Comparison<'a> {
     fn evaluate(
         &mut self,
         of: &Subject<'a>,
-        mut answer: impl FnMut(usize, &Outcome) -> Option<Step<Bytes<'a>>>,
+        mut answer: impl FnMut(usize, &Outcome) -> Option<Taken>,
     ) -> Result<(), String> {
         let Settings { max_iterations, object_address, initial_value, .. } = of.settings;
-        let read = |bytes| EndianSlice::new(bytes, of.context.order);
         let mut steps = vec![Step::MaxIterations(max_iterations)];
         steps.extend((of.settings.has_object_address != 0).then_some(Step::ObjectAddress(object_address)));
         steps.extend((of.settings.has_initial_value != 0).then_some(Step::InitialValue(initial_value)));
         steps.push(Step::Evaluate);
+        let mut taken: Vec<Taken> = steps.into_iter().map(|step| (step, 0)).collect();
         let mut replies = Vec::new();
-        self.in_slices.restart(of.read(0), of.context.encoding);
-        for step in &steps {
-            replies.extend(lines::take(&mut self.in_slices, step, read));
+        self.in_slices.restart(of.read(0), ours::encoding_of(of.encoding));
+        for step in &taken {
+            replies.extend(of.take(&mut self.in_slices, step));
         }
         self.held.evaluate(&of.texts, self.encoding(of), &of.settings);
         self.reply(of, replies[0])?;
         for given in 0.. {
             self.disturb(of)?;
             let Some(step) = answer(given, &self.held.outcome) else { break };
-            let Some(it) = shown::answer_of(&of.texts, &step) else { break };
+            let Some(it) = shown::answer_of(&step) else { break };
             self.held.resume(&of.texts, it);
-            let take = || lines::take(&mut self.in_slices, &step, read);
-            let Ok(reply) = catch_unwind(AssertUnwindSafe(take)) else {
+            let Ok(reply) = catch_unwind(AssertUnwindSafe(|| of.take(&mut self.in_slices, &step))) else {
                 self.met.insert("misplaced".into());
                 return self.same(of, self.held.outcome, Outcome { code: shown::MISPLACED, ..Outcome::default() });
             };
             self.reply(of, reply.expect("an answer has a reply"))?;
             replies.extend(reply);
-            steps.push(step);
+            taken.push(step);
         }
         // The heap has no limits.
         if !replies.contains(&Err(dwexpr::Error::StackFull)) {
-            let mut on_heap = Evaluation::new(of.read(0), of.context.encoding);
-            let again = steps.iter().filter_map(|it| lines::take(&mut on_heap, it, read));
+            let mut on_heap = Evaluation::new(of.read(0), ours::encoding_of(of.encoding));
+            let again = taken.iter().filter_map(|step| of.take(&mut on_heap, step));
             self.same(of, replies, again.collect())?;
             if on_heap.status() == Status::Complete {
                 self.same(of, self.in_slices.as_result().to_vec(), on_heap.as_result().to_vec())?;
@@ -209,12 +222,13 @@ impl<'a> Comparison<'a> {
     }
 }
 
-/// The subject of a row, and its answers. `None` if C can't take its first steps: settings that don't stand once and
-/// before the start. `has` is what says that a setting is there, any number but 0.
-fn subject_of(case: &cases::Case, has: u16) -> Option<(Subject<'_>, &[Step<Bytes<'static>>])> {
+/// The subject of a case, and its answers. `None` if C can't take its encoding or its first steps: settings that don't
+/// stand once and before the start. `has` is what says that a setting is there, any number but 0.
+fn subject_of(case: &Case, has: u16) -> Option<(Subject<'_>, Vec<Taken>)> {
+    let steps = case.steps.as_ref().filter(|_| (1..=8).contains(&case.encoding.address_size))?;
     let mut settings = Settings { max_iterations: 1_000_000, ..Settings::default() };
-    let start = case.steps.iter().position(|it| *it == Step::Evaluate)?;
-    for step in &case.steps[..start] {
+    let start = steps.iter().position(|it| *it == Step::Evaluate)?;
+    for step in &steps[..start] {
         match *step {
             Step::MaxIterations(maximum) => settings.max_iterations = maximum,
             Step::ObjectAddress(address) => (settings.has_object_address, settings.object_address) = (has, address),
@@ -224,25 +238,28 @@ fn subject_of(case: &cases::Case, has: u16) -> Option<(Subject<'_>, &[Step<Bytes
             _ => return None,
         }
     }
-    let answers = &case.steps[start + 1..];
-    let called =
-        answers.iter().filter_map(|it| if let Step::AtLocation(text) = it { Some(text.slice()) } else { None });
-    let texts = [case.asked.bytes.as_slice()].into_iter().chain(called).collect();
-    Some((Subject { context: case.asked.context, texts, settings }, answers))
+    let (mut texts, mut answers) = (vec![&case.bytes[..]], Vec::new());
+    for step in &steps[start + 1..] {
+        answers.push((step.clone(), texts.len()));
+        if let Step::AtLocation(text) = step {
+            texts.push(text);
+        }
+    }
+    Some((Subject { encoding: case.encoding, texts, settings }, answers))
 }
 
 #[test]
 fn rows() {
-    let cases = cases::cases();
+    let cases = conformance::cases();
     let mut count = 0;
     comparing(|it| {
         // An answer in front of the first start.
         it.held.resume(&[], Answer { kind: 7, ..Answer::default() });
         assert_eq!(it.held.outcome.code, shown::MISPLACED);
-        for (index, (name, case)) in cases.iter().enumerate() {
+        for (index, case) in cases.iter().enumerate() {
             let Some((of, answers)) = subject_of(case, 1 << (index % 16)) else { continue };
-            let same = it.decode(&of).and_then(|()| it.evaluate(&of, |given, _| answers.get(given).copied()));
-            assert_eq!(same, Ok(()), "{name}");
+            let same = it.decode(&of).and_then(|()| it.evaluate(&of, |given, _| answers.get(given).cloned()));
+            assert_eq!(same, Ok(()), "{}", case.name);
             count += 1;
         }
     });
@@ -251,11 +268,9 @@ fn rows() {
 
 #[test]
 fn a_difference_is_found() {
-    let encoding = Encoding { address_size: 8, format: Format::Dwarf32, version: 5 };
-    let context = DecodingContext { encoding, order: RunTimeEndian::Little };
     // DW_OP_const2u
     let settings = Settings { max_iterations: 1, ..Settings::default() };
-    let of = Subject { context, texts: vec![&[0x0a, 1, 2]], settings };
+    let of = Subject { encoding: WIDE, texts: vec![&[0x0a, 1, 2]], settings };
     comparing(|it| {
         assert_eq!(it.decode(&of), Ok(()));
         it.is_wrong = true;
@@ -267,19 +282,18 @@ fn a_difference_is_found() {
 /// type `U8`.
 #[test]
 fn texts_of_at_most_two_bytes() {
-    let encoding = Encoding { address_size: 4, format: Format::Dwarf32, version: 4 };
-    let context = DecodingContext { encoding, order: RunTimeEndian::Little };
+    let encoding = Encoding { address_size: 4, is_dwarf64: false, version: 4, is_big_endian: false };
     let texts: Vec<[u8; 2]> = (0..=u16::MAX).map(u16::to_le_bytes).collect();
     let lengths = [(0, 1), (1, 256), (2, 65_536)];
     comparing(|it| {
         for (length, count) in lengths {
             for text in &texts[..count] {
                 let settings = Settings { max_iterations: 16, ..Settings::default() };
-                let of = Subject { context, texts: vec![&text[..length], &[0x96]], settings };
+                let of = Subject { encoding, texts: vec![&text[..length], &[0x96]], settings };
                 let answer = |given, outcome: &Outcome| {
-                    let value = if outcome.request == 12 { Value::U8(0) } else { Value::Generic(0) };
+                    let value_type = if outcome.request == 12 { U8 } else { Generic };
                     let is_open = given < 16 && outcome.request > shown::COMPLETE;
-                    is_open.then(|| made_up::answer_to(outcome.request, value, 0, of.read(1)))
+                    is_open.then(|| (made_up::answer_to(outcome.request, value_type, 0), 1))
                 };
                 assert_eq!(it.decode(&of).and_then(|()| it.evaluate(&of, answer)), Ok(()));
                 assert!(it.held.outcome.request <= shown::COMPLETE, "{text:x?} doesn't end");
@@ -291,8 +305,6 @@ fn texts_of_at_most_two_bytes() {
 /// Each list is filled from the start, and after a request; and one item more is refused.
 #[test]
 fn full_lists() {
-    let encoding = Encoding { address_size: 8, format: Format::Dwarf32, version: 5 };
-    let context = DecodingContext { encoding, order: RunTimeEndian::Little };
     let lists: [(&[u8], &[u8], usize); 3] = [
         (&[0x35], &[], MAX_VALUES),
         (&[0x93, 1], &[], MAX_PIECES),
@@ -303,14 +315,14 @@ fn full_lists() {
             let times = if called.is_empty() { most + more } else { 1 };
             let text = [[0x9c, 0x13].repeat(begin), item.repeat(times)].concat();
             let settings = Settings { max_iterations: 1000, ..Settings::default() };
-            let of = Subject { context, texts: vec![&text, called], settings };
+            let of = Subject { encoding: WIDE, texts: vec![&text, called], settings };
             comparing(|it| {
                 let answer = |given, outcome: &Outcome| {
                     let is_open = outcome.request > shown::COMPLETE && given < begin + most + more;
-                    is_open.then(|| made_up::answer_to(outcome.request, Value::Generic(1), 1, of.read(1)))
+                    is_open.then(|| (made_up::answer_to(outcome.request, Generic, 1), 1))
                 };
                 assert_eq!(it.evaluate(&of, answer), Ok(()));
-                let is_full = it.held.outcome.code == shown::code_of(dwexpr::Error::StackFull).0;
+                let is_full = it.held.outcome.code == shown::code_of("StackFull").0;
                 assert_eq!(is_full, more == 1, "{text:x?}, {:?}", it.held.outcome);
             });
         }

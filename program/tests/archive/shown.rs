@@ -1,9 +1,10 @@
 //! What the crate takes and gives, as numbers of C.
 
-use crate::calls::{Answer, Encoding, Operation, Outcome, Piece};
-use crate::decoded::{Fields, fault_of, field, fields, variant_of};
-use dwexpr::{DieReference, Error, EvaluationResult, Location, RunTimeEndian, Value, ValueType};
-use dwexpr_cli::parts::{Bytes, DecodingContext, Step};
+use crate::calls::{self, Answer, Outcome, Piece};
+use crate::conformance::{Encoding, Operation, Step, variant_of};
+use crate::{Bytes, Reply, Taken, ours};
+use dwexpr::{DieReference, EvaluationResult, Location, Value, ValueType};
+use std::collections::BTreeMap;
 use std::sync::LazyLock;
 
 pub const BAD_ENCODING: u32 = 64;
@@ -29,39 +30,40 @@ fn variants(of: &str, prefix: &str) -> Vec<String> {
 static CODES: LazyLock<Vec<String>> = LazyLock::new(|| variants("dwexpr_code", "DWEXPR_"));
 static OPERATIONS: LazyLock<Vec<String>> = LazyLock::new(|| variants("dwexpr_operation_kind", "DWEXPR_OP_"));
 
-/// The code of an error, and the number that it carries.
-pub fn code_of(error: Error) -> (u32, u64) {
-    let said = fault_of(error);
-    let (name, number) = said.split_once(' ').unwrap_or((&said, "0"));
+/// The code of a fault, and the number that it carries.
+pub fn code_of(fault: &str) -> (u32, u64) {
+    let (name, number) = fault.split_once(' ').unwrap_or((fault, "0"));
     let code = CODES.iter().position(|it| it == name).expect("the header has each error");
     (code as u32, number.parse().expect("a number"))
 }
 
-pub fn encoding_of(context: DecodingContext) -> Encoding {
-    Encoding {
-        address_size: context.encoding.address_size,
-        offset_size: context.encoding.format.word_size(),
-        big_endian: (context.order == RunTimeEndian::Big).into(),
-        version: context.encoding.version as u8,
+pub fn encoding_of(encoding: Encoding) -> calls::Encoding {
+    calls::Encoding {
+        address_size: encoding.address_size,
+        offset_size: if encoding.is_dwarf64 { 8 } else { 4 },
+        big_endian: encoding.is_big_endian.into(),
+        version: encoding.version as u8,
     }
 }
 
-/// The name of an operation, and its fields other than 0.
-pub fn operation_of(text: &[u8], it: &Operation) -> (String, Fields<'static>) {
-    let mut all = vec![
-        field("number", it.number),
-        field("signed_number", it.signed_number),
-        field("base_type", it.base_type),
-        field("register_number", it.register_number),
-        field("deref_size", it.deref_size),
-        field("flag", it.flag),
-        field("detail", it.detail),
-    ];
+/// An operation as the conformance suite has it: its fields other than 0.
+pub fn operation_of(text: &[u8], it: &calls::Operation) -> Operation {
+    let mut fields: BTreeMap<_, _> = [
+        ("number", it.number.to_string()),
+        ("signed_number", it.signed_number.to_string()),
+        ("base_type", it.base_type.to_string()),
+        ("register_number", it.register_number.to_string()),
+        ("deref_size", it.deref_size.to_string()),
+        ("flag", it.flag.to_string()),
+        ("detail", it.detail.to_string()),
+    ]
+    .into();
+    fields.retain(|_, number| number != "0");
     // The opcode is in front of each block, even of one without bytes.
     if it.block_offset > 0 {
-        all.push(("block", format!("{:x?}", &text[it.block_offset..][..it.block_length])));
+        fields.insert("block", format!("{:x?}", &text[it.block_offset..][..it.block_length]));
     }
-    (OPERATIONS[it.kind as usize].clone(), fields(all))
+    Operation { name: OPERATIONS[it.kind as usize].clone(), fields, length: it.size }
 }
 
 fn number_of(value_type: ValueType) -> u32 {
@@ -82,12 +84,12 @@ fn place_of(texts: &[&[u8]], block: &[u8]) -> (usize, usize) {
 }
 
 /// What a reply has to be. The value and the pieces of a complete evaluation aren't in it.
-pub fn outcome_of(texts: &[&[u8]], reply: dwexpr::Result<EvaluationResult<Bytes<'_>>>) -> Outcome {
+pub fn outcome_of(texts: &[&[u8]], reply: Reply<Bytes<'_>>) -> Outcome {
     use EvaluationResult::*;
     let blank = Outcome::default();
     match reply {
         Err(error) => {
-            let (code, detail) = code_of(error);
+            let (code, detail) = code_of(&ours::fault(error));
             Outcome { code, detail, ..blank }
         }
         Ok(Complete) => Outcome { request: COMPLETE, ..blank },
@@ -160,9 +162,9 @@ pub fn piece_of(texts: &[&[u8]], piece: dwexpr::Piece<Bytes<'_>>) -> Piece {
 }
 
 /// The answer that a step gives. `None` if it gives none.
-pub fn answer_of(texts: &[&[u8]], step: &Step<Bytes<'_>>) -> Option<Answer> {
+pub fn answer_of(&(ref step, text): &Taken) -> Option<Answer> {
     let typed = |kind, value| {
-        let (value_type, number) = value_of(value);
+        let (value_type, number) = value_of(ours::value_of(value));
         Answer { kind, value_type, number, text: 0 }
     };
     let plain = |kind, number| Answer { kind, number, ..Answer::default() };
@@ -177,11 +179,10 @@ pub fn answer_of(texts: &[&[u8]], step: &Step<Bytes<'_>>) -> Option<Answer> {
         Step::ParameterRef(value) => plain(8, value),
         Step::RelocatedAddress(address) => plain(9, address),
         Step::IndexedAddress(address) => plain(10, address),
-        Step::AtLocation(text) => {
-            let is_it = |it: &&[u8]| std::ptr::eq(*it, text.slice()) || it.is_empty() && text.slice().is_empty();
-            Answer { kind: 11, text: texts.iter().position(is_it).expect("it is a text"), ..Answer::default() }
+        Step::AtLocation(_) => Answer { kind: 11, text, ..Answer::default() },
+        Step::BaseType(value_type) => {
+            Answer { kind: 12, value_type: number_of(ours::type_of(value_type)), ..Answer::default() }
         }
-        Step::BaseType(value_type) => Answer { kind: 12, value_type: number_of(value_type), ..Answer::default() },
         Step::InitialValue(_) | Step::ObjectAddress(_) | Step::MaxIterations(_) | Step::Evaluate => return None,
     })
 }

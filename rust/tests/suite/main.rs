@@ -55,7 +55,7 @@ fn the_crate_conforms_over_each_reader() {
 
 #[test]
 fn no_row_gets_lost() {
-    assert!(cases().len() > 1820, "{}", cases().len());
+    assert!(cases().len() > 1840, "{}", cases().len());
     let count = |kind| Json::of(include_str!("../../../tests/counts.json")).number(kind);
     assert_eq!((decodings().len() as u64, computations().len() as u64), (count("decode"), count("values")));
     let sum = cases().len() + decodings().len() + computations().len();

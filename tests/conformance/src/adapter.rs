@@ -31,7 +31,7 @@ macro_rules! implementation {
                 if encoding.is_big_endian { RunTimeEndian::Big } else { RunTimeEndian::Little }
             }
 
-            fn type_of(value_type: $crate::ValueType) -> ValueType {
+            pub fn type_of(value_type: $crate::ValueType) -> ValueType {
                 match value_type {
                     $crate::ValueType::Generic => ValueType::Generic,
                     $crate::ValueType::I8 => ValueType::I8,
@@ -45,7 +45,7 @@ macro_rules! implementation {
                 }
             }
 
-            fn value_of(value: $crate::Value) -> Value {
+            pub fn value_of(value: $crate::Value) -> Value {
                 match value {
                     $crate::Value::Generic(value) => Value::Generic(value),
                     $crate::Value::I8(value) => Value::I8(value),
@@ -60,7 +60,7 @@ macro_rules! implementation {
             }
 
             #[allow(unreachable_patterns)]
-            fn plain(value: Value) -> $crate::Value {
+            pub fn plain(value: Value) -> $crate::Value {
                 match value {
                     Value::Generic(value) => $crate::Value::Generic(value),
                     Value::I8(value) => $crate::Value::I8(value),
@@ -256,9 +256,34 @@ macro_rules! implementation {
                 }
             }
 
+            /// The first word of what is shown, which isn't shown further.
+            struct FirstWord(String);
+
+            impl std::fmt::Write for FirstWord {
+                fn write_str(&mut self, shown: &str) -> std::fmt::Result {
+                    let word = shown.split([' ', '{', '(']).next().unwrap_or_default();
+                    self.0 += word;
+                    if word == shown { Ok(()) } else { Err(std::fmt::Error) }
+                }
+            }
+
             /// The name of an operation.
             fn name_of<R: Reader>(operation: &Operation<R>) -> String {
-                format!("{operation:?}").split([' ', '{', '(']).next().unwrap_or_default().into()
+                let mut name = FirstWord(String::new());
+                let _ = std::fmt::write(&mut name, format_args!("{operation:?}"));
+                name.0
+            }
+
+            /// Decodes the first operation.
+            pub fn decoded<R: Reader>(
+                mut rest: R,
+                encoding: Encoding,
+            ) -> std::result::Result<$crate::Operation, String> {
+                let before = rest.len().into_u64();
+                let operation = Operation::parse(&mut rest, encoding).map_err(fault)?;
+                let name = name_of(&operation);
+                let fields = fields_of(operation).into_iter().filter(|it| it.1 != "0").collect();
+                Ok($crate::Operation { name, fields, length: (before - rest.len().into_u64()) as usize })
             }
 
             fn unary(name: &str) -> fn(Value, u64) -> Result<Value> {
@@ -330,11 +355,7 @@ macro_rules! implementation {
                     bytes: &[u8],
                     encoding: $crate::Encoding,
                 ) -> std::result::Result<$crate::Operation, String> {
-                    let mut rest = self.read(bytes, encoding);
-                    let operation = Operation::parse(&mut rest, encoding_of(encoding)).map_err(fault)?;
-                    let name = name_of(&operation);
-                    let fields = fields_of(operation).into_iter().filter(|it| it.1 != "0").collect();
-                    Ok($crate::Operation { name, fields, length: bytes.len() - rest.len().into_u64() as usize })
+                    decoded(self.read(bytes, encoding), encoding_of(encoding))
                 }
 
                 fn compute(&self, call: &$crate::Call) -> std::result::Result<$crate::Value, String> {

@@ -10,6 +10,7 @@ const ROWS: &[(&str, &str)] = &[
     ("branches", include_str!("../../rows/branches.json")),
     ("calls", include_str!("../../rows/calls.json")),
     ("ends", include_str!("../../rows/ends.json")),
+    ("errors", include_str!("../../rows/errors.json")),
     ("faults", include_str!("../../rows/faults.json")),
     ("first_steps", include_str!("../../rows/first_steps.json")),
     ("gimli", include_str!("../../rows/gimli.json")),
@@ -192,7 +193,7 @@ pub fn cases() -> Vec<Case> {
 }
 
 /// The variant in a name of C's header: `PlusConstant` for `PLUS_CONSTANT`.
-fn variant_of(name: &str) -> String {
+pub(crate) fn variant_of(name: &str) -> String {
     let capitalized = |word: &str| {
         if matches!(word, "TLS" | "CFA") { word.into() } else { word[..1].to_owned() + &word[1..].to_lowercase() }
     };

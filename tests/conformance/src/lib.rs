@@ -22,7 +22,7 @@ mod values;
 
 pub use cases::{Case, Computation, Decoding, Encoding, Operation, Step, cases, computations, decodings};
 #[allow(unused_imports, reason = "this repository's tests include the suite as a module")]
-pub(crate) use cases::{bytes_of, steps_of};
+pub(crate) use cases::{bytes_of, steps_of, variant_of};
 pub use values::{Call, Value, ValueType};
 
 use std::fmt;

@@ -30,6 +30,13 @@ macro_rules! types {
         }
 
         impl Value {
+            /// Its type.
+            pub fn value_type(&self) -> ValueType {
+                match self {
+                    $(Value::$name(_) => ValueType::$name,)+
+                }
+            }
+
             /// The value that a word spells.
             pub fn of(word: &str) -> Option<Value> {
                 let (name, number) = word.split_once(':')?;

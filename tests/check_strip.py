@@ -116,12 +116,7 @@ PAIRS = {
     # Laws, which are left out.
     "mod equality;": "",
     "pub use equality::{answer_equality_laws, step_equality_laws};": "",
-    # What tests call.
     "fn main": "pub fn main",
-    "pub(crate)": "pub",
-    "use program::run_without_words;": """use program::run_without_words;
-    pub use words::{Command, DecodingContext, Invocation, invocation_of};
-    pub use {lines::print_fault, steps::steps_in, writing::Bytes};""",
 }
 # What a file ends with.
 CASTS = "use crate::casts::{CastSigned as _, CastUnsigned as _};\n"

@@ -99,11 +99,14 @@ def run(group, row):
 
 
 def main():
-    for file in sorted((TOP / "tests/rows").glob("[!.]*.json")):
-        for row in rows_in(file):
+    files = {file.stem: rows_in(file) for file in sorted((TOP / "tests/rows").glob("[!.]*.json"))}
+    count = sum(map(len, files.values()))
+    checks.expect(count == rows_in("counts.json")["rows"], f"{count} rows, and tests/counts.json has another number")
+    for group, rows in files.items():
+        for row in rows:
             if "by" in row and PROGRAM != PROVED:
                 continue
-            checks.expect_failure(run, file.stem, row) if "wrong" in row else run(file.stem, row)
+            checks.expect_failure(run, group, row) if "wrong" in row else run(group, row)
     for vector in rows_in("vectors/decode.json"):
         if "bits" not in vector:
             run("decode", listing_of(vector))

@@ -152,12 +152,6 @@ pub mod io {
         }
     }
 
-    impl Read for &[u8] {
-        fn read(&mut self, buffer: &mut [u8]) -> Result<usize> {
-            std::io::Read::read(self, buffer)
-        }
-    }
-
     /// Standard output.
     pub fn writer(host: &HostRuntime) -> Stream {
         host.stdout()

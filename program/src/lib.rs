@@ -8,16 +8,7 @@ include!(concat!(env!("OUT_DIR"), "/lib.rs"));
 use dwexpr as library;
 
 mod host;
-pub mod kit;
+mod kit;
 
 pub use host::HostRuntime;
 pub use sources::program::main;
-
-/// What tests call.
-#[doc(hidden)]
-pub mod parts {
-    pub use crate::kit::alloc::Global;
-    pub use crate::kit::{String, Vec};
-    pub use crate::sources::program::*;
-    pub use crate::sources::replay::Step;
-}

@@ -108,17 +108,3 @@ fn a_single_piece_allocates_when_it_is_taken_out() {
         assert_eq!(refusing(refused, || it.try_result().map(|pieces| pieces.len())), (count, 1));
     }
 }
-
-/// A full list grows in proportion to its length: n items allocate about log2(n) times.
-#[test]
-fn a_list_seldom_grows() {
-    // DW_OP_lit1, and DW_OP_reg0 with a DW_OP_piece 1.
-    for item in [&[0x31][..], &[0x50, 0x93, 1]] {
-        for power in 1..=16 {
-            let text = item.repeat((1 << power) + 1);
-            let mut evaluation = Evaluation::new(little(&text), ENCODING);
-            let (reply, asked) = refusing(0, || evaluation.evaluate());
-            assert!(reply.is_ok() && asked <= power + 2, "2^{power} items: {asked} times");
-        }
-    }
-}

@@ -2,7 +2,7 @@
 
 use super::{ENCODING, evaluation, little};
 use dwexpr::EvaluationResult::*;
-use dwexpr::{Error, Evaluation, Expression, Location, Piece, SliceVec, StoreInSlices, Value};
+use dwexpr::{Error, Expression, Location, Value};
 
 /// Each power of two up to 2^`highest`, and both numbers beside it.
 fn about_powers(highest: u32) -> impl Iterator<Item = usize> {
@@ -112,36 +112,5 @@ fn a_list_holds_what_was_put_there_until_a_restart() {
         assert_eq!(kept.resume_with_at_location(little(&[0x31])), Ok(Complete));
         assert_eq!(kept.value_result(), Some(Value::Generic(count as u64 + 1)));
         assert_eq!(kept.as_result().len(), 1);
-    }
-}
-
-/// The list on the heap has no capacity. These values take half a gigabyte of addresses.
-#[test]
-#[cfg(target_pointer_width = "64")]
-fn a_list_holds_many_values() {
-    let text = vec![0x31; (1 << 24) + 1];
-    let mut it = evaluation(&text);
-    assert_eq!(it.evaluate(), Ok(Complete));
-    assert_eq!(it.value_result(), Some(Value::Generic(1)));
-}
-
-/// A lent list takes one item per slot.
-#[test]
-fn a_lent_list_has_its_capacity() {
-    for count in about_powers(16).filter(|it| *it > 0) {
-        let (mut values, mut pieces) = (vec![Value::default(); count], vec![Piece::default(); count]);
-        let (values, pieces) = (SliceVec::new(&mut values), SliceVec::new(&mut pieces));
-        let [fitting, too_many] = [count, count + 1].map(|count| (vec![0x31; count], [0x93, 1].repeat(count)));
-        let callers = SliceVec::new(&mut []);
-        let mut it = Evaluation::<_, StoreInSlices>::with_lists(little(&[]), ENCODING, values, callers, pieces);
-        for (text, reply) in [
-            (&fitting.0, Ok(Complete)),
-            (&too_many.0, Err(Error::StackFull)),
-            (&fitting.1, Ok(Complete)),
-            (&too_many.1, Err(Error::StackFull)),
-        ] {
-            it.restart(little(text), ENCODING);
-            assert_eq!(it.evaluate(), reply);
-        }
     }
 }

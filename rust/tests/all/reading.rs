@@ -2,7 +2,7 @@
 
 use super::{ENCODING, little, panics};
 use dwexpr::constants::DwOp;
-use dwexpr::{Encoding, Error, Expression, Operation, Register, Value, ValueType};
+use dwexpr::{Error, Expression, Operation, Register, Value, ValueType};
 use std::borrow::Cow;
 
 #[test]
@@ -15,16 +15,6 @@ fn operations_end_with_the_bytes_or_an_error() {
     assert_eq!(operations.next(), Err(Error::InvalidExpression(DwOp(1))));
     assert_eq!(operations.next(), Ok(None));
     assert_eq!(operations.offset_from(&expression), 3);
-}
-
-#[test]
-fn an_operation_without_an_address_has_any_size_of_address() {
-    for address_size in [0, 3, 9, 255] {
-        let encoding = Encoding { address_size, ..ENCODING };
-        assert_eq!(Operation::parse(&mut little(&[0x96]), encoding), Ok(Operation::Nop));
-        let addr = Operation::parse(&mut little(&[0x03, 1, 2, 3, 4, 5, 6, 7, 8]), encoding);
-        assert_eq!(addr, Err(Error::UnsupportedAddressSize(address_size)));
-    }
 }
 
 #[test]

@@ -1,4 +1,4 @@
-/* Decodes and evaluates made-up expressions, all of two bytes, and each front of those in files of rows:
+/* Decodes and evaluates made-up expressions, and each front of those in files of rows:
  *
  *     made_up COUNT SEED FILE..
  *
@@ -410,16 +410,6 @@ static void try_made_up(void)
     try();
 }
 
-static void try_two_bytes(void)
-{
-    encoding = encoding_of(4, 4, 4, 0);
-    for (unsigned number = 0; number < 1 << 16; number++) {
-        const uint8_t bytes[] = {(uint8_t)number, (uint8_t)(number >> 8)};
-        put_text(0, bytes, 2);
-        try();
-    }
-}
-
 /* Tries each front of the expressions of rows and vectors. */
 static size_t try_fronts(FILE *file)
 {
@@ -468,7 +458,6 @@ int main(int argc, char **argv)
     dwexpr_evaluation_begin(&held);
     for (unsigned long i = 0; i < count; i++)
         try_made_up();
-    try_two_bytes();
     for (int i = 3; i < argc; i++)
         expressions += try_fronts(opened(argv[i]));
     check(argc < 4 || expressions > 3000, "the expressions of the rows", "there are many");

@@ -47,6 +47,19 @@ pub mod test_assembler {
 
     pub struct Section(pub Vec<u8>);
 
+    /// Calls that append a number, least significant byte first.
+    macro_rules! numbers {
+        ($($name:ident($type:ty),)+) => {
+            impl Section {
+                $(pub fn $name(self, number: $type) -> Self {
+                    self.append_bytes(&number.to_le_bytes())
+                })+
+            }
+        };
+    }
+
+    numbers! { D8(u8), L16(u16), L32(u32), L64(u64), D32(u32), D64(u64), }
+
     impl Section {
         pub fn with_endian(_: Endian) -> Self {
             Section(Vec::new())
@@ -55,30 +68,6 @@ pub mod test_assembler {
         pub fn append_bytes(mut self, bytes: &[u8]) -> Self {
             self.0.extend_from_slice(bytes);
             self
-        }
-
-        pub fn D8(self, number: u8) -> Self {
-            self.append_bytes(&[number])
-        }
-
-        pub fn L16(self, number: u16) -> Self {
-            self.append_bytes(&number.to_le_bytes())
-        }
-
-        pub fn L32(self, number: u32) -> Self {
-            self.append_bytes(&number.to_le_bytes())
-        }
-
-        pub fn L64(self, number: u64) -> Self {
-            self.append_bytes(&number.to_le_bytes())
-        }
-
-        pub fn D32(self, number: u32) -> Self {
-            self.L32(number)
-        }
-
-        pub fn D64(self, number: u64) -> Self {
-            self.L64(number)
         }
 
         pub fn get_contents(self) -> Option<Vec<u8>> {

@@ -8,27 +8,13 @@ use dwexpr::{
 };
 
 #[test]
-fn a_call_out_of_turn_panics() {
-    let mut breg7 = evaluation(&[0x77, 8]);
-    assert!(panics(|| breg7.resume_with_register(Value::Generic(1))) && panics(|| breg7.as_result().len()));
-    assert!(matches!(breg7.evaluate(), Ok(RequiresRegister { .. })));
-    assert!(panics(|| breg7.evaluate()) && panics(|| breg7.set_initial_value(1)) && panics(|| breg7.value_result()));
-    assert!(panics(|| breg7.resume_with_frame_base(1)));
-    assert_eq!(breg7.resume_with_register(Value::Generic(0x7000)), Ok(Complete));
-    assert!(panics(|| breg7.resume_with_register(Value::Generic(1))));
-    assert_eq!(breg7.evaluate(), Ok(Complete));
-    assert_eq!(breg7.value_result(), Some(Value::Generic(0x7008)));
-
-    let mut lit1 = evaluation(&[0x31]);
-    lit1.set_initial_value(1);
-    assert!(panics(|| lit1.set_initial_value(2)) && panics(|| lit1.result()));
-    let mut empty = evaluation(&[]);
-    assert_eq!(empty.evaluate(), Err(Error::NotEnoughStackItems));
-    assert!(panics(|| empty.as_result().len()) && panics(|| empty.set_initial_value(1)));
-    // DW_OP_addr, which can't read an address of 3 bytes.
-    let mut addr = Evaluation::new(little(&[0x03, 1, 2, 3]), Encoding { address_size: 3, ..ENCODING });
-    assert_eq!(addr.evaluate(), Err(Error::UnsupportedAddressSize(3)));
-    assert!(panics(|| addr.set_initial_value(1)) && panics(|| addr.try_result()));
+fn a_result_is_that_of_a_complete_evaluation() {
+    let (not_begun, mut failed) = (evaluation(&[0x31]), evaluation(&[]));
+    assert_eq!(failed.evaluate(), Err(Error::NotEnoughStackItems));
+    for it in [not_begun, failed] {
+        assert!(panics(|| it.value_result()) && panics(|| it.as_result().len()) && panics(|| it.try_result()));
+    }
+    assert!(panics(|| evaluation(&[0x31]).result()));
 }
 
 /// An expression that asks for each kind of answer.

@@ -14,7 +14,7 @@
 
 static int passed, failed;
 
-static void check(int holds, const char *name, const char *what)
+static inline void check(int holds, const char *name, const char *what)
 {
     if (holds) {
         passed++;
@@ -32,7 +32,7 @@ static inline void expect_failure(int failed_before)
     passed += has_failed;
 }
 
-static int finish(void)
+static inline int finish(void)
 {
     const int failed_before = failed;
     check(0, "what is wrong on purpose", "so it has to");

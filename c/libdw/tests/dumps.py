@@ -57,9 +57,9 @@ class Core(Unit):
         returns = 16 if self.wide else 8
         places = [b"", CALL + (EXIT if self.wide else EXIT_32), CALL, CALL, CALL, CALL, b"\xff\xd0"]
         more = b"".join(it.ljust(0x20, b"\x90") for it in places)
-        rules = self.rules((FIRST, len(CODE)), (MORE + 0x60, 0x20, returns, bytes([0x08, returns])),
-                           (MORE + 0x80, 0x20, 200, b"\x05\xc8\1\1"),
-                           (MORE + 0xA0, 0x20, returns, bytes([0x80 + returns, 1])))
+        rules = self.rules((FIRST, len(CODE)), (MORE + 0x60, 0x20, bytes([0x08, returns])),
+                           (MORE + 0x80, 0x20, b"\x05\xc8\1\1", 200),
+                           (MORE + 0xA0, 0x20, bytes([0x80 + returns, 1])))
         # it begins 8 bytes after an address with its alignment, or has none
         local = (TLS, 0x403008, b"\1" * 4, 20, 16 if self.wide else 0)
         return self.elf(self.tree() | rules, [(LOAD, FIRST, CODE, len(CODE)), (LOAD, MORE, more, len(more)), local], 2)

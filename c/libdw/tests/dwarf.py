@@ -18,6 +18,11 @@ ROWS = re.findall(r"row\((\w+), \"DW_OP_(\w+)\", '(.)'\)", OPCODES.read_text(enc
 OPERATIONS = {name: (int(opcode, 0), FORMS[form]) for opcode, name, form in ROWS if form in FORMS}
 ADDRESS, STRING, BLOCK1, DATA1, FLAG, SDATA, UDATA, REF4 = 0x01, 0x08, 0x0A, 0x0B, 0x0C, 0x0D, 0x0F, 0x13
 OFFSET, EXPRESSION, CONSTANT, INDEX = 0x17, 0x18, 0x21, 0x22
+X86_64, I386, AARCH64 = 62, 3, 183
+# The machine of a unit, if it doesn't say another one, and which registers are a machine's stack pointer and its return
+# address.
+MACHINES = {(8, "le"): X86_64, (4, "le"): I386, (8, "be"): 21, (4, "be"): 20}
+POINTERS = {X86_64: (7, 16), I386: (4, 8), AARCH64: (31, 30)}
 
 
 def unsigned_leb(number, length=1):
@@ -59,6 +64,7 @@ class Unit:
     def __init__(self, address_size, offset_size, version, order, **attributes):
         self.address_size, self.offset_size, self.version = address_size, offset_size, version
         self.order = "<" if order == "le" else ">"
+        self.machine = MACHINES[address_size, order]
         self.name = f"{address_size}-{offset_size}-{version}-{order}"
         self.root = Entry("compile_unit", **attributes)
         self.abbreviations = {}
@@ -159,20 +165,28 @@ class Unit:
         self.root.attributes["addr_base"] = (OFFSET, self.offset(2 * self.offset_size))
         return {".debug_addr": self.counted(self.pack("HBB", 5, self.address_size, 0) + self.address(*numbers))}
 
-    def rules(self, *functions):
-        """.debug_frame of functions, each by its begin and size: the CFA is a word above the stack's pointer, and there
-        is no caller. Others say where the return address is: the number of a register, and its rule."""
-        word = self.address_size
-        pointer, usual = (7, 16) if word == 8 else (4, 8)
+    def rules(self, *functions, section=".debug_frame"):
+        """Call frame information of functions, each by its begin and size. Others say its instructions, the number of
+        the return address's register, the instructions before all, and the augmentation. If they don't, the CFA is a
+        word above the stack's pointer, and there is no caller."""
+        word, for_exceptions = self.address_size, section == ".eh_frame"
+        pointer, returns = POINTERS.get(self.machine, (7, 16) if word == 8 else (4, 8))
+        usual = [bytes([0x07, returns]), returns, bytes([0x0C, pointer, word]), b""]
         made = b""
+
+        def add(part):
+            part += bytes(-(len(part) + 4) % 8)
+            return self.pack("I", len(part)) + part
+
         for begin, size, *others in functions:
-            returns, rule = others or (usual, bytes([0x07, usual]))
-            common = self.pack("IB", 0xFFFFFFFF, 4) + bytes([0, word, 0, 1]) + signed_leb(-word)
-            common += unsigned_leb(returns) + bytes([0x0C, pointer, word]) + rule
-            for part in (common, self.pack("I", len(made)) + self.address(begin, size)):
-                part += bytes(-(len(part) + 4) % 8)
-                made += self.pack("I", len(part)) + part
-        return {".debug_frame": made}
+            own, register, first, augmentation = others + usual[len(others):]
+            common, place = self.pack("IB", 0xFFFFFFFF, 4) + augmentation + bytes([0, word, 0, 1]), len(made)
+            if for_exceptions:
+                common = self.pack("IB", 0, 1) + augmentation + b"\0\1"
+            made += add(common + signed_leb(-word) + unsigned_leb(register) + first)
+            common = len(made) + 4 - place if for_exceptions else place
+            made += add(self.pack("I", common) + self.address(begin, size) + own)
+        return {section: made + bytes(4) * for_exceptions}
 
     def table(self, name, symbols, relocations):
         """The sections of symbols and of relocations that name them. A symbol is a name, which is None if it has none
@@ -227,8 +241,7 @@ class Unit:
             fields = names.index(f"\0{name}\0") + 1, kinds.get(name, 1), 0, 0, place, len(content), *links
             headers += self.pack("IIQQQQIIQQ" if wide else "IIIIIIIIII", *fields)
             place += len(content)
-        machine = {"<Q": 62, ">Q": 21, "<I": 3, ">I": 20}[self.order + words[2]]
-        first = self.pack(f"HHI{3 * words[2]}I6H", kind, machine, 1, 0, front * bool(segments), end - len(headers), 0,
-                          front, step, len(segments), header, len(sections) + 1, len(sections))
+        first = self.pack(f"HHI{3 * words[2]}I6H", kind, self.machine, 1, 0, front * bool(segments),
+                          end - len(headers), 0, front, step, len(segments), header, len(sections) + 1, len(sections))
         ident = b"\x7fELF" + bytes([1 + wide, 1 + (self.order == ">"), 1]) + bytes(9)
         return ident + first + made + body + headers

@@ -1,6 +1,6 @@
 """Variables whose expressions name other entries: base types, calls, .debug_addr; and constants.
 
-A variable's name has its value in hexadecimal, or the message of a code.
+The names of variables are claims on their values, as claims.h has them.
 """
 
 import itertools

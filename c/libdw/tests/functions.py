@@ -1,6 +1,7 @@
 """Programs whose debug information has functions, blocks and call sites that compilers seldom write.
 
-Each function has 256 bytes of code, from 0x401000 on. The name of a variable of the unit says what made.c checks.
+Each function has 256 bytes of code, from 0x401000 on. The names of variables of the unit are claims, as claims.h has
+them.
 """
 
 from dwarf import ADDRESS, OFFSET, Unit
@@ -421,8 +422,45 @@ class Functions(Unit):
         sections |= {".text": CODE}
         return self.elf(sections, [(1, FIRST, CODE, len(CODE))], 2)
 
+    def unwound(self):
+        """A program with rules: the expressions that they have, and their values. Register 7 has 0x10, so that the CFA
+        is the word at 0x18, if an expression gives it."""
+        call = bytes([0x0C, 7, 8, 0x90, 1])  # the CFA is rsp + 8, and the return address below it
+        refused = "libdw refuses the debug information"
+        rules, claims = b"", []
+        for instruction, number, rule, value in [
+            ("0f 04 77 8800 06", -1, "77880006", "at 5000"),
+            ("10 03 04 23 9000 96", 3, "23900096, on the CFA", "at 5010"),
+            ("16 0c 06 12 22 11 7f 22 96", 12, "1222117f2296, on the CFA, a value", "at 9fff"),
+            ("86 02", 6, "23f0ffffffffffffffff01, on the CFA", "at 4ff0"),
+            ("14 0e 01", 14, "23f8ffffffffffffffff01, on the CFA, a value", "at 4ff8"),
+            ("09 0d 0f", 13, "900f", "in register 15"), ("10 01 04 93 04 93 04", None, None, None),
+            # no place, and an operation that isn't in its shortest form
+            ("16 08 02 35 9f", 8, "359f, on the CFA, a value", "0500000000000000"),
+            ("16 09 04 92 8700 00", 9, "on the CFA, a value, an operation can't be encoded", None),
+            ("8a 00", 10, "2300, on the CFA", "at 5000"), ("07 02", 2, "optimized away", None),
+            ("08 05", 5, "the register has the caller's value", None), ("", -2, refused, None),
+        ]:  # fmt: skip
+            rules += bytes.fromhex(instruction)
+            claims += [f"rule {number} in 0 is {rule}"] if rule else []
+            claims += [f"by rule {number} in 0 is {value}"] if value else []
+        # on a CFA that is given, and the frame's own
+        claims += ["by rule 6 with 100 in 0 is at f0", "9c on 0 is at 5000"]
+        all_rules, without, bad, plain = (self.function().begin for _ in range(4))
+        for at in range(0, len(claims), 4):
+            self.row([all_rules], *claims[at : at + 4])
+        self.row([without], f"rule -1 in 0 is {refused}")
+        self.row([bad], f"rule -1 in 0 is {refused}")
+        # what the ABI says of registers that no rule names: a call keeps rbx, and may change rax
+        self.row([plain], "rule 3 in 0 is the register has the caller's value", "rule 0 in 0 is optimized away")
+        frames = self.rules((all_rules, SIZE, rules, 16, call), (without, SIZE, b"", 16, b""),
+                            (bad, SIZE, b"\x0f\1\0", 16, call), (plain, SIZE, b"", 16, call), section=".eh_frame")
+        segments = [(1, 0x18, self.address(0x5000), 8), (1, FIRST, CODE, len(CODE))]
+        return self.elf(self.tree() | frames | {".text": CODE}, segments, 2)
+
 
 def files():
     for version in (4, 5):
         yield f"{version}.functions", Functions(version).program()
         yield f"{version}.misled.functions", Functions(version).misled()
+    yield "rules.functions", Functions(5).unwound()

@@ -1,5 +1,5 @@
 """A program and libraries that export variables of the same names. What the dynamic linker wrote into the process is in
-the segments of their files. The name of a variable of the program's unit says what made.c checks.
+the segments of their files. The names of variables of the program's unit are claims, as claims.h has them.
 
 Each module has a function at its begin. In its frame each of the variables stands: with an address, where it has the
 module's digit, or only declared.

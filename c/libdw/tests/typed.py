@@ -1,7 +1,7 @@
 """Variables of types that compilers write, and of some that they don't, in units of languages.
 
-A variable's name says what is known of its type, in words that made.c reads. The object is at 0x1010, and each byte of
-memory is the lowest one of its address.
+The names of variables are claims on their types, as claims.h has them. The object is at 0x1010, and each byte of memory
+is the lowest one of its address.
 """
 
 import itertools

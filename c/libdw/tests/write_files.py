@@ -13,8 +13,9 @@ import every_operation
 import functions
 import links
 import typed
+import values
 
-for module in (dumps, entries, every_operation, functions, links, typed):
+for module in (dumps, entries, every_operation, functions, links, typed, values):
     for name, content in module.files():
         (pathlib.Path(sys.argv[1]) / name).write_bytes(content)
 print(every_operation.EveryOperation.total)

@@ -44,6 +44,7 @@
  *     all of NAME is N            how many globals have the name; also with `in FRAME`
  *     globals in FRAME is N       how many the frame's module has
  *     function in FRAME is NAME
+ *     address in FRAME is ADDRESS of the next instruction, or `ADDRESS, a call` of the one that it is in
  *     frames MOST is N CODE       how many frames of the thread are found, if at most so many are looked for
  *     threads N is M              the first thread, and how many there are
  *     seen                        each local NAME_is of any frame's function has what NAME has there, and NAME_isnt has

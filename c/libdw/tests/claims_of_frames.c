@@ -436,6 +436,16 @@ static int is_function(const struct claim *claim)
     return place.function.addr && is_named(&place.function, claim->said);
 }
 
+/* address in FRAME is ADDRESS, or ADDRESS, a call */
+static int is_at_address(const struct claim *claim)
+{
+    dwexpr_libdw_place place;
+    char text[64];
+    dwexpr_libdw_locate(claim->frame, &place);
+    snprintf(text, sizeof text, "%llx%s", (unsigned long long)place.address, place.is_activation ? "" : ", a call");
+    return !strcmp(text, claim->said) && place.pc - place.bias - !place.is_activation == place.address;
+}
+
 /* How many variables have a value of so many bits, or many if one has another value. */
 static size_t have_value(dwexpr_libdw_frame *frame, Dwarf_Die *variables, size_t count, uint64_t wanted, uint64_t bits)
 {
@@ -516,6 +526,7 @@ static const struct kind {
     {{"all", "of"}, has_named_globals}, {{"globals", "in"}, has_module_globals}, {{"register"}, is_register},
     {{"memory"}, is_memory}, {{"rule"}, is_rule}, {{"by", "rule"}, has_value_by_rule}, {{"frames"}, has_frames},
     {{"threads"}, has_threads}, {{"count", "in"}, has_variables}, {{"function", "in"}, is_function},
+    {{"address", "in"}, is_at_address},
     {{"seen"}, are_seen}, {{NULL, "on"}, has_expression},
 };
 

@@ -1,9 +1,9 @@
-"""Core dumps and the programs that they are dumps of, for x86-64, i386 and a big-endian machine.
+"""Core dumps and the programs that they are dumps of, for x86-64, i386, aarch64 and a big-endian machine.
 
-dumps.c says what is in them.
+The names of variables of the programs are claims on the threads, as claims.h has them.
 """
 
-from dwarf import Unit
+from dwarf import AARCH64, I386, X86_64, Unit
 
 FIRST, MORE, STACK, NEXT, CUT, TOPS = 0x401000, 0x402000, 0x500000, 0x501000, 0x502000, 0x504000
 CODE = bytes(range(256)) * 2
@@ -12,12 +12,22 @@ CODE = bytes(range(256)) * 2
 CALL, EXIT, EXIT_32 = b"\xe8\0\0\0\0", b"\x48\x89\xc7\xb8\x3c\0\0\0\x0f\x05", b"\x89\xc3\xb8\1\0\0\0\x90\x90\x90"
 LOAD, DYNAMIC, NOTE, TLS = 1, 2, 4, 7
 STATUS, FLOATS, PROCESS, AUXILIARY, XSAVE, FXSAVE, SEGMENTS = 1, 2, 3, 6, 0x202, 0x46E62B7F, 0x200
+# How many words of registers a thread has, and which of them are where it stands, the stack's pointer, and the base of
+# fs or gs's selector.
+WORDS = {X86_64: (27, 16, 19, 21), I386: (17, 12, 15, 10), AARCH64: (34, 32, 31)}
+UNREADABLE, UNKNOWN = "memory or a register can't be read", "thread-local storage"
+CUT_OFF = "the frames are cut off"
 
 
 class Core(Unit):
-    def __init__(self, address_size, order="le"):
+    def __init__(self, address_size, order="le", machine=None):
         super().__init__(address_size, 4, 4, order)
+        self.machine = machine or self.machine
         self.wide, self.notes, self.tops = address_size == 8, b"", b""
+        self.functions = [(FIRST, len(CODE))]  # those with rules
+
+    def says(self, thread, *claims):
+        self.root.add("variable", name=f"{thread}: " + "; ".join(claims))
 
     def note(self, name, kind, content):
         def padded(text):
@@ -28,13 +38,10 @@ class Core(Unit):
 
     def status(self, thread, stack, third=0, place=FIRST + 0x10):
         """A thread that stands at a place, with the stack's pointer and the base of fs or gs's selector."""
-        words = [0x100 * thread + number for number in range(27 if self.wide else 17)]
-        if self.order == ">":
-            words += range(21)
-        else:
-            words[16 if self.wide else 12] = place
-            words[19 if self.wide else 15] = stack
-            words[21 if self.wide else 10] = third
+        count, *fields = WORDS.get(self.machine, [48])
+        words = [0x100 * thread + number for number in range(count)]
+        for at, field in zip(fields, (place, stack, third)):
+            words[at] = field
         front = bytes(32 if self.wide else 24) + self.pack("I", thread) + bytes(76 if self.wide else 44)
         self.note("CORE", STATUS, front + self.address(*words) + bytes(self.address_size))
 
@@ -53,13 +60,16 @@ class Core(Unit):
         self.tops += self.address(top)
 
     def program(self):
-        self.root.add("subprogram", name="f", **self.placed(FIRST, len(CODE)))
-        returns = 16 if self.wide else 8
-        places = [b"", CALL + (EXIT if self.wide else EXIT_32), CALL, CALL, CALL, CALL, b"\xff\xd0"]
+        for name, begin, size in [("f", FIRST, len(CODE)), ("g", MORE + 0x100, 0x20), ("h", MORE + 0x120, 0x20)]:
+            function = self.root.add("subprogram", name=name, **self.placed(begin, size))
+            function.add("variable", name="here", location=f"const4u {begin} stack_value")
+        places = [b"", CALL + (EXIT if self.wide else EXIT_32), CALL, CALL, CALL, CALL, b"\xff\xd0", b"", b"", b""]
         more = b"".join(it.ljust(0x20, b"\x90") for it in places)
-        rules = self.rules((FIRST, len(CODE)), (MORE + 0x60, 0x20, bytes([0x08, returns])),
-                           (MORE + 0x80, 0x20, b"\x05\xc8\1\1", 200),
-                           (MORE + 0xA0, 0x20, bytes([0x80 + returns, 1])))
+        returns, first = (16, b"\x0c\7\x08") if self.wide else (8, b"\x0c\4\4")
+        called = bytes([0x80 + returns, 1])
+        rules = self.rules(*self.functions, (MORE + 0x60, 0x20, bytes([0x08, returns])),
+                           (MORE + 0x80, 0x20, b"\x05\xc8\1\1", 200), (MORE + 0xA0, 0x20, called),
+                           (MORE + 0xE0, 0x20, called, returns, first, b"S"), (MORE + 0x100, 0x40))
         # it begins 8 bytes after an address with its alignment, or has none
         local = (TLS, 0x403008, b"\1" * 4, 20, 16 if self.wide else 0)
         return self.elf(self.tree() | rules, [(LOAD, FIRST, CODE, len(CODE)), (LOAD, MORE, more, len(more)), local], 2)
@@ -86,7 +96,8 @@ def xsave(byte, mask, state):
 
 
 class Glibc(Core):
-    """Modules of which the dynamic linker of glibc keeps what dumps.c checks, each with thread-local storage."""
+    """Modules of which the dynamic linker of glibc keeps where their thread-local storage is. It isn't known without
+    the linker's symbols."""
 
     FIELDS = {"link_map_l_tls_offset": 8, "link_map_l_tls_modid": 9, "pthread_dtvp": 1, "dtv_slotinfo_gen": 0,
               "rtld_global__dl_tls_dtv_slotinfo_list": 2, "dtv_slotinfo_list_slotinfo": 2, "dtv_slotinfo_list_next": 1}
@@ -96,15 +107,27 @@ class Glibc(Core):
     NONE, FAR = -1, 4000
     MODULES = [(0x40, 0, 0, 0), (0, 1, BLOCKS, 5), (NONE, 4, BLOCKS + 0x40, 4), (0, 0, BLOCKS, 0), (0, 2, 0, 0),
                (0, 3, BLOCKS + 1, 0), (0, 5, BLOCKS, 6), (0, FAR, BLOCKS, 0)]
+    # Where the byte 4 of those is that are known, by the thread. The vector of the second thread can't be read.
+    PLACES = {(401, 0): 0x4FFFC4, (401, 1): 0x607004, (401, 2): 0x607044, (402, 0): 0x4FFFC4}
+
+    def __init__(self, address_size, has_linker=True):
+        super().__init__(address_size)
+        self.has_linker = has_linker
 
     def library(self, number):
-        """The last two have no dynamic section, and no thread-local storage."""
+        """The last three aren't in the linker's list, have no dynamic section, and no thread-local storage."""
         begin, count = 0x800000 + 0x10000 * number, len(self.MODULES)
         segments = [(LOAD, begin, b"x" * 16, 16)]
         segments += [(TLS, begin + 8, b"", 32)] * (number != count + 2)
         segments += [(DYNAMIC, begin, b"", 16)] * (number != count + 1)
-        self.root.attributes["name"] = f"library {number}"
-        return self.elf(self.tree(), segments, 2)
+        unit = Core(self.address_size)
+        unit.root.attributes["name"] = f"library {number}"
+        unit.root.add("variable", name="local", location="const1u 4 form_tls_address")
+        for thread in (401, 402):
+            place = self.PLACES.get((thread, number)) if self.has_linker else None
+            distance = 2 * self.address_size * (thread - 401)
+            unit.says(thread, f"local of unit is {f'at {place + distance:x}' if place else UNKNOWN}")
+        return unit.elf(unit.tree(), segments, 2)
 
     def linker(self):
         """The dynamic linker, with the names that tell debuggers where its fields are."""
@@ -138,28 +161,101 @@ class Glibc(Core):
 
     def files(self):
         """Of a thread whose pointer is the stack's, and one whose vector can't be read."""
-        name = f"glibc{8 * self.address_size}"
+        name = f"{'glibc' if self.has_linker else 'alone'}{8 * self.address_size}"
         for thread, pointer in [(401, STACK), (402, STACK + 2 * self.address_size)]:
             self.status(thread, pointer, pointer if self.wide else 0x63)
             self.note("LINUX", SEGMENTS, self.pack("IIII", 0x63 >> 3, pointer, 0, 0))
         self.ends(has_program=self.wide)
         for number in range(len(self.MODULES) + 3):
             yield f"{name}.library{number}", self.library(number)
-        yield f"{name}.linker", self.linker()
+        if self.has_linker:
+            yield f"{name}.linker", self.linker()
         yield f"{name}.core", self.elf({}, [(NOTE, 0, self.notes, 0), *self.memory()], 4)
 
 
 def stacks(core, first):
-    """Threads that stand at no code."""
+    """Threads that stand at no code: where, how many of 10 frames are found, what is on top of the stack, and below it.
+    A call may change each register but those that the program's producer says it keeps, and it says nothing."""
     called = FIRST + CODE.index(0xE8) + 5
-    for at, (place, *top) in enumerate([
-        (0x10, called, None), (0x10, called), (0, called), (0x10, called, 0x10), (0x10, FIRST + 0x102), (0x10, 0x10),
-        *((0x10, MORE + it) for it in (0x25, 0x45, 0x65, 0x85, 0xC2)),
-    ]):  # fmt: skip
-        core.stack(first + at, place, *top)
-    core.status(first + 11, 0x10, 0, 0x10)
-    core.stack(first + 12, 0x10, MORE + 0xA5)
+    for thread, (place, found, *top) in enumerate([
+        (0x10, f"1, {CUT_OFF}", called, None),       # the word below the top can't be read
+        (0x10, "2, all", called),                    # after a call
+        (0, "2, all", called),                       # of NULL
+        (0x10, f"1, {CUT_OFF}", called, 0x10),       # after a return
+        (0x10, f"1, {CUT_OFF}", FIRST + 0x102),      # the top follows no call
+        (0x10, f"1, {CUT_OFF}", 0x10),               # .. nor any code
+        (0x10, "2, all", MORE + 0x25),               # the caller ends the thread
+        (0x10, f"2, {CUT_OFF}", MORE + 0x45),        # or has no rules
+        (0x10, f"3, {CUT_OFF}", MORE + 0x65),        # the return address is as it was: no code is there
+        (0x10, f"2, {CUT_OFF}", MORE + 0x85),        # it is in a register that isn't known
+        (0x10, f"2, {CUT_OFF}", MORE + 0xC2),        # a call by a register
+        (0x10, f"1, {CUT_OFF}", None),               # the top can't be read
+        (0x10, "10, there are more frames", MORE + 0xA5),
+    ], first):  # fmt: skip
+        if top == [None]:
+            core.status(thread, 0x10, 0, place)
+        else:
+            core.stack(thread, place, *top)
+        core.says(thread, f"frames 10 is {found}")
+        if not found.startswith("1,"):
+            core.says(thread, f"register {17 if core.wide else 21} in 1 is {UNREADABLE}")
     core.tops += core.address(*[MORE + 0xA5] * 12)
+    # a handler of a signal, and what the signal stopped: it stands at its next instruction, the first of a function
+    core.status(first + 13, TOPS + len(core.tops), 0, MORE + 0xA5)
+    core.tops += core.address(MORE + 0xE1, MORE + 0x120)
+    core.says(first + 13, "frames 10 is 3, all", "address in 0 is 4020a5", "address in 1 is 4020e1",
+              "address in 2 is 402120", "function in 2 is h", "here in 2 is 20214000")
+
+
+# What registers the first threads have: general ones, xmm0 to xmm15 with the upper halves of ymm0 to ymm15, which may
+# be in their first state, or not be in the dump; and the base of fs.
+REGISTERS = {
+    101: {0: "0a65000000000000", 7: "0800500000000000", 58: "6500600000000000", 17: 16 * "01" + 16 * "81",
+          32: 16 * "10" + 16 * "90", 33: UNREADABLE, 60: UNREADABLE, 100000: UNREADABLE},
+    102: {0: "0a66000000000000", 58: "6600600000000000", 18: 16 * "03" + 16 * "00"},
+    103: {17: 16 * "03"}, 104: {17: 16 * "04" + 16 * "84", 32: 16 * "13"}, 105: {17: 16 * "05"}, 106: {17: 16 * "06"},
+    107: {18: 16 * "08", 19: UNREADABLE},
+    201: {4: "08005000", 17: UNREADABLE, 21: 16 * "01", 29: UNREADABLE}, 202: {28: 16 * "09"}, 203: {},
+}  # fmt: skip
+# In the dump, across two segments, missing in a segment, in the program's file, and after its end.
+MEMORY = [
+    (0x500008, 4, "08090a0b"), (0x50001E, 4, "1e1fdddd"), (0x50002E, 4, UNREADABLE), (0x501000, 2, "eeee"),
+    (0x50101F, 2, UNREADABLE), (0x50001F, 1, "1f"), (0x500030, 1, UNREADABLE), (0x401010, 4, "10111213"),
+    (0x4010FF, 2, "ff00"), (0x4011FF, 2, UNREADABLE), (0x502002, 4, UNREADABLE), (0x502010, 1, UNREADABLE),
+    (0x502000, 4, "known"), (0x10, 1, UNREADABLE),
+]  # fmt: skip
+# Where the byte 4 of the thread-local storage is. The block has 20 bytes and ends at the pointer, which is 0x600000 and
+# the thread's number. On x86-64 it begins 8 bytes after an address with its alignment of 16, and so has padding at its
+# end. On i386 the segment that gs selects may be missing.
+LOCALS = {101: "at 600051", 102: "at 600052", 103: "at 600053", 201: "at 6000b9", 202: UNKNOWN, 203: UNKNOWN}
+
+
+def says(core, first, count):
+    """What is known of the first threads, and of all."""
+    core.says(first, f"threads {first} is {count}", f"9c on 0 is at {STACK + 8 + core.address_size:x}",
+              "rule 3 in 0 is the register has the caller's value")
+    for address, size, said in MEMORY:
+        core.says(first, f"memory {address:x} {size} in 0 is {said}")
+    for thread in (it for it in REGISTERS if it // 100 == first // 100):
+        core.says(thread, "frames 10 is 1, all")
+        for number, said in REGISTERS[thread].items():
+            core.says(thread, f"register {number} in 0 is {said}")
+        if thread in LOCALS:
+            core.says(thread, f"08049b on 0 is {LOCALS[thread]}", f"08149b on 0 is {UNKNOWN}")
+
+
+def aarch64():
+    """A thread in a function that keeps its caller's registers 64, 72 and 95: v0, v8 and v31. No rule is about v9."""
+    core = Core(8, "le", AARCH64)
+    core.functions = [(FIRST, len(CODE), b"\x9e\1" b"\5\x48\2" b"\5\x40\3" b"\5\x5f\4", 30, b"\x0c\x1f\x20"),
+                      (MORE + 0x20, 0x20)]  # fmt: skip
+    core.status(501, TOPS)
+    core.tops += core.address(0x95A1A2A3A4A5A6A7, 0x64B1B2B3B4B5B6B7, 0x72C1C2C3C4C5C6C7, MORE + 0x25)
+    core.says(501, "frames 10 is 2, all", "address in 1 is 402024, a call", "register 95 in 1 is a7a6a5a4a3a2a195",
+              "register 64 in 1 is b7b6b5b4b3b2b164", "register 72 in 1 is c7c6c5c4c3c2c172",
+              f"register 73 in 1 is {UNREADABLE}", f"register 64 in 0 is {UNREADABLE}",
+              "register 19 in 1 is 13f5010000000000")
+    return core
 
 
 def files():
@@ -176,6 +272,7 @@ def files():
         wide.status(thread, STACK + 8, 0x600000 + thread)
         wide.note("CORE", FLOATS, floats(thread - 100)[:size])
     stacks(wide, 111)
+    says(wide, 101, 21)
     # notes of another name, and one without registers
     for name, kind, size in [("LINUX", STATUS, 336), ("CORE", XSAVE, 336), ("LINUX", FLOATS, 336),
                              ("LINUX", AUXILIARY, 336), ("LOAD", AUXILIARY, 336), ("CORE", STATUS, 112)]:
@@ -187,10 +284,13 @@ def files():
         if count:
             narrow.note("LINUX", SEGMENTS, b"".join(narrow.pack("IIII", *it) for it in segments) + b"123")
     stacks(narrow, 211)
+    says(narrow, 201, 17)
+    # libdwfl can't unwind on the machine in big endian
     big.status(301, STACK + 8)
-    for name, core in [("x86_64", wide), ("i386", narrow), ("big", big), ("empty", Core(8))]:
+    big.says(301, f"frames 10 is 1, {CUT_OFF}", f"08049b on 0 is {UNKNOWN}", f"08149b on 0 is {UNKNOWN}")
+    for name, core in [("x86_64", wide), ("i386", narrow), ("big", big), ("aarch64", aarch64()), ("empty", Core(8))]:
         core.ends()
         yield f"{name}.program", core.program()
         yield f"{name}.core", core.core()
-    for size in (8, 4):
-        yield from Glibc(size).files()
+    for glibc in (Glibc(8), Glibc(8, has_linker=False), Glibc(4)):
+        yield from glibc.files()

@@ -3,7 +3,7 @@
  *     claims FILE..            FILE.core has the files of its program beside it; others are objects or programs
  *     claims N FILE..          reads them again and again, and each time another call of malloc fails: each of the
  *                              first 60, and then one in N
- *     claims PID FILE.claims   a stopped process; or the file of a core dump in place of its number */
+ *     claims PID FILE.claims.. a stopped process; or the file of a core dump in place of its number */
 #include "claims.h"
 
 #include <fcntl.h>
@@ -30,22 +30,6 @@ dwexpr_libdw_frame *frame_number(size_t number)
     return number < COUNT(subject.frames) ? subject.frames[number] : NULL;
 }
 
-/* Checks a claim that may say one thing or another. */
-static void check_either(const char *claim)
-{
-    static const char or[] = ", or ";
-    const char *other = strstr(claim, or), *said = strstr(claim, " = ");
-    char text[1024];
-    int holds;
-    snprintf(text, sizeof text, "%.*s", (int)(other ? other - claim : (ptrdiff_t)strlen(claim)), claim);
-    holds = is_of_type(text) ? is_type(text) : is_found(text);
-    if (!holds && other && said) {
-        snprintf(text, sizeof text, "%.*s%s", (int)(said + 3 - claim), claim, other + strlen(or));
-        holds = is_found(text);
-    }
-    check(holds, place, claim);
-}
-
 /* Checks a claim, which may be one on each of several frames. */
 static void check_claim(const char *claim)
 {
@@ -55,22 +39,23 @@ static void check_claim(const char *claim)
     while (range && range > claim && range[-1] != ' ')
         range--;
     if (!range || sscanf(range, "%d to %7s%n", &first, end, &at) != 2) {
-        check_either(claim);
+        check(is_of_type(claim) ? is_type(claim) : is_found(claim), place, claim);
         return;
     }
     front = (int)(range - claim);
-    for (last = first; strcmp(end, "last") ? last < atoi(end) : frame_number((size_t)last + 1) != NULL;)
+    for (last = atoi(end); !strcmp(end, "last") && frame_number((size_t)last) != NULL;)
         last++;
-    if (sscanf(range + at, " = %d down to %d", &number, &least) == 2)
-        check(number - least == last - first, place, "a range of numbers");
+    last -= !strcmp(end, "last");
+    if (sscanf(range + at, " = %d down to %d", &number, &least) != 2)
+        number = least = INT_MIN;
     else
-        least = INT_MIN;
+        check(number - least == last - first, place, claim);
     for (; first <= last; first++) {
         if (least == INT_MIN)
             snprintf(text, sizeof text, "%.*s%d%s", front, claim, first, range + at);
         else
             snprintf(text, sizeof text, "%.*s%d = %d", front, claim, first, least + last - first);
-        check_either(text);
+        check_claim(text);
     }
 }
 
@@ -322,29 +307,43 @@ static void check_core(const char *path)
     close(file);
 }
 
-/* Checks the claims in a file on the first thread of a process or a core dump. */
-static void check_program(const char *which, const char *path)
+/* Checks the claims in a file. */
+static void check_lines(const char *path)
 {
-    const uint32_t code = atol(which) ? dwexpr_libdw_open_process((pid_t)atol(which), &subject.target)
-                                      : dwexpr_libdw_open_core(which, NULL, &subject.target);
-    const pid_t *threads;
     char line[256];
     FILE *file = fopen(path, "r");
     snprintf(place, sizeof place, "%s", path);
-    subject.encoding = LE8;
-    check(!code && file, which, dwexpr_libdw_code_name(code));
-    if (!code && dwexpr_libdw_threads(subject.target, &threads) && has_stack(threads[0], 1000)) {
-        while (file && fgets(line, sizeof line, file)) {
-            line[strcspn(line, "\n")] = 0;
-            if (*line && *line != '#')
-                check_claim(line);
-        }
-        check_wrong();
-        dwexpr_libdw_free_stack(subject.stack);
+    check(file != NULL, path, "it is there");
+    while (file && fgets(line, sizeof line, file)) {
+        line[strcspn(line, "\n")] = 0;
+        if (*line && *line != '#')
+            check_claim(line);
     }
     if (file)
         fclose(file);
+}
+
+/* The words of the command, without its name. */
+static int words_length;
+static char **words;
+
+/* Checks the claims in files on the first thread of a process or a core dump. Runs on a small stack. */
+static void *check_program(void *unused)
+{
+    const pid_t number = (pid_t)atol(words[0]), *threads;
+    const uint32_t code = number ? dwexpr_libdw_open_process(number, &subject.target)
+                                 : dwexpr_libdw_open_core(words[0], NULL, &subject.target);
+    int i;
+    subject.encoding = LE8;
+    check(!code, words[0], dwexpr_libdw_code_name(code));
+    if (!code && dwexpr_libdw_threads(subject.target, &threads) && has_stack(threads[0], 1000)) {
+        for (i = 1; i < words_length; i++)
+            check_lines(words[i]);
+        check_wrong();
+        dwexpr_libdw_free_stack(subject.stack);
+    }
     dwexpr_libdw_close(subject.target);
+    return unused;
 }
 
 static void check_path(const char *path)
@@ -355,10 +354,6 @@ static void check_path(const char *path)
     else
         check_file(path);
 }
-
-/* The words of the command, without its name. */
-static int words_length;
-static char **words;
 
 static void check_files(void)
 {
@@ -379,13 +374,6 @@ static void check_files(void)
     }
 }
 
-/* Runs on a small stack. */
-static void *run(void *unused)
-{
-    check_program(words[0], words[1]);
-    return unused;
-}
-
 int main(int argc, char **argv)
 {
     pthread_attr_t attributes;
@@ -401,6 +389,6 @@ int main(int argc, char **argv)
     }
     pthread_attr_init(&attributes);
     pthread_attr_setstacksize(&attributes, 1 << 17);
-    check(!pthread_create(&thread, &attributes, run, NULL) && !pthread_join(thread, NULL), "a thread", "it has run");
+    check(!pthread_create(&thread, &attributes, check_program, NULL) && !pthread_join(thread, NULL), "a thread", "it has run");
     return finish();
 }

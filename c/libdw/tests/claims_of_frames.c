@@ -88,8 +88,8 @@ static int has_bits(const dwexpr_libdw_frame *frame, const dwexpr_libdw_value *v
 static int is_value(const struct claim *claim, uint32_t code, dwexpr_libdw_value *value)
 {
     static struct wanted wanted;
-    const int is_known = !strcmp(claim->said, "known");
-    const char *name = is_known ? "" : take_bytes(claim->said, &wanted);
+    const char *name = take_bytes(claim->said, &wanted);
+    const int is_known = !strcmp(name, "known");
     int holds = 1;
     if (!code && (!strncmp(claim->said, "at ", 3) || !strncmp(claim->said, "in", 2))) {
         holds = is_piece(value, claim->said);
@@ -98,7 +98,7 @@ static int is_value(const struct claim *claim, uint32_t code, dwexpr_libdw_value
         holds = has_bits(claim->frame, value, &wanted, wanted.bits ? wanted.bits : is_known ? 64 : 8, &code);
     }
     dwexpr_libdw_release(value);
-    return (code && subject.may_refuse) || (holds && is_code(code, name));
+    return (code && subject.may_refuse) || (holds && is_code(code, is_known ? "" : name));
 }
 
 /* Whether bytes, which a call with this code gave, are what a claim says. */

@@ -111,6 +111,15 @@ static int has_number(dwexpr_libdw_object *part, uint32_t code, const char *text
            (!is_known || !strspn(text, "-0123456789") || strtoull(text, NULL, 0) == number);
 }
 
+/* Whether a text is what is said, which may be several with `, or ` between them. */
+static int is_one_of(const char *text, const char *said)
+{
+    static const char or[] = ", or ";
+    const char *next = strstr(said, or);
+    const size_t length = next ? (size_t)(next - said) : strlen(said);
+    return (strlen(text) == length && !strncmp(text, said, length)) || (next && is_one_of(text, next + strlen(or)));
+}
+
 int has_text(uint32_t code, dwexpr_libdw_object *object, const char *path, const char *said)
 {
     char text[64];
@@ -125,7 +134,7 @@ int has_text(uint32_t code, dwexpr_libdw_object *object, const char *path, const
         holds &= has_number(parts[parts_length - 1], code, text);
     }
     free_parts();
-    return (code && subject.may_refuse) || (holds && !strcmp(code ? dwexpr_libdw_code_name(code) : text, said));
+    return (code && subject.may_refuse) || (holds && is_one_of(code ? dwexpr_libdw_code_name(code) : text, said));
 }
 
 /* Checks the size of a type, and of the variable's as it stands: that of a typedef. */

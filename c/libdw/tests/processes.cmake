@@ -132,20 +132,24 @@ function(dwexpr_on_stopped name status output program place)
   endif()
 endfunction()
 
-function(dwexpr_frames which program place)
-  dwexpr_on_stopped("libdw_frames ${which} ${program}" 0 "(.*\n)?[1-9][0-9]* passed, 0 failed\n" ${program} ${place}
-    $<TARGET_FILE:test_libdw_frames> ${which} PID)
+# Claims in files beside a program's source have to hold where it stops.
+set(all_passed "(.*\n)?[1-9][0-9]* passed, 0 failed\n")
+function(dwexpr_claims program place)
+  list(TRANSFORM ARGN PREPEND ${CMAKE_CURRENT_SOURCE_DIR}/)
+  dwexpr_on_stopped("libdw_claims ${program}" 0 "${all_passed}" ${program} ${place}
+    $<TARGET_FILE:test_libdw_claims> PID ${ARGN})
 endfunction()
-foreach(kind deep no_rules)
-  dwexpr_frames(${kind} ${kind} 1)
+dwexpr_claims(deep 1 stopped/deep.claims)
+dwexpr_claims(no_rules 1 no_rules.claims)
+dwexpr_claims(pieces-gcc-O2-5 10 stopped/pieces.claims)
+dwexpr_claims(signals-clang 1 stopped/signals.claims)
+foreach(kind whole split)
+  dwexpr_claims(${kind}/modules 1 stopped/modules.claims stopped/modules_${kind}.claims)
 endforeach()
-dwexpr_frames(modules whole/modules 1)
-dwexpr_frames(pointers pieces-gcc-O2-5 10)
-dwexpr_frames(signals signals-clang 1)
-dwexpr_frames(split_modules split/modules 1)
 foreach(kind copies address distance descriptor clang static)
-  dwexpr_frames(seen bound-${kind}/program 1)
+  dwexpr_claims(bound-${kind}/program 1 bound.claims)
 endforeach()
+dwexpr_on_stopped(libdw_readers 0 "${all_passed}" signals-clang 1 $<TARGET_FILE:test_libdw_readers> PID)
 
 # In `middle`, which `outermost` called with 3, and `main` with argc 2. The others are in no frame but one of these.
 set(pieces pieces-gcc-O0-5 11)
@@ -261,8 +265,8 @@ if(program IN_LIST programs AND NOT pattern MATCHES "^[|/]")
       -- ${CMAKE_CURRENT_BINARY_DIR}/${program} ${place})
     set_tests_properties(libdw_dump_${place} PROPERTIES FIXTURES_SETUP dumps RESOURCE_LOCK dumps)
   endforeach()
-  dwexpr_prints("libdw_frames seen, core dump" 0 "(.*\n)?[1-9][0-9]* passed, 0 failed\n"
-    $<TARGET_FILE:test_libdw_frames> seen ${dump}bound)
+  dwexpr_prints("libdw_claims bound-copies/program, core dump" 0 "${all_passed}"
+    $<TARGET_FILE:test_libdw_claims> ${dump}bound ${CMAKE_CURRENT_SOURCE_DIR}/bound.claims)
   add_test(NAME libdw_dump_cut
     COMMAND ${Python3_EXECUTABLE} ${CMAKE_CURRENT_SOURCE_DIR}/without_data.py ${dump}8 ${dump}cut)
   set_tests_properties(libdw_dump_cut PROPERTIES FIXTURES_SETUP dumps DEPENDS libdw_dump_8)

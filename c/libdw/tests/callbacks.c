@@ -1,4 +1,4 @@
-/* What callbacks answer, refuse or leave out, and values that no expression gives. */
+/* What callbacks answer, refuse or leave out; values that no expression gives; and frames of which nothing is known. */
 #include "check.h"
 #include "frame.h"
 
@@ -70,6 +70,37 @@ static void check_no_unit(void)
     check(dwexpr_libdw_expression(&attribute, 0, &text) == DWEXPR_LIBDW_FAILED, "no unit", "no expression");
     check(dwexpr_libdw_points_into(&value, &piece, &variable) == DWEXPR_LIBDW_FAILED, "no pointer", "no variable");
     check(dwexpr_libdw_points_into(&value, &pointer, &variable) == DWEXPR_LIBDW_FAILED, "no unit", "no variable");
+}
+
+/* ---- frames */
+
+/* A frame of which nothing is known, and one whose base and CFA are given. */
+static void check_frames(void)
+{
+    static const uint8_t base[] = {DW_OP_fbreg, 0}, cfa[] = {DW_OP_call_frame_cfa};
+    const dwexpr_libdw_text texts[] = {{.text = {base, 2}, .encoding = LE8}, {.text = {cfa, 1}, .encoding = LE8},
+                                       {.text = {base, 2}, .encoding = LE8, .on_cfa = 1}};
+    const uint64_t given = 0x1100;
+    const dwexpr_libdw_source known = {.frame_base = &given, .cfa = &given};
+    dwexpr_libdw_frame *frame = frame_of(NULL, NULL, NULL);
+    dwexpr_libdw_value *value;
+    Dwarf_Die *scopes;
+    uint8_t bytes[DWEXPR_LIBDW_REGISTER_SIZE];
+    size_t count, i;
+    check(dwexpr_libdw_scopes(frame, &scopes, &count) == DWEXPR_LIBDW_NO_UNIT && !scopes, "nothing", "no scopes");
+    check(dwexpr_libdw_memory(frame, 0, bytes, 1) == DWEXPR_LIBDW_NOT_READABLE, "nothing", "no memory");
+    check(dwexpr_libdw_register(frame, 0, bytes, &count) == DWEXPR_LIBDW_NOT_READABLE, "nothing", "no register");
+    check(dwexpr_libdw_evaluate(frame, &texts[2], NULL, NULL, &value) == DWEXPR_LIBDW_WANTS + DWEXPR_WANTS_CFA,
+          "nothing", "no CFA");
+    dwexpr_libdw_release(value);
+    dwexpr_libdw_free_frame(frame);
+    dwexpr_libdw_make_frame(&known, &frame);
+    for (i = 0; i < 2; i++) {
+        check(!dwexpr_libdw_evaluate(frame, &texts[i], NULL, NULL, &value) && value->pieces[0].number == given, "given",
+              "it is known");
+        dwexpr_libdw_release(value);
+    }
+    dwexpr_libdw_free_frame(frame);
 }
 
 /* ---- callbacks */
@@ -151,6 +182,7 @@ int main(void)
     check_no_frame();
     check_unreadable();
     check_no_unit();
+    check_frames();
     check_callbacks();
     check_no_memory();
     check_unwritten();

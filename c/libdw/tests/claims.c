@@ -202,46 +202,6 @@ static void check_rows(const char *path, char separator)
 
 static const Dwfl_Callbacks finders = {dwfl_build_id_find_elf, dwfl_standard_find_debuginfo, NULL, NULL};
 
-/* What isn't known where there is no unit or no function, and frames whose base and CFA are given. */
-static void check_nowhere(void)
-{
-    static const uint8_t base[] = {DW_OP_fbreg, 0}, cfa[] = {DW_OP_call_frame_cfa};
-    const dwexpr_libdw_text texts[] = {{.text = {base, 2}, .encoding = LE8}, {.text = {cfa, 1}, .encoding = LE8},
-                                       {.text = {base, 2}, .encoding = LE8, .on_cfa = 1}};
-    const uint64_t given = 0x1100;
-    const dwexpr_libdw_source source = {.dwfl = dwfl, .pc = 0x10, .is_activation = 1};
-    const dwexpr_libdw_source outside = {.dwfl = dwfl, .unit = &subject.unit, .pc = 0x10, .is_activation = 1};
-    const dwexpr_libdw_source known = {.frame_base = &given, .cfa = &given};
-    dwexpr_libdw_frame *frame;
-    dwexpr_libdw_value *value;
-    dwexpr_libdw_entry *entries;
-    dwexpr_libdw_place here;
-    Dwarf_Die *scopes;
-    uint8_t bytes[DWEXPR_LIBDW_REGISTER_SIZE];
-    size_t count, i;
-    dwexpr_libdw_make_frame(&source, &frame);
-    check(dwexpr_libdw_locate(frame, &here) == DWEXPR_LIBDW_NO_UNIT, "nowhere", "no unit");
-    check(dwexpr_libdw_scopes(frame, &scopes, &count) == DWEXPR_LIBDW_NO_UNIT && !scopes, "nowhere", "no scopes");
-    check(dwexpr_libdw_variables(frame, &entries, &count) == DWEXPR_LIBDW_NO_UNIT && !count, "nowhere", "no variables");
-    check(dwexpr_libdw_memory(frame, 0, bytes, 1) == DWEXPR_LIBDW_NOT_READABLE, "nowhere", "no memory");
-    check(dwexpr_libdw_register(frame, 0, bytes, &count) == DWEXPR_LIBDW_NOT_READABLE, "nowhere", "no register");
-    check(dwexpr_libdw_evaluate(frame, &texts[2], NULL, NULL, &value) == DWEXPR_LIBDW_WANTS + DWEXPR_WANTS_CFA,
-          "nowhere", "no CFA");
-    dwexpr_libdw_free_frame(frame);
-    dwexpr_libdw_make_frame(&outside, &frame);
-    check(dwexpr_libdw_on_entry(frame, &subject.unit, &value) == DWEXPR_LIBDW_OPTIMIZED_AWAY, "no function",
-          "nor its entry");
-    dwexpr_libdw_free_frame(frame);
-    dwexpr_libdw_make_frame(&known, &frame);
-    check(dwexpr_libdw_scopes(frame, &scopes, &count) == DWEXPR_LIBDW_NO_UNIT, "no Dwfl", "no scopes");
-    for (i = 0; i < 2; i++) {
-        check(!dwexpr_libdw_evaluate(frame, &texts[i], NULL, NULL, &value) && value->pieces[0].number == given, "given",
-              "it is known");
-        dwexpr_libdw_release(value);
-    }
-    dwexpr_libdw_free_frame(frame);
-}
-
 /* Checks an object file or a program, with its libraries. */
 static void check_file(const char *path)
 {
@@ -267,8 +227,6 @@ static void check_file(const char *path)
         subject.unit = *dwfl_module_nextcu(module, NULL, &bias);
     }
     check_rows(path, dwfl ? ':' : ' ');
-    if (dwfl && !refused_call)
-        check_nowhere();
     dwfl_end(dwfl);
     dwfl = NULL;
     dwarf_end(dwarf);
@@ -389,6 +347,7 @@ int main(int argc, char **argv)
     }
     pthread_attr_init(&attributes);
     pthread_attr_setstacksize(&attributes, 1 << 17);
-    check(!pthread_create(&thread, &attributes, check_program, NULL) && !pthread_join(thread, NULL), "a thread", "it has run");
+    check(!pthread_create(&thread, &attributes, check_program, NULL) && !pthread_join(thread, NULL), "a thread",
+          "it has run");
     return finish();
 }

@@ -40,10 +40,10 @@
  *
  * Of frames:
  *
- *     count in FRAME is N         how many functions and variables there are
+ *     count in FRAME is N         how many functions and variables there are, or the name of a code
  *     all of NAME is N            how many globals have the name; also with `in FRAME`
- *     globals in FRAME is N       how many the frame's module has
- *     function in FRAME is NAME
+ *     all in FRAME is N           how many the frame's module has
+ *     function in FRAME is NAME   or the name of a code
  *     address in FRAME is ADDRESS of the next instruction, or `ADDRESS, a call` of the one that it is in
  *     frames MOST is N CODE       how many frames of the thread are found, if at most so many are looked for
  *     threads N is M              the first thread, and how many there are

@@ -164,12 +164,15 @@ static Dwarf_Die unit_of_global(dwexpr_libdw_frame *frame, const char *name)
     return unit;
 }
 
-/* The variable that a claim names by its words from one on. */
+/* The variable that a claim names by its words from one on, or that of the row. */
 static int find_said(const struct claim *claim, size_t from, Dwarf_Die *variable)
 {
     const char *name = claim->word[from], *kind = claim->word[from + 1], *where = claim->word[from + 2];
     const char *function = strcmp(where, "unit") ? where : NULL, *global = claim->word[from + 4];
     size_t total;
+    *variable = subject.variable;
+    if (!strcmp(name, "value"))
+        return 1;
     if (!strcmp(kind, "of"))
         return find_in(*global ? unit_of_global(claim->frame, global) : subject.unit, function, name, variable);
     if (!strcmp(kind, "from"))
@@ -178,43 +181,32 @@ static int find_said(const struct claim *claim, size_t from, Dwarf_Die *variable
            (from && find_in(subject.unit, NULL, name, variable));
 }
 
-/* NAME in FRAME is VALUE, and those with `of`, `from`, `beside` */
+/* The value of the variable into which a pointer points. */
+static uint32_t follow(dwexpr_libdw_frame *frame, Dwarf_Die *pointer, dwexpr_libdw_value **value)
+{
+    Dwarf_Die variable;
+    uint32_t code = dwexpr_libdw_variable(frame, pointer, value);
+    if (code)
+        return code;
+    code = dwexpr_libdw_points_into(*value, &(*value)->pieces[0], &variable);
+    dwexpr_libdw_release(*value);
+    *value = NULL;
+    return code ? code : dwexpr_libdw_variable(frame, &variable, value);
+}
+
+/* NAME in FRAME is VALUE, and those with `value`, `of`, `from`, `beside`, `entry of` and `target of` */
 static int has_value(const struct claim *claim)
 {
+    uint32_t (*const evaluate)(dwexpr_libdw_frame *, Dwarf_Die *, dwexpr_libdw_value **) =
+        !strcmp(claim->word[0], "entry")    ? dwexpr_libdw_on_entry
+        : !strcmp(claim->word[0], "target") ? follow
+                                            : dwexpr_libdw_variable;
     Dwarf_Die variable;
     dwexpr_libdw_value *value;
     uint32_t code;
-    if (!find_said(claim, 0, &variable))
+    if (!find_said(claim, evaluate == dwexpr_libdw_variable ? 0 : 2, &variable))
         return subject.may_refuse || !strcmp(claim->said, "missing");
-    code = dwexpr_libdw_variable(claim->frame, &variable, &value);
-    return is_value(claim, code, value);
-}
-
-/* entry of NAME is VALUE */
-static int has_entry_value(const struct claim *claim)
-{
-    Dwarf_Die variable;
-    dwexpr_libdw_value *value;
-    uint32_t code;
-    if (!find_said(claim, 2, &variable))
-        return subject.may_refuse;
-    code = dwexpr_libdw_on_entry(claim->frame, &variable, &value);
-    return is_value(claim, code, value);
-}
-
-/* target of NAME is VALUE */
-static int has_target(const struct claim *claim)
-{
-    Dwarf_Die variable;
-    dwexpr_libdw_value *pointer, *value = NULL;
-    uint32_t code = find_said(claim, 2, &variable) ? dwexpr_libdw_variable(claim->frame, &variable, &pointer)
-                                                   : DWEXPR_LIBDW_NO_PART;
-    if (code)
-        return 0;
-    code = dwexpr_libdw_points_into(pointer, &pointer->pieces[0], &variable);
-    dwexpr_libdw_release(pointer);
-    if (!code)
-        code = dwexpr_libdw_variable(claim->frame, &variable, &value);
+    code = evaluate(claim->frame, &variable, &value);
     return is_value(claim, code, value);
 }
 
@@ -233,14 +225,7 @@ static int has_text_of(const struct claim *claim)
     return has_text(code, object, claim->word[0] + length, claim->said);
 }
 
-/* value VALUE */
-static int has_row_value(const struct claim *claim)
-{
-    dwexpr_libdw_value *value;
-    const uint32_t code = dwexpr_libdw_variable(claim->frame, &subject.variable, &value);
-    return is_value(claim, code, value);
-}
-
+/* limit N */
 static int set_limit(const struct claim *claim)
 {
     dwexpr_libdw_set_limit(claim->frame, (uint32_t)atol(claim->word[1]));
@@ -274,27 +259,19 @@ static int has_each_text(const struct claim *claim)
     return holds;
 }
 
-static int has_globals(const struct claim *claim, Dwfl_Module *module, const char *name)
+/* all of NAME is N, and all in FRAME is N, of the frame's module */
+static int has_globals(const struct claim *claim)
 {
+    const char *name = !strcmp(claim->word[1], "of") ? claim->word[2] : NULL;
+    dwexpr_libdw_place place = {.module = NULL};
     Dwarf_Die *globals;
     size_t count;
-    const uint32_t code = dwexpr_libdw_globals(claim->frame, module, name, &globals, &count);
+    uint32_t code;
+    if (!name)
+        dwexpr_libdw_locate(claim->frame, &place);
+    code = dwexpr_libdw_globals(claim->frame, place.module, name, &globals, &count);
     free(globals);
     return subject.may_refuse || is_said(claim->said, code, count);
-}
-
-/* all of NAME is N */
-static int has_named_globals(const struct claim *claim)
-{
-    return has_globals(claim, NULL, claim->word[2]);
-}
-
-/* globals in FRAME is N */
-static int has_module_globals(const struct claim *claim)
-{
-    dwexpr_libdw_place place;
-    dwexpr_libdw_locate(claim->frame, &place);
-    return has_globals(claim, place.module, NULL);
 }
 
 /* ---- expressions, rules, registers and memory */
@@ -360,14 +337,15 @@ static int is_rule(const struct claim *claim)
     if (code)
         add_part(text, sizeof text, dwexpr_libdw_code_name(code));
     dwexpr_libdw_free_text(&rule);
-    return !strcmp(text, claim->said);
+    return (code && subject.may_refuse) || !strcmp(text, claim->said);
 }
 
 /* by rule N in FRAME is VALUE */
 static int has_value_by_rule(const struct claim *claim)
 {
     dwexpr_libdw_text rule = {.on_cfa = 0};
-    const int holds = !find_rule(claim->frame, claim->word[2], &rule) && is_evaluated(claim, &rule);
+    const uint32_t code = find_rule(claim->frame, claim->word[2], &rule);
+    const int holds = code ? subject.may_refuse : is_evaluated(claim, &rule);
     dwexpr_libdw_free_text(&rule);
     return holds;
 }
@@ -422,18 +400,19 @@ static int has_threads(const struct claim *claim)
 /* count in FRAME is N */
 static int has_variables(const struct claim *claim)
 {
-    Dwarf_Die last;
-    size_t total;
-    find_variable(claim->frame, "", &last, &total);
-    return subject.may_refuse || total == strtoul(claim->said, NULL, 10);
+    dwexpr_libdw_entry *entries;
+    size_t count;
+    const uint32_t code = dwexpr_libdw_variables(claim->frame, &entries, &count);
+    free(entries);
+    return subject.may_refuse || (code ? !count && is_code(code, claim->said) : is_said(claim->said, 0, count));
 }
 
 /* function in FRAME is NAME */
 static int is_function(const struct claim *claim)
 {
     dwexpr_libdw_place place;
-    dwexpr_libdw_locate(claim->frame, &place);
-    return place.function.addr && is_named(&place.function, claim->said);
+    const uint32_t code = dwexpr_libdw_locate(claim->frame, &place);
+    return code ? is_code(code, claim->said) : place.function.addr && is_named(&place.function, claim->said);
 }
 
 /* address in FRAME is ADDRESS, or ADDRESS, a call */
@@ -521,13 +500,11 @@ static const struct kind {
     const char *words[2];
     int (*holds)(const struct claim *claim);
 } kinds[] = {
-    {{"value"}, has_row_value}, {{"entry", "of"}, has_entry_value}, {{"target", "of"}, has_target},
-    {{"limit"}, set_limit}, {{"first", "of"}, has_first_text}, {{"each"}, has_each_text},
-    {{"all", "of"}, has_named_globals}, {{"globals", "in"}, has_module_globals}, {{"register"}, is_register},
-    {{"memory"}, is_memory}, {{"rule"}, is_rule}, {{"by", "rule"}, has_value_by_rule}, {{"frames"}, has_frames},
-    {{"threads"}, has_threads}, {{"count", "in"}, has_variables}, {{"function", "in"}, is_function},
-    {{"address", "in"}, is_at_address},
-    {{"seen"}, are_seen}, {{NULL, "on"}, has_expression},
+    {{"limit"}, set_limit}, {{"first", "of"}, has_first_text}, {{"each"}, has_each_text}, {{"all"}, has_globals},
+    {{"register"}, is_register}, {{"memory"}, is_memory}, {{"rule"}, is_rule}, {{"by", "rule"}, has_value_by_rule},
+    {{"frames"}, has_frames}, {{"threads"}, has_threads}, {{"count", "in"}, has_variables},
+    {{"function", "in"}, is_function}, {{"address", "in"}, is_at_address}, {{"seen"}, are_seen},
+    {{NULL, "on"}, has_expression},
 };
 
 static int begins(const struct claim *claim, const struct kind *kind)

@@ -30,7 +30,7 @@ static uint32_t begin_parts(Dwarf_Die *type)
     return code;
 }
 
-/* Whether each index of an element that was found has a place in its dimension. */
+/* Whether each index has a place in its dimension. */
 static int have_places(dwexpr_libdw_object *array, const int64_t *indexes, size_t count)
 {
     const dwexpr_libdw_dimension *dimensions;
@@ -55,7 +55,7 @@ static uint32_t find_element(dwexpr_libdw_object *array, const char *said, dwexp
     for (; sscanf(said, "%ld%n", &indexes[count], &read) == 1; said += read + (said[read] == ','))
         count++;
     code = dwexpr_libdw_object_element(array, indexes, count, element);
-    lacks_place |= !code && !have_places(array, indexes, count);
+    lacks_place |= !have_places(array, indexes, count) && !code;
     return code;
 }
 

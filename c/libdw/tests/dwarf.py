@@ -151,6 +151,14 @@ class Unit:
         shapes = b"".join(unsigned_leb(code) + shape for shape, code in self.abbreviations.items())
         return {".debug_abbrev": shapes + b"\0", ".debug_info": self.counted(header + made)}
 
+    def located(self, begin, end, expression):
+        """An entry of a location list, for the addresses from one to before another."""
+        size = unsigned_leb(len(expression)) if self.version >= 5 else self.pack("H", len(expression))
+        return b"\7" * (self.version >= 5) + self.address(begin, end) + size + expression
+
+    def list_of(self, *entries):
+        return b"".join(entries) + (b"\0" if self.version >= 5 else self.address(0, 0))
+
     def lists(self, content):
         """The section of location lists with this content, by its name, and where the content begins in it. In version
         5 that has index 0 too."""

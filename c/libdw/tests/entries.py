@@ -99,16 +99,17 @@ class Entries(Unit):
         self.gives(self.pack("I", 0x1004), "constx 0 stack_value")
         self.gives("an entry of .debug_addr", "addrx 2")
 
-    def list_of(self, text):
+    def everywhere(self, text):
+        """A location list with this expression at each address."""
         expression = self.expression(text)
         if self.version >= 5:
-            return b"\5" + bytes([len(expression)]) + expression + b"\0"  # DW_LLE_default_location
-        return self.address(0, 0x10000) + self.pack("H", len(expression)) + expression + self.address(0, 0)
+            return self.list_of(b"\5" + bytes([len(expression)]) + expression)  # DW_LLE_default_location
+        return self.list_of(self.located(0, 0x10000, expression))
 
     def sections(self):
-        two = self.list_of("lit2")
+        two = self.everywhere("lit2")
         self.second_list = len(two)
-        sections, self.list_begins = self.lists(two + self.list_of("implicit_pointer 0 64"))
+        sections, self.list_begins = self.lists(two + self.everywhere("implicit_pointer 0 64"))
         self.types()
         self.calls()
         self.constants()

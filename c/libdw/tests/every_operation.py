@@ -59,9 +59,8 @@ class EveryOperation(Unit):
         for at, expression in enumerate(self.expressions()):
             EveryOperation.total += 1
             self.root.add("variable", location=self.block(expression))
-            size = unsigned_leb(len(expression)) if self.version >= 5 else self.pack("H", len(expression))
-            lists += b"\7" * (self.version >= 5) + self.address(at, at + 1) + size + expression
-        lists, begin = self.lists(lists + (b"\0" if self.version >= 5 else self.address(0, 0)))
+            lists += self.located(at, at + 1, expression)
+        lists, begin = self.lists(self.list_of(lists))
         place = (OFFSET if self.version >= 4 else 0x06 if self.offset_size == 4 else 0x07), self.offset(begin)
         if self.version >= 5:
             place = INDEX, b"\0"

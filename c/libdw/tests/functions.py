@@ -302,28 +302,19 @@ class Functions(Unit):
     def listed(self):
         """A location list, which has addresses in the module."""
         function = self.function(linkage_name="listing")
-        front, length, end = (b"\7", b"\2", b"\0") if self.version >= 5 else (b"", b"\2\0", self.address(0, 0))
-        content = b""
-        for at in range(3):
-            begin = function.begin + 8 * at
-            expression = self.expression(f"lit{at} stack_value")
-            content += front + self.address(begin, begin + 8)
-            content += bytes(len(length)) if at == 2 else length + expression
-        base = self.expression("const4u 0x1010")
-        second = len(content + end)
-        content += end + front + self.address(function.begin, function.begin + 8)
-        content += (bytes([len(base)]) if self.version >= 5 else self.pack("H", len(base))) + base + end
+        places = [self.expression("lit0 stack_value"), self.expression("lit1 stack_value"), b""]
+        begins = [function.begin + 8 * at for at in range(3)]
+        content = self.list_of(*(self.located(at, at + 8, place) for at, place in zip(begins, places)))
+        second = len(content)
+        content += self.list_of(self.located(function.begin, function.begin + 8, self.expression("const4u 0x1010")))
         # what a parameter has before the first instruction
         called, caller = self.function(), self.function()
         self.site(caller, caller.begin + 0x10, call_origin=called)
         lists = {}
         for first, then, said in [("reg0", "reg1", "0a000000"), ("", "reg0", "optimized away")]:
             lists[len(content)] = said
-            for size, register in ((0, first), (8, then)):
-                place = self.expression(register)
-                content += front + self.address(called.begin, called.begin + size)
-                content += bytes([len(place)]) + length[1:] + place
-            content += end
+            content += self.list_of(self.located(called.begin, called.begin, self.expression(first)),
+                                    self.located(called.begin, called.begin + 8, self.expression(then)))
         sections, offset = self.lists(content)
         for place, said in lists.items():
             self.parameter(called, f"viewed{place}", (OFFSET, self.offset(offset + place)))
@@ -375,8 +366,12 @@ class Functions(Unit):
                      "in_local from declaring is thread-local storage",
                      "indexed from declaring is an entry of .debug_addr",
                      "in_memory from declaring is it is only declared")
+        nothing = "no debug information for the address"
         self.row([0x10], "9100 on 0 is the frame base", "9c on 0 is the canonical frame address",
-                 "a100 on 0 is an entry of .debug_addr", "entry of global is no debug information for the address")
+                 "a100 on 0 is an entry of .debug_addr", f"entry of global is {nothing}", f"function in 0 is {nothing}",
+                 f"count in 0 is {nothing}")
+        # a unit without a frame in it
+        self.row([], "entry of lost is optimized away")
 
     def globals(self):
         """By their names: in the source, and for the linker; in a namespace and a module; constants."""

@@ -8,7 +8,6 @@
 
 #include <fcntl.h>
 #include <gelf.h>
-#include <limits.h>
 #include <pthread.h>
 #include <unistd.h>
 
@@ -35,28 +34,23 @@ static void check_claim(const char *claim)
 {
     const char *range = strstr(claim, " to ");
     char text[1024], end[8] = "";
-    int first, last, number, least, front, at = 0;
+    int frame, number = 0, least, counts, at = 0;
     while (range && range > claim && range[-1] != ' ')
         range--;
-    if (!range || sscanf(range, "%d to %7s%n", &first, end, &at) != 2) {
+    if (!range || sscanf(range, "%d to %7s%n", &frame, end, &at) != 2) {
         check(is_of_type(claim) ? is_type(claim) : is_found(claim), place, claim);
         return;
     }
-    front = (int)(range - claim);
-    for (last = atoi(end); !strcmp(end, "last") && frame_number((size_t)last) != NULL;)
-        last++;
-    last -= !strcmp(end, "last");
-    if (sscanf(range + at, " = %d down to %d", &number, &least) != 2)
-        number = least = INT_MIN;
-    else
-        check(number - least == last - first, place, claim);
-    for (; first <= last; first++) {
-        if (least == INT_MIN)
-            snprintf(text, sizeof text, "%.*s%d%s", front, claim, first, range + at);
+    counts = sscanf(range + at, " = %d down to %d", &number, &least) == 2;
+    for (; strcmp(end, "last") ? frame <= atoi(end) : frame_number((size_t)frame) != NULL; frame++, number--) {
+        const int front = (int)(range - claim);
+        if (counts)
+            snprintf(text, sizeof text, "%.*s%d = %d", front, claim, frame, number);
         else
-            snprintf(text, sizeof text, "%.*s%d = %d", front, claim, first, least + last - first);
+            snprintf(text, sizeof text, "%.*s%d%s", front, claim, frame, range + at);
         check_claim(text);
     }
+    check(!counts || number == least - 1, place, claim);
 }
 
 /* A claim that is wrong on purpose has to fail. It is tried once. */

@@ -1,12 +1,12 @@
-/* Claims, which say what has to be. Each is a line of a file beside the program that it is about; or some stand in the
- * name of a variable that a script made, with semicolons between them, after where they hold and a colon:
+/* Claims, which say what has to be. Each is a line of a file, beside the program that it is about. Or a script makes a
+ * file whose variables have claims as their names, with semicolons between them, after what they are about:
  *
- *     401003 401010!: CLAIMS      in a program: in frames that stand there, the innermost first; with `!` after it, a
+ *     401003 401010!: CLAIMS      in a program: frames that stand there, the innermost first; with `!` after it, a
  *                                 signal stopped the frame there. If none is said, there is one frame without modules.
- *     101: CLAIMS                 in a core dump: in the frames of this thread
- *     CLAIMS                      in another file: in a frame without modules, and of the variable's type
+ *     101: CLAIMS                 in a core dump: this thread
+ *     CLAIMS                      in another file: a frame without modules, and the variable
  *
- * Of the variable's type, whose object is at 0x1010:
+ * Of the variable's type, and of its object at 0x1010:
  *
  *     size N                      its bytes
  *     at I,J B N                  where the element begins in bits, and how many it has
@@ -16,44 +16,48 @@
  *     type none                   it has no type
  *     PATH is TEXT                the text of a part: .NAME is a member, [I,J] an element, * what a pointer points to
  *
- * Of values, in the first frame if none is said. For a frame `2 to 5` or `2 to last` it holds in each of these, and a
- * number `9 down to 6` in the last word counts down with them:
+ * Of the variable where its location says:
  *
- *     value VALUE                 the value of the row's variable
- *     =PATH is TEXT               the text of the variable, or of a part of it, where its location says
- *     without                     the size isn't known of the variable, which has no address
- *     nowhere                     the variable has no address
- *     NAME in FRAME is VALUE      the value of a variable in that frame
- *     NAMEPATH in FRAME = TEXT    the text of one, or of a part of it
- *     NAME of FUNCTION is VALUE   the value of a variable of a function, which may be `unit`
- *     NAME beside GLOBAL is VALUE the same for any function of the global's unit
+ *     value VALUE                 its value
+ *     =PATH is TEXT               its text, or that of a part of it
+ *     without                     its size isn't known, as it has no address
+ *     nowhere                     it has no address
+ *
+ * Of values. ` in FRAME` is the number of a frame, 0 for the innermost, which it is if it isn't said:
+ *
+ *     NAME in FRAME is VALUE      the value of a variable of the frame
+ *     NAMEPATH in FRAME = TEXT    its text, or that of a part of it
+ *     NAME of FUNCTION is VALUE   the value of a variable of any function of the file, or of the `unit`;
+ *                                 with `beside GLOBAL`, of a function of the unit that has a global variable
  *     NAME from FUNCTION is VALUE the same if the file is in no module
- *     entry of NAME is VALUE      its value on entry; also with `in FRAME`
- *     target of NAME is VALUE     the value of the variable into which its pointer points; also with `in FRAME`
- *     BYTES on FRAME is VALUE     the value of an expression
- *     register N in FRAME is VALUE
- *     memory ADDRESS SIZE in FRAME is VALUE
- *     rule N in FRAME is RULE     the rule of a register, or of the CFA if N is -1: BYTES, `on the CFA`, `a value`
+ *     entry of NAME in FRAME is VALUE    the value of a parameter on entry
+ *     target of NAME in FRAME is VALUE   the value of the variable into which a pointer points
  *     first of NAME is TEXT       the text of the first global with the name that has a value
  *     each NAME in FRAME = TEXT   the text of each global with the name
- *     limit N                     so many expressions may be evaluated for one; also with `in FRAME`
+ *     BYTES on FRAME is VALUE     the value of an expression; with `with N`, that is on its stack at first, and with
+ *                                 `with N N`, the second one is the object's address
+ *     register N in FRAME is VALUE
+ *     memory ADDRESS SIZE in FRAME is VALUE
+ *     rule N in FRAME is RULE     the rule of a register, or of the CFA if N is -1: BYTES, on the CFA, a value, CODE
+ *     by rule N in FRAME is VALUE the value of that expression; also `with N`
+ *     limit N in FRAME            so many expressions may be evaluated for one
  *
  * Of frames:
  *
- *     count in FRAME is N         how many functions and variables there are, or the name of a code
- *     all of NAME is N            how many globals have the name; also with `in FRAME`
- *     all in FRAME is N           how many the frame's module has
- *     function in FRAME is NAME   or the name of a code
- *     address in FRAME is ADDRESS of the next instruction, or `ADDRESS, a call` of the one that it is in
- *     frames MOST is N CODE       how many frames of the thread are found, if at most so many are looked for
- *     threads N is M              the first thread, and how many there are
- *     seen                        each local NAME_is of any frame's function has what NAME has there, and NAME_isnt has
- *                                 something else
+ *     function in FRAME is NAME   or CODE
+ *     address in FRAME is ADDRESS of the next instruction; with `, a call`, of the call before it
+ *     count in FRAME is N         how many functions and variables there are, or CODE
+ *     all of NAME in FRAME is N   how many globals have the name
+ *     all in FRAME is N           how many globals the frame's module has
+ *     frames MOST is N, CODE      how many frames the thread has, if at most so many are looked for; `all` for 0
+ *     threads FIRST is N          how many threads there are
+ *     seen                        each local NAME_is of a function has what NAME has there, and NAME_isnt hasn't
  *
- * A VALUE is bytes, in which `??` is unknown, and 0a?f0 has a mask of the bits that are unknown; `1 0a` is one bit of
- * them. After them, or alone, comes the name of a code. It may also be `known`, whatever it is; `at ADDRESS`, where it
- * is; `in register N`; or `into NAME`, a pointer to that variable. `none` is no number, `missing` no such variable, and
- * `nameless` one that has no name. `A, or B` may be either. */
+ * A claim on the frames `0 to 5` or `0 to last` has to hold for each, and a number `9 down to 4` counts with them. A
+ * VALUE is bytes: `??` is an unknown one, 0a?f0 has a mask of its unknown bits, and `4 bits 0a` are fewer. After them,
+ * or alone, is CODE, the name of a code. Or it is `known`; `at ADDRESS`; `in register N`; or `into NAME`, which is that
+ * variable. `none` is no number, `missing` no such variable, and `nameless` one that has no name. A TEXT may have
+ * several with `, or ` between them. */
 #ifndef CLAIMS_H
 #define CLAIMS_H
 

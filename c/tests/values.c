@@ -227,19 +227,6 @@ static void types(void)
                                                 : type == DWEXPR_NO_TYPE || type > DWEXPR_U64 ? 0
                                                                                              : 4u << type / 2),
               "the size of a type", "it");
-    for (int encoding = 0; encoding < 256; encoding++)
-        for (unsigned i = 0; i < 64 * 20; i++) {
-            /* small sizes, and those with one bit more */
-            const uint64_t size = i % 20 + (i / 20 ? (uint64_t)1 << i / 20 : 0);
-            const uint32_t of_size = size == 1   ? DWEXPR_I8
-                                     : size == 2 ? DWEXPR_I16
-                                     : size == 4 ? DWEXPR_I32
-                                     : size == 8 ? DWEXPR_I64
-                                                 : DWEXPR_NO_TYPE;
-            const uint32_t want = encoding == 5 || !of_size ? of_size : encoding == 7 ? of_size + 1 : DWEXPR_NO_TYPE;
-            if (dwexpr_type_from_encoding((uint8_t)encoding, size) != want)
-                check(0, "a type of an encoding and a size", "it");
-        }
 }
 
 int main(int argc, char **argv)

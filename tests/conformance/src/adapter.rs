@@ -1,4 +1,31 @@
-//! The macro that implements the suite's trait for a crate with gimli's names.
+//! The macros that implement the suite's trait for a crate with gimli's names.
+
+/// Functions from the suite's types and values to a crate's, and back.
+#[doc(hidden)]
+#[macro_export]
+macro_rules! same_types {
+    ($library:ident: $($name:ident)+) => {
+        pub fn type_of(value_type: $crate::ValueType) -> $library::ValueType {
+            match value_type {
+                $($crate::ValueType::$name => $library::ValueType::$name,)+
+            }
+        }
+
+        pub fn value_of(value: $crate::Value) -> $library::Value {
+            match value {
+                $($crate::Value::$name(value) => $library::Value::$name(value),)+
+            }
+        }
+
+        #[allow(unreachable_patterns)]
+        pub fn plain(value: $library::Value) -> $crate::Value {
+            match value {
+                $($library::Value::$name(value) => $crate::Value::$name(value),)+
+                other => panic!("{other:?} in a row without floating point"),
+            }
+        }
+    };
+}
 
 /// Implements [`Implementation`](crate::Implementation) for a crate with the names of gimli 0.34, in a module: its
 /// `Over` takes a function that makes a reader of bytes in a byte order.
@@ -13,7 +40,6 @@ macro_rules! implementation {
             use $library::{
                 DebugInfoOffset, DieReference, Encoding, Evaluation, EvaluationResult, EvaluationStorage, Expression,
                 Format, Location, Operation, Piece, Reader, ReaderOffset, Result, RunTimeEndian, UnitOffset, Value,
-                ValueType,
             };
 
             /// The maximum number of operations, if no step sets it.
@@ -31,49 +57,7 @@ macro_rules! implementation {
                 if encoding.is_big_endian { RunTimeEndian::Big } else { RunTimeEndian::Little }
             }
 
-            pub fn type_of(value_type: $crate::ValueType) -> ValueType {
-                match value_type {
-                    $crate::ValueType::Generic => ValueType::Generic,
-                    $crate::ValueType::I8 => ValueType::I8,
-                    $crate::ValueType::U8 => ValueType::U8,
-                    $crate::ValueType::I16 => ValueType::I16,
-                    $crate::ValueType::U16 => ValueType::U16,
-                    $crate::ValueType::I32 => ValueType::I32,
-                    $crate::ValueType::U32 => ValueType::U32,
-                    $crate::ValueType::I64 => ValueType::I64,
-                    $crate::ValueType::U64 => ValueType::U64,
-                }
-            }
-
-            pub fn value_of(value: $crate::Value) -> Value {
-                match value {
-                    $crate::Value::Generic(value) => Value::Generic(value),
-                    $crate::Value::I8(value) => Value::I8(value),
-                    $crate::Value::U8(value) => Value::U8(value),
-                    $crate::Value::I16(value) => Value::I16(value),
-                    $crate::Value::U16(value) => Value::U16(value),
-                    $crate::Value::I32(value) => Value::I32(value),
-                    $crate::Value::U32(value) => Value::U32(value),
-                    $crate::Value::I64(value) => Value::I64(value),
-                    $crate::Value::U64(value) => Value::U64(value),
-                }
-            }
-
-            #[allow(unreachable_patterns)]
-            pub fn plain(value: Value) -> $crate::Value {
-                match value {
-                    Value::Generic(value) => $crate::Value::Generic(value),
-                    Value::I8(value) => $crate::Value::I8(value),
-                    Value::U8(value) => $crate::Value::U8(value),
-                    Value::I16(value) => $crate::Value::I16(value),
-                    Value::U16(value) => $crate::Value::U16(value),
-                    Value::I32(value) => $crate::Value::I32(value),
-                    Value::U32(value) => $crate::Value::U32(value),
-                    Value::I64(value) => $crate::Value::I64(value),
-                    Value::U64(value) => $crate::Value::U64(value),
-                    other => panic!("{other:?} in a row without floating point"),
-                }
-            }
+            $crate::same_types!($library: Generic I8 U8 I16 U16 I32 U32 I64 U64);
 
             /// A fault: its name, and the number in it, if that isn't the identifier of a place.
             pub fn fault(error: impl Debug) -> String {

@@ -3,7 +3,7 @@
 //!
 //!     DWEXPR_LISTS=shapes.tsv:mix.tsv cargo test cost
 //!
-//! It runs over the expressions of the repository's rows, and over the first lines of these lists, whose form
+//! It runs over the expressions of the conformance suite, and over the first lines of these lists, whose form
 //! rust/benches/beside_gimli.rs describes. If a count differs, the test prints what cost.txt would be.
 
 use crate::EvaluationResult::*;
@@ -13,7 +13,7 @@ use crate::{
     ArrayLike, Encoding, EndianSlice, Evaluation, EvaluationStorage, Format, Piece, Reader, Result, RunTimeEndian,
     SliceVec, StoreInSlices, Value, ValueType,
 };
-use json::{Json, text_of};
+use conformance::bytes_of;
 use std::alloc::{GlobalAlloc, Layout, System};
 use std::array::from_fn;
 use std::cell::Cell;
@@ -21,9 +21,9 @@ use std::hint::black_box;
 use std::path::Path;
 use std::{env, fs};
 
-#[path = "../../tests/conformance/src/json.rs"]
-#[allow(dead_code, reason = "the tests of rows call more of it")]
-mod json;
+#[path = "../../tests/conformance/src/lib.rs"]
+#[allow(dead_code, unused_imports, reason = "the tests of rows call more of it")]
+mod conformance;
 
 const MOST_EXPRESSIONS: usize = 20_000;
 // The maximum number of operations.
@@ -219,15 +219,11 @@ struct Expression {
 }
 
 impl Expression {
-    /// The expression in the columns of a line, or in the words of a row.
-    fn of(words: &[&str]) -> Option<Expression> {
-        let [address_size, offset_size, version, order, digits, ..] = words else { return None };
-        let format = if *offset_size == "8" { Format::Dwarf64 } else { Format::Dwarf32 };
-        let order = if *order == "be" { RunTimeEndian::Big } else { RunTimeEndian::Little };
-        let pairs = digits.as_bytes().chunks(2);
-        let byte = |pair| u8::from_str_radix(std::str::from_utf8(pair).ok()?, 16).ok();
-        let encoding = Encoding { address_size: address_size.parse().ok()?, format, version: version.parse().ok()? };
-        Some(Expression { encoding, order, bytes: pairs.map(byte).collect::<Option<_>>()? })
+    fn of(encoding: conformance::Encoding, bytes: Vec<u8>) -> Expression {
+        let conformance::Encoding { address_size, version, .. } = encoding;
+        let format = if encoding.is_dwarf64 { Format::Dwarf64 } else { Format::Dwarf32 };
+        let order = if encoding.is_big_endian { RunTimeEndian::Big } else { RunTimeEndian::Little };
+        Expression { encoding: Encoding { address_size, format, version }, order, bytes }
     }
 
     fn reader<'a>(&self, bytes: &'a [u8]) -> Counting<'a> {
@@ -342,25 +338,21 @@ fn table(name: &str, expressions: &[Expression]) -> String {
     line(name, &RUNS.map(|it| it.0.to_string())) + &lines.collect::<String>()
 }
 
-/// The expressions of the repository's rows and vectors.
+/// The expressions of the conformance suite.
 fn rows() -> Vec<Expression> {
-    let tests = Path::new(env!("CARGO_MANIFEST_DIR")).join("tests");
-    let files = json::files_in(&tests.join("rows")).into_iter().chain([tests.join("vectors/decode.json")]);
-    let words_of = |row: &Json| {
-        if let Some(words) = row.get("words") {
-            return Some(words.items().iter().skip(1).filter_map(text_of).collect::<Vec<_>>());
-        }
-        let digits = row.get("bytes")?.text().replace(' ', "");
-        Some(row.get("in")?.text().split(' ').map(String::from).chain([digits]).collect())
-    };
-    let expression_of = |row: &Json| Expression::of(&words_of(row)?.iter().map(String::as_str).collect::<Vec<_>>());
-    files.flat_map(|it| json::read(&it).items().iter().filter_map(expression_of).collect::<Vec<_>>()).collect()
+    let cases = conformance::cases().into_iter().map(|it| Expression::of(it.encoding, it.bytes));
+    let decodings = conformance::decodings().into_iter().map(|it| Expression::of(it.encoding, it.bytes));
+    cases.chain(decodings).collect()
 }
 
 fn listed(path: &Path) -> Vec<Expression> {
+    let expression_of = |line: &str| {
+        let columns: Vec<String> = line.split('\t').map(String::from).collect();
+        Some(Expression::of(conformance::Encoding::of(&columns[..4])?, bytes_of(&columns[4])?))
+    };
     let text = fs::read_to_string(path).unwrap();
     let lines = text.lines().filter(|it| !it.starts_with('#')).take(MOST_EXPRESSIONS);
-    lines.map(|it| Expression::of(&it.split('\t').collect::<Vec<_>>()).unwrap()).collect()
+    lines.map(|it| expression_of(it).unwrap()).collect()
 }
 
 #[test]

@@ -1,8 +1,6 @@
 //! The part of JSON that the rows use.
 
-use std::fs;
 use std::iter::Peekable;
-use std::path::{Path, PathBuf};
 use std::str::Chars;
 
 #[derive(Clone, Debug)]
@@ -40,19 +38,6 @@ impl Json {
     pub fn text(&self) -> &str {
         if let Json::Text(text) = self { text } else { panic!("{self:?} is no text") }
     }
-}
-
-pub fn read(path: &Path) -> Json {
-    Json::of(&fs::read_to_string(path).unwrap())
-}
-
-/// The files of a folder. An editor's file is none.
-pub fn files_in(folder: &Path) -> Vec<PathBuf> {
-    let is_ours = |path: &PathBuf| {
-        let name = path.file_name().unwrap().to_str().unwrap();
-        !name.starts_with('.') && name.ends_with(".json")
-    };
-    fs::read_dir(folder).unwrap().map(|it| it.unwrap().path()).filter(is_ours).collect()
 }
 
 /// The text of a row: a string, or parts that may repeat. `None` if it is bytes.

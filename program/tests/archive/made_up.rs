@@ -62,9 +62,7 @@ static FORMS: LazyLock<[u8; 256]> = LazyLock::new(|| {
 pub struct Case {
     pub encoding: Encoding,
     pub texts: Vec<Vec<u8>>,
-    pub maximum: u32,
-    pub object_address: Option<u64>,
-    pub initial_value: Option<u64>,
+    pub settings: Settings,
     /// The number of the type of most values, which is also at the offset that most operands name.
     home: u8,
     numbers: Numbers,
@@ -83,9 +81,13 @@ impl Case {
                 is_big_endian: numbers.one_of(&[false, true]),
             },
             texts: Vec::new(),
-            maximum: if numbers.one_in(8) { numbers.below(16) as u32 } else { 200 },
-            object_address: numbers.one_in(2).then_some(numbers.edge()),
-            initial_value: numbers.one_in(4).then_some(numbers.edge()),
+            settings: Settings {
+                max_iterations: if numbers.one_in(8) { numbers.below(16) as u32 } else { 200 },
+                has_object_address: numbers.one_in(2).into(),
+                object_address: numbers.edge(),
+                has_initial_value: numbers.one_in(4).into(),
+                initial_value: numbers.edge(),
+            },
             home: numbers.below(9) as u8 + 1,
             numbers,
         };
@@ -120,17 +122,8 @@ impl Case {
 
     /// What is evaluated.
     pub fn subject(&self) -> Subject<'_> {
-        Subject {
-            encoding: self.encoding,
-            texts: self.texts.iter().map(Vec::as_slice).collect(),
-            settings: Settings {
-                max_iterations: self.maximum,
-                has_object_address: self.object_address.is_some().into(),
-                has_initial_value: self.initial_value.is_some().into(),
-                object_address: self.object_address.unwrap_or(0),
-                initial_value: self.initial_value.unwrap_or(0),
-            },
-        }
+        let texts = self.texts.iter().map(Vec::as_slice).collect();
+        Subject { encoding: self.encoding, texts, settings: self.settings }
     }
 
     /// Adds an operation with made-up operands.

@@ -76,11 +76,12 @@ class Core(Unit):
 
     def core(self):
         """Of the stack's segment the file has 0x20 bytes of 0x40, and then those of the next one. One ends after the
-        file, one begins there, and one of notes has more bytes than the file."""
+        file, two begin there, one of them at code of the program, and one of notes has more bytes than the file."""
         return self.elf({}, [
             (NOTE, 0, self.notes, 0), (LOAD, STACK, bytes(range(0x20)), 0x40), (LOAD, NEXT, b"\xee" * 0x20, 0x20),
             (LOAD, STACK + 0x20, b"\xdd" * 0x10, 0x10), (LOAD, CUT, (-4, 0x10), 0x10),
-            (LOAD, CUT + 0x10, (4, 0x10), 0x10), (LOAD, TOPS, self.tops, len(self.tops)), (NOTE, 0, (-8, 0x100), 0),
+            (LOAD, CUT + 0x10, (4, 0x10), 0x10), (LOAD, MORE + 0x130, (4, 0x10), 0x10),
+            (LOAD, TOPS, self.tops, len(self.tops)), (NOTE, 0, (-8, 0x100), 0),
         ], 4)  # fmt: skip
 
 
@@ -106,7 +107,7 @@ class Glibc(Core):
     # vector is of generation 5.
     NONE, FAR = -1, 4000
     MODULES = [(0x40, 0, 0, 0), (0, 1, BLOCKS, 5), (NONE, 4, BLOCKS + 0x40, 4), (0, 0, BLOCKS, 0), (0, 2, 0, 0),
-               (0, 3, BLOCKS + 1, 0), (0, 5, BLOCKS, 6), (0, FAR, BLOCKS, 0)]
+               (0, 5, BLOCKS + 1, 0), (0, 3, BLOCKS, 6), (0, FAR, BLOCKS, 0)]
     # Where the byte 4 of those is that are known, by the thread. The vector of the second thread can't be read.
     PLACES = {(401, 0): 0x4FFFC4, (401, 1): 0x607004, (401, 2): 0x607044, (402, 0): 0x4FFFC4}
 
@@ -199,6 +200,8 @@ def stacks(core, first):
         core.says(thread, f"frames 10 is {found}")
         if not found.startswith("1,"):
             core.says(thread, f"register {17 if core.wide else 21} in 1 is {UNREADABLE}")
+    # after the call of the second one the stack's pointer is a word higher, and the CFA is the next word
+    core.says(first + 1, f"9c on 1 is at {TOPS + 4 * core.address_size:x}")
     core.tops += core.address(*[MORE + 0xA5] * 12)
     # a handler of a signal, and what the signal stopped: it stands at its next instruction, the first of a function
     core.status(first + 13, TOPS + len(core.tops), 0, MORE + 0xA5)
@@ -222,7 +225,7 @@ MEMORY = [
     (0x500008, 4, "08090a0b"), (0x50001E, 4, "1e1fdddd"), (0x50002E, 4, UNREADABLE), (0x501000, 2, "eeee"),
     (0x50101F, 2, UNREADABLE), (0x50001F, 1, "1f"), (0x500030, 1, UNREADABLE), (0x401010, 4, "10111213"),
     (0x4010FF, 2, "ff00"), (0x4011FF, 2, UNREADABLE), (0x502002, 4, UNREADABLE), (0x502010, 1, UNREADABLE),
-    (0x502000, 4, "known"), (0x10, 1, UNREADABLE),
+    (0x502000, 4, "known"), (0x10, 1, UNREADABLE), (0x402134, 4, UNREADABLE), (0x40212C, 4, "90909090"),
 ]  # fmt: skip
 # Where the byte 4 of the thread-local storage is. The block has 20 bytes and ends at the pointer, which is 0x600000 and
 # the thread's number. On x86-64 it begins 8 bytes after an address with its alignment of 16, and so has padding at its

@@ -32,21 +32,21 @@ static void put(struct writer *writer, const uint8_t *bytes, size_t length)
     writer->length += length;
 }
 
-/* Writes a number in `size` bytes. Gives back 0, or -1 if it doesn't fit. */
-static int put_fixed(struct writer *writer, uint64_t number, size_t size, int is_signed, int big_endian)
+/* Writes a number in `size` bytes, if it fits. */
+static uint32_t put_fixed(struct writer *writer, uint64_t number, size_t size, int is_signed, int big_endian)
 {
     uint8_t bytes[8];
     uint64_t beyond = size < 8 ? number >> (8 * size - (is_signed != 0)) : 0;
     if (size < 1 || size > 8 || (beyond && !(is_signed && beyond == UINT64_MAX >> (8 * size - 1))))
-        return -1;
+        return DWEXPR_LIBDW_NOT_ENCODABLE;
     dwexpr_libdw_bytes_of(number, sizeof bytes, big_endian, bytes);
     put(writer, bytes + (big_endian ? sizeof bytes - size : 0), size);
     return 0;
 }
 
 /* Writes a LEB128 number in its shortest form, or with bytes that change nothing at its end, so that it has `size`.
- * Gives back 0. */
-static int put_leb(struct writer *writer, uint64_t number, size_t size, int is_signed)
+ * Returns 0. */
+static uint32_t put_leb(struct writer *writer, uint64_t number, size_t size, int is_signed)
 {
     uint64_t sign = is_signed && number >> 63 ? UINT64_MAX : 0;
     size_t count = 0;
@@ -61,9 +61,9 @@ static int put_leb(struct writer *writer, uint64_t number, size_t size, int is_s
     return 0;
 }
 
-/* Writes the operands of an operation. If they have `size` bytes, and one LEB128 number, it is made as long as that
- * takes. Gives back 0, or -1 if there are no such bytes. */
-static int put_operands(struct writer *writer, const Dwarf_Op *op, size_t size, dwexpr_encoding encoding)
+/* Writes the operands of an operation, if there are such bytes. If they have `size` bytes, and one LEB128 number, it is
+ * made as long as that takes. */
+static uint32_t put_operands(struct writer *writer, const Dwarf_Op *op, size_t size, dwexpr_encoding encoding)
 {
     static const char sizes[] = "BbHhIiQq";
     const char form = dwexpr_operand_form(op->atom);
@@ -74,7 +74,7 @@ static int put_operands(struct writer *writer, const Dwarf_Op *op, size_t size, 
         return put_fixed(writer, op->number, (size_t)1 << (fixed - sizes) / 2, (int)((fixed - sizes) % 2),
                          encoding.big_endian);
     if ((form == 'k' || form == 'L') && !block)
-        return -1;
+        return DWEXPR_LIBDW_NOT_ENCODABLE;
     switch (form) {
     case '-': return 0;
     case 'a': return put_fixed(writer, op->number, encoding.address_size, 0, encoding.big_endian);
@@ -90,12 +90,12 @@ static int put_operands(struct writer *writer, const Dwarf_Op *op, size_t size, 
             front >>= 7;
         if (put_fixed(writer, op->number, reference, 0, encoding.big_endian) ||
             (!length && !(op->number2 >> 63) && front & 0x40))
-            return -1;
+            return DWEXPR_LIBDW_NOT_ENCODABLE;
         if (!length || length >= 10)
             return put_leb(writer, op->number2, length, 1);
         beyond = op->number2 >> 7 * length;
         if (beyond && beyond != UINT64_MAX >> 7 * length)
-            return -1;
+            return DWEXPR_LIBDW_NOT_ENCODABLE;
         return put_leb(writer, op->number2 & ~(UINT64_MAX << 7 * length), length, 0);
     }
     case 'u': case 's': case 'R': case 'P': case 'T': return put_leb(writer, op->number, size, form == 's');
@@ -105,7 +105,7 @@ static int put_operands(struct writer *writer, const Dwarf_Op *op, size_t size, 
     case 'D': return put_fixed(writer, op->number, 1, 0, 0);
     case 'E':
         if (put_fixed(writer, op->number, 1, 0, 0))
-            return -1;
+            return DWEXPR_LIBDW_NOT_ENCODABLE;
         return put_leb(writer, op->number2, size > 1 ? size - 1 : 0, 0);
     case 'k': { /* libdw points to the block's length */
         size_t length = 1;
@@ -118,7 +118,7 @@ static int put_operands(struct writer *writer, const Dwarf_Op *op, size_t size, 
         put_leb(writer, op->number, size > 1u + block[0] ? size - 1 - block[0] : 0, 0);
         put(writer, block, 1u + block[0]);
         return 0;
-    default: return -1;
+    default: return DWEXPR_LIBDW_NOT_ENCODABLE;
     }
 }
 

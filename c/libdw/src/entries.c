@@ -93,9 +93,9 @@ int dwexpr_libdw_has_in_base(Dwarf_Die *type, unsigned name, Dwarf_Attribute *at
     return 0;
 }
 
-int dwexpr_libdw_scalar(Dwarf_Die *type, Dwarf_Word *size, Dwarf_Word *encoding)
+int dwexpr_libdw_is_scalar(Dwarf_Die *type, Dwarf_Word *size, Dwarf_Word *encoding)
 {
     Dwarf_Attribute attribute;
-    return !dwexpr_libdw_has_in_base(type, DW_AT_byte_size, &attribute) || dwarf_formudata(&attribute, size) ||
-           !dwexpr_libdw_has_in_base(type, DW_AT_encoding, &attribute) || dwarf_formudata(&attribute, encoding);
+    return dwexpr_libdw_has_in_base(type, DW_AT_byte_size, &attribute) && !dwarf_formudata(&attribute, size) &&
+           dwexpr_libdw_has_in_base(type, DW_AT_encoding, &attribute) && !dwarf_formudata(&attribute, encoding);
 }

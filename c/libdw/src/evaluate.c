@@ -112,8 +112,9 @@ static uint32_t find_cfa(dwexpr_libdw_frame *frame, uint32_t *left)
     uint32_t code;
     if (frame->has_cfa)
         return 0;
-    if (dwexpr_libdw_find_state(frame, &state, &elf))
-        return DWEXPR_LIBDW_NO_UNIT;
+    code = dwexpr_libdw_find_state(frame, &state, &elf);
+    if (code)
+        return code;
     code = dwexpr_libdw_rule(state, elf, DWEXPR_LIBDW_CFA, &rule);
     free(state);
     if (!code)
@@ -125,12 +126,12 @@ static uint32_t find_cfa(dwexpr_libdw_frame *frame, uint32_t *left)
 
 /* ---- answers from the debug information */
 
-/* The entry that an operation names. */
-static int entry_of(Dwarf_CU *unit, uint8_t opcode, uint64_t offset, Dwarf_Die *entry)
+/* Finds the entry that an operation names. */
+static int find_entry(Dwarf_CU *unit, uint8_t opcode, uint64_t offset, Dwarf_Die *entry)
 {
     Dwarf_Op operation = {opcode, offset, 0, 0};
     Dwarf_Attribute attribute = {.cu = unit};
-    return !unit || dwarf_getlocation_die(&attribute, &operation, entry);
+    return unit && !dwarf_getlocation_die(&attribute, &operation, entry);
 }
 
 static int has_bytes(dwexpr_text text, const uint8_t *bytes, size_t length)
@@ -148,7 +149,7 @@ static uint32_t location_of(struct job *job, size_t *index)
     dwexpr_libdw_text called = {.memory = NULL};
     uint32_t code = 0;
     size_t i = 0;
-    if (entry_of(value->unit, asked->flag ? DW_OP_call_ref : DW_OP_call4, asked->number, &entry))
+    if (!find_entry(value->unit, asked->flag ? DW_OP_call_ref : DW_OP_call4, asked->number, &entry))
         return DWEXPR_LIBDW_FAILED;
     if (dwarf_attr_integrate(&entry, DW_AT_location, &attribute))
         code = expression_in(job->given.frame, &attribute, &called);
@@ -166,17 +167,21 @@ static uint32_t location_of(struct job *job, size_t *index)
     return i < TEXTS ? 0 : DWEXPR_TOO_MANY_TEXTS;
 }
 
-static int find_tls(const dwexpr_libdw_frame *frame, Dwfl_Module *module, uint64_t offset, uint64_t *address)
+static uint32_t find_tls(const dwexpr_libdw_frame *frame, Dwfl_Module *module, uint64_t offset, uint64_t *address)
 {
     const dwexpr_libdw_source *source = &frame->source;
-    return !module || !source->find_tls || source->find_tls(source->context, module, offset, address);
+    return !module || !source->find_tls || source->find_tls(source->context, module, offset, address)
+               ? DWEXPR_LIBDW_WANTS + DWEXPR_WANTS_TLS
+               : 0;
 }
 
-static int indexed_address(struct job *job, uint64_t *address)
+static uint32_t find_indexed(struct job *job, uint64_t *address)
 {
     Dwarf_Op operation = {DW_OP_addrx, job->value->outcome.number, 0, 0};
     Dwarf_Attribute unit = {.cu = job->value->unit}, attribute;
-    return !unit.cu || dwarf_getlocation_attr(&unit, &operation, &attribute) || dwarf_formaddr(&attribute, address);
+    return !unit.cu || dwarf_getlocation_attr(&unit, &operation, &attribute) || dwarf_formaddr(&attribute, address)
+               ? DWEXPR_LIBDW_FAILED
+               : 0;
 }
 
 /* Whether an expression has no operations but of these kinds. */
@@ -202,8 +207,8 @@ static int moves_only(dwexpr_text text, dwexpr_encoding encoding)
     return has_only(text, encoding, kinds, sizeof kinds);
 }
 
-/* The integer type that stands for a base type. */
-static int base_type_of(struct job *job, uint64_t offset, uint32_t *value_type)
+/* Finds the integer type that stands for a base type. */
+static uint32_t find_base_type(struct job *job, uint64_t offset, uint32_t *value_type)
 {
     static const uint8_t integers[] = {
         [DW_ATE_signed] = DW_ATE_signed, [DW_ATE_signed_char] = DW_ATE_signed, [DW_ATE_unsigned] = DW_ATE_unsigned,
@@ -212,12 +217,12 @@ static int base_type_of(struct job *job, uint64_t offset, uint32_t *value_type)
     };
     Dwarf_Die type;
     Dwarf_Word size, encoding;
-    if (entry_of(job->value->unit, DW_OP_convert, offset, &type) || dwexpr_libdw_scalar(&type, &size, &encoding) ||
-        encoding >= sizeof integers ||
+    if (!find_entry(job->value->unit, DW_OP_convert, offset, &type) ||
+        !dwexpr_libdw_is_scalar(&type, &size, &encoding) || encoding >= sizeof integers ||
         (encoding == DW_ATE_float && !moves_only(job->value->texts[0], job->value->encoding)))
-        return 1;
+        return DWEXPR_LIBDW_WANTS + DWEXPR_WANTS_BASE_TYPE;
     *value_type = dwexpr_type_from_encoding(integers[encoding], size);
-    return *value_type == DWEXPR_NO_TYPE;
+    return *value_type == DWEXPR_NO_TYPE ? DWEXPR_LIBDW_WANTS + DWEXPR_WANTS_BASE_TYPE : 0;
 }
 
 /* ---- jobs */
@@ -341,8 +346,10 @@ static uint32_t answer(struct job **top)
     memset(answer, 0, sizeof *answer);
     answer->kind = requests[asked->request].answer;
     answer->value_type = DWEXPR_GENERIC;
-    if (asked->base_type && base_type_of(job, asked->base_type, &answer->value_type))
-        return DWEXPR_LIBDW_WANTS + DWEXPR_WANTS_BASE_TYPE;
+    if (asked->base_type)
+        why = find_base_type(job, asked->base_type, &answer->value_type);
+    if (why)
+        return why;
     switch (asked->request) {
     case DWEXPR_WANTS_MEMORY: why = memory_number(job->value, &answer->number); break;
     case DWEXPR_WANTS_REGISTER: why = register_number(job->value, asked->register_number, &answer->number); break;
@@ -355,17 +362,19 @@ static uint32_t answer(struct job **top)
         answer->number = frame->cfa;
         break;
     case DWEXPR_WANTS_TLS:
-        why = dwexpr_libdw_find_module(frame, unit, &module, &bias) ||
-              find_tls(frame, module, asked->number, &answer->number);
+        why = dwexpr_libdw_find_module(frame, unit, &module, &bias);
+        if (!why)
+            why = find_tls(frame, module, asked->number, &answer->number);
         break;
     case DWEXPR_WANTS_LOCATION: why = location_of(job, &answer->text); break;
     case DWEXPR_WANTS_RELOCATED:
-        why = dwexpr_libdw_find_module(frame, unit, &module, &bias) != 0;
+        why = dwexpr_libdw_find_module(frame, unit, &module, &bias);
         answer->number = asked->number + bias;
         break;
     case DWEXPR_WANTS_INDEXED:
-        why = indexed_address(job, &answer->number) ||
-              (asked->flag && dwexpr_libdw_find_module(frame, unit, &module, &bias));
+        why = find_indexed(job, &answer->number);
+        if (!why && asked->flag)
+            why = dwexpr_libdw_find_module(frame, unit, &module, &bias);
         answer->number += bias;
         break;
     case DWEXPR_WANTS_ENTRY_VALUE:
@@ -373,7 +382,7 @@ static uint32_t answer(struct job **top)
         job->question.entry.addr = NULL;
         return ask(top, dwexpr_libdw_ask(&job->question, &attribute), &attribute);
     case DWEXPR_WANTS_PARAMETER:
-        return ask(top, !entry_of(unit, DW_OP_GNU_parameter_ref, asked->number, &job->question.entry) &&
+        return ask(top, find_entry(unit, DW_OP_GNU_parameter_ref, asked->number, &job->question.entry) &&
                             dwexpr_libdw_ask(&job->question, &attribute), &attribute);
     default: break; /* a base type */
     }
@@ -510,7 +519,7 @@ static uint32_t hold_constant(dwexpr_libdw_value *value, Dwarf_Die *variable, Dw
         value->pieces[0].kind = DWEXPR_HOLDS_VALUE;
         value->pieces[0].value_type = DWEXPR_U64;
         value->pieces[0].number = number;
-        if (dwexpr_libdw_type(variable, &type) || dwexpr_libdw_scalar(&type, &block.length, &kind) ||
+        if (dwexpr_libdw_type(variable, &type) || !dwexpr_libdw_is_scalar(&type, &block.length, &kind) ||
             block.length <= 8 || block.length > DWEXPR_LIBDW_REGISTER_SIZE)
             return 0;
         block.data = dwexpr_libdw_take(&value->memory, (size_t)block.length);
@@ -546,10 +555,9 @@ static uint32_t hidden(dwexpr_libdw_frame *frame, Dwarf_Die *variable, Dwfl_Modu
 static uint32_t at_symbol(const dwexpr_libdw_frame *frame, Dwarf_CU *unit, struct dwexpr_libdw_symbol *symbol,
                           dwexpr_libdw_value **value)
 {
-    if (GELF_ST_TYPE(symbol->symbol.st_info) == STT_TLS &&
-        find_tls(frame, symbol->module, symbol->symbol.st_value, &symbol->address))
-        return DWEXPR_LIBDW_WANTS + DWEXPR_WANTS_TLS;
-    return make_value(frame, unit, symbol->address, value);
+    const int is_local = GELF_ST_TYPE(symbol->symbol.st_info) == STT_TLS;
+    const uint32_t code = is_local ? find_tls(frame, symbol->module, symbol->symbol.st_value, &symbol->address) : 0;
+    return code ? code : make_value(frame, unit, symbol->address, value);
 }
 
 /* The value of a variable that has no location: if it is declared, that of its definition, and else of another name of
@@ -649,9 +657,9 @@ uint32_t dwexpr_libdw_on_entry(dwexpr_libdw_frame *frame, Dwarf_Die *parameter, 
 
 uint32_t dwexpr_libdw_points_into(const dwexpr_libdw_value *value, const dwexpr_piece *piece, Dwarf_Die *variable)
 {
-    return piece->kind != DWEXPR_POINTS_INTO || entry_of(value->unit, DW_OP_implicit_pointer, piece->number, variable)
-               ? DWEXPR_LIBDW_FAILED
-               : 0;
+    return piece->kind == DWEXPR_POINTS_INTO && find_entry(value->unit, DW_OP_implicit_pointer, piece->number, variable)
+               ? 0
+               : DWEXPR_LIBDW_FAILED;
 }
 
 /* Reads a value of so many bytes as a number. */
@@ -675,7 +683,7 @@ static uint32_t variable_number(const struct dwexpr_libdw_given *given, Dwarf_Di
     Dwarf_Die type;
     Dwarf_Word size, encoding;
     uint32_t code;
-    if (dwexpr_libdw_type(variable, &type) || dwexpr_libdw_scalar(&type, &size, &encoding))
+    if (dwexpr_libdw_type(variable, &type) || !dwexpr_libdw_is_scalar(&type, &size, &encoding))
         return DWEXPR_LIBDW_NO_NUMBER;
     code = dwexpr_libdw_variable(given->frame, variable, &value);
     if (!code)

@@ -199,7 +199,7 @@ static int is_of(Dwfl_Module *module, const Dwarf *wanted, int is_split, Dwarf_A
     return found;
 }
 
-int dwexpr_libdw_find_module(dwexpr_libdw_frame *frame, Dwarf_CU *unit, Dwfl_Module **module, Dwarf_Addr *bias)
+uint32_t dwexpr_libdw_find_module(dwexpr_libdw_frame *frame, Dwarf_CU *unit, Dwfl_Module **module, Dwarf_Addr *bias)
 {
     const Dwarf *wanted = dwarf_cu_getdwarf(unit);
     uint8_t kind = DW_UT_compile;
@@ -214,10 +214,10 @@ int dwexpr_libdw_find_module(dwexpr_libdw_frame *frame, Dwarf_CU *unit, Dwfl_Mod
     do
         at = dwexpr_libdw_next_module(frame->source.dwfl, at, module);
     while (at > 0 && !is_of(*module, wanted, kind >= DW_UT_split_compile, bias));
-    return at <= 0;
+    return at > 0 ? 0 : DWEXPR_LIBDW_FAILED;
 }
 
-int dwexpr_libdw_find_state(const dwexpr_libdw_frame *frame, Dwarf_Frame **state, Elf **elf)
+uint32_t dwexpr_libdw_find_state(const dwexpr_libdw_frame *frame, Dwarf_Frame **state, Elf **elf)
 {
     Dwfl_Module *module = module_of(frame);
     const Dwarf_Addr address = address_of(frame);
@@ -229,7 +229,7 @@ int dwexpr_libdw_find_state(const dwexpr_libdw_frame *frame, Dwarf_Frame **state
         failed = !table || dwarf_cfi_addrframe(table, address - bias, state);
     }
     *elf = dwfl_module_getelf(module, &bias_of_elf);
-    return failed;
+    return failed ? DWEXPR_LIBDW_NO_UNIT : 0;
 }
 
 uint32_t dwexpr_libdw_locate(dwexpr_libdw_frame *frame, dwexpr_libdw_place *place)

@@ -3,20 +3,18 @@
 
 /* ---- numbers of attributes */
 
-uint64_t dwexpr_libdw_number_or(struct dwexpr_libdw_given *given, Dwarf_Die *entry, unsigned name, uint64_t other)
+uint32_t dwexpr_libdw_number_or(const struct dwexpr_libdw_given *given, Dwarf_Die *entry, unsigned name, uint64_t other,
+                                uint64_t *number)
 {
     Dwarf_Attribute attribute;
-    if (!given->code && dwarf_attr_integrate(entry, name, &attribute))
-        given->code = dwexpr_libdw_number_with(given, &attribute, &other);
-    return given->code ? 0 : other;
+    *number = other;
+    return dwarf_attr_integrate(entry, name, &attribute) ? dwexpr_libdw_number_with(given, &attribute, number) : 0;
 }
 
-/* The product of two numbers. It isn't known if it has more than 64 bits. */
-static uint64_t product(struct dwexpr_libdw_given *given, uint64_t number, uint64_t factor)
+/* Multiplies two numbers. The product isn't known if it has more than 64 bits. */
+static uint32_t multiply(uint64_t number, uint64_t factor, uint64_t *product)
 {
-    if (__builtin_mul_overflow(number, factor, &number))
-        given->code = DWEXPR_LIBDW_NO_NUMBER;
-    return given->code ? 0 : number;
+    return __builtin_mul_overflow(number, factor, product) ? DWEXPR_LIBDW_NO_NUMBER : 0;
 }
 
 uint64_t dwexpr_libdw_whole_bytes(uint64_t bits)
@@ -25,10 +23,10 @@ uint64_t dwexpr_libdw_whole_bytes(uint64_t bits)
 }
 
 /* The bits between two elements, or two indexes, as an entry says them; 0 if it doesn't. */
-static uint64_t stride_of(struct dwexpr_libdw_given *given, Dwarf_Die *entry)
+static uint32_t find_stride(const struct dwexpr_libdw_given *given, Dwarf_Die *entry, uint64_t *stride)
 {
-    const uint64_t bytes = dwexpr_libdw_number_or(given, entry, DW_AT_byte_stride, 0);
-    return dwexpr_libdw_number_or(given, entry, DW_AT_bit_stride, 8 * bytes);
+    const uint32_t code = dwexpr_libdw_number_or(given, entry, DW_AT_byte_stride, 0, stride);
+    return code ? code : dwexpr_libdw_number_or(given, entry, DW_AT_bit_stride, 8 * *stride, stride);
 }
 
 /* ---- types */
@@ -93,174 +91,204 @@ static int language_of(Dwarf_Die *entry)
     return dwarf_srclang(&unit);
 }
 
-static void add_dimension(struct dwexpr_libdw_given *given, Dwarf_Die *range, struct dwexpr_libdw_shape *shape)
+static uint32_t add_dimension(const struct dwexpr_libdw_given *given, Dwarf_Die *range,
+                              struct dwexpr_libdw_shape *shape)
 {
     const int is_whole = dwarf_tag(range) == DW_TAG_enumeration_type; /* each of its values is an index */
     dwexpr_libdw_dimension found = {.index = dwexpr_libdw_base(range)};
     Dwarf_Sword first = 0;
-    int64_t end = INT64_MAX;
+    uint64_t stride, lower = (uint64_t)INT64_MIN, last = INT64_MAX - 1;
+    int64_t end;
+    uint32_t code = find_stride(given, range, &stride);
     dwarf_default_lower_bound(language_of(range), &first);
-    found.stride = (int64_t)stride_of(given, range);
-    found.lower = is_whole ? INT64_MIN
-                           : (int64_t)dwexpr_libdw_number_or(given, range, DW_AT_lower_bound, (uint64_t)first);
+    if (!code && !is_whole)
+        code = dwexpr_libdw_number_or(given, range, DW_AT_lower_bound, (uint64_t)first, &lower);
+    if (!code && !is_whole)
+        code = dwexpr_libdw_number_or(given, range, DW_AT_upper_bound, lower - 1, &last);
+    if (code)
+        return code;
+    found.stride = (int64_t)stride;
+    found.lower = (int64_t)lower;
     found.has_count = is_whole || dwarf_hasattr_integrate(range, DW_AT_upper_bound) ||
                       dwarf_hasattr_integrate(range, DW_AT_count);
-    if (!is_whole)
-        end = (int64_t)(dwexpr_libdw_number_or(given, range, DW_AT_upper_bound, (uint64_t)found.lower - 1) + 1);
     /* an upper bound below the lower one is an array without elements */
-    found.count = dwexpr_libdw_number_or(given, range, DW_AT_count,
-                                         end < found.lower ? 0
-                                                           : dwexpr_libdw_indexes(&found.index, found.lower, end));
-    if (!given->code)
-        given->code = dwexpr_libdw_add(&shape->dimensions, &found, sizeof found);
+    end = (int64_t)(last + 1);
+    found.count = end < found.lower ? 0 : dwexpr_libdw_indexes(&found.index, found.lower, end);
+    code = dwexpr_libdw_number_or(given, range, DW_AT_count, found.count, &found.count);
+    return code ? code : dwexpr_libdw_add(&shape->dimensions, &found, sizeof found);
 }
 
 enum { MOST_DIMENSIONS = 64, MOST_ARRAYS = 64 };
 
 /* Adds the dimensions of an array: an entry for each, or one for all, whose number is computed (DW_AT_rank). */
-static void add_dimensions(struct dwexpr_libdw_given *given, Dwarf_Die *array, struct dwexpr_libdw_shape *shape)
+static uint32_t add_dimensions(const struct dwexpr_libdw_given *given, Dwarf_Die *array,
+                               struct dwexpr_libdw_shape *shape)
 {
-    const uint64_t rank = dwexpr_libdw_number_or(given, array, DW_AT_rank, 1);
+    struct dwexpr_libdw_given own = *given;
     Dwarf_Die range;
+    uint64_t rank, i;
+    uint32_t code = dwexpr_libdw_number_or(given, array, DW_AT_rank, 1, &rank);
     int more;
     for (more = dwarf_child(array, &range); more == 0; more = dwarf_siblingof(&range, &range)) {
         const int tag = dwarf_tag(&range);
         const int is_generic = tag == DW_TAG_generic_subrange;
-        uint64_t i;
         if (tag != DW_TAG_subrange_type && tag != DW_TAG_enumeration_type && !is_generic)
             continue;
-        given->initial = is_generic ? &i : NULL;
-        for (i = 0; i < (is_generic ? rank : 1) && !given->code; i++)
-            if (shape->dimensions.length < MOST_DIMENSIONS)
-                add_dimension(given, &range, shape);
-            else
-                given->code = DWEXPR_LIBDW_NO_NUMBER;
-        given->initial = NULL;
+        own.initial = is_generic ? &i : NULL;
+        for (i = 0; i < (is_generic ? rank : 1) && !code; i++)
+            code = shape->dimensions.length < MOST_DIMENSIONS ? add_dimension(&own, &range, shape)
+                                                              : DWEXPR_LIBDW_NO_NUMBER;
     }
+    return code;
 }
 
-/* Whether the first index of an array is the one that changes fastest (DW_AT_ordering, else as the language has it). */
-static int is_first_fastest(struct dwexpr_libdw_given *given, Dwarf_Die *array)
+/* In which order the indexes of an array change, DW_ORD_*: as it says, or else as its language has it. */
+static uint32_t find_ordering(const struct dwexpr_libdw_given *given, Dwarf_Die *array, uint64_t *ordering)
 {
     const int language = language_of(array);
     const int is_fortran = language == DW_LANG_Fortran77 || language == DW_LANG_Fortran90 ||
                            language == DW_LANG_Fortran95 || language == DW_LANG_Fortran03 ||
                            language == DW_LANG_Fortran08;
-    const uint64_t usual = is_fortran ? DW_ORD_col_major : DW_ORD_row_major;
-    return dwexpr_libdw_number_or(given, array, DW_AT_ordering, usual) == DW_ORD_col_major;
+    return dwexpr_libdw_number_or(given, array, DW_AT_ordering, is_fortran ? DW_ORD_col_major : DW_ORD_row_major,
+                                  ordering);
 }
 
-void dwexpr_libdw_read_shape(struct dwexpr_libdw_given *given, Dwarf_Die *array, struct dwexpr_libdw_shape *shape)
+/* Gives each dimension its stride, from the one whose index changes fastest. `next` is the bits between two elements
+ * there. */
+static uint32_t set_strides(struct dwexpr_libdw_shape *shape, int is_reversed, uint64_t next)
 {
-    const int is_reversed = !is_first_fastest(given, array);
-    uint64_t next = stride_of(given, array), count = 1;
-    size_t length, i;
-    add_dimensions(given, array, shape);
-    if (!given->code)
-        given->code = find_type(given->frame, array, &shape->element);
-    shape->bits = given->code ? 0 : dwexpr_libdw_size_of(given, &shape->element);
-    if (next && next < shape->bits) /* it is packed */
-        shape->bits = next;
-    next = next ? next : shape->bits;
+    const size_t length = shape->dimensions.length;
+    uint64_t count = 1;
+    size_t i;
+    uint32_t code = 0;
     shape->total = next;
     shape->is_contiguous = 1;
-    length = shape->dimensions.length;
-    for (i = 0; i < length && !given->code; i++) {
+    for (i = 0; i < length && !code; i++) {
         dwexpr_libdw_dimension *here = (dwexpr_libdw_dimension *)shape->dimensions.items +
                                        (is_reversed ? length - 1 - i : i);
         if (!here->has_count && i + 1 < length)
-            given->code = DWEXPR_LIBDW_NO_NUMBER;
+            return DWEXPR_LIBDW_NO_NUMBER;
         shape->is_contiguous &= here->has_count &&
                                 (!here->stride || here->stride == (int64_t)next || here->count < 2);
         here->stride = here->stride ? here->stride : (int64_t)next;
         next *= here->count;
-        count = product(given, count, here->count);
+        code = multiply(count, here->count, &count);
     }
-    shape->total = product(given, shape->total, count);
+    return code ? code : multiply(shape->total, count, &shape->total);
+}
+
+uint32_t dwexpr_libdw_read_shape(const struct dwexpr_libdw_given *given, Dwarf_Die *array,
+                                 struct dwexpr_libdw_shape *shape)
+{
+    uint64_t next, ordering;
+    uint32_t code = add_dimensions(given, array, shape);
+    if (!code)
+        code = find_type(given->frame, array, &shape->element);
+    if (!code)
+        code = dwexpr_libdw_size_of(given, &shape->element, &shape->bits);
+    if (!code)
+        code = find_stride(given, array, &next);
+    if (!code)
+        code = find_ordering(given, array, &ordering);
+    if (code)
+        return code;
+    if (next && next < shape->bits) /* it is packed */
+        shape->bits = next;
+    return set_strides(shape, ordering != DW_ORD_col_major, next ? next : shape->bits);
 }
 
 /* ---- sizes, in bits */
 
 /* The bytes of a type that isn't an array, or that has DW_AT_byte_size. */
-static uint64_t other_size(struct dwexpr_libdw_given *given, Dwarf_Die *type)
+static uint32_t other_size(const struct dwexpr_libdw_given *given, Dwarf_Die *type, uint64_t *bytes)
 {
     const int tag = dwarf_tag(type);
     Dwarf_Attribute attribute;
     Dwarf_Die unit, target;
     uint8_t address_size = 0;
-    uint64_t bytes = 0;
+    uint32_t code = 0;
     if (dwarf_hasattr(type, DW_AT_declaration)) /* its definition wasn't found */
-        given->code = dwexpr_libdw_definition(given->frame, type, &target);
-    if (given->code)
-        return 0;
-    if (dwexpr_libdw_has_in_base(type, DW_AT_byte_size, &attribute)) {
-        given->code = dwexpr_libdw_number_with(given, &attribute, &bytes);
-        return bytes;
-    }
+        code = dwexpr_libdw_definition(given->frame, type, &target);
+    if (code)
+        return code;
+    if (dwexpr_libdw_has_in_base(type, DW_AT_byte_size, &attribute))
+        return dwexpr_libdw_number_with(given, &attribute, bytes);
     dwarf_diecu(type, &unit, &address_size, NULL);
+    *bytes = address_size;
     if (tag == DW_TAG_pointer_type || tag == DW_TAG_reference_type || tag == DW_TAG_rvalue_reference_type)
-        return address_size;
-    if (tag == DW_TAG_ptr_to_member_type) /* of a function it has a second word */
-        return !dwexpr_libdw_type(type, &target) && dwarf_tag(&target) == DW_TAG_subroutine_type ? 2u * address_size
-                                                                                                 : address_size;
-    if (tag == DW_TAG_string_type && dwarf_attr_integrate(type, DW_AT_string_length, &attribute)) {
-        given->code = dwexpr_libdw_string_length(given, type, &attribute, &bytes);
-        return bytes;
+        return 0;
+    if (tag == DW_TAG_ptr_to_member_type) { /* of a function it has a second word */
+        if (!dwexpr_libdw_type(type, &target) && dwarf_tag(&target) == DW_TAG_subroutine_type)
+            *bytes *= 2;
+        return 0;
     }
-    if (!dwarf_hasattr_integrate(type, DW_AT_bit_size))
-        given->code = DWEXPR_LIBDW_NO_NUMBER;
-    return dwexpr_libdw_whole_bytes(dwexpr_libdw_number_or(given, type, DW_AT_bit_size, 0));
+    if (tag == DW_TAG_string_type && dwarf_attr_integrate(type, DW_AT_string_length, &attribute))
+        return dwexpr_libdw_string_length(given, type, &attribute, bytes);
+    if (!dwarf_attr_integrate(type, DW_AT_bit_size, &attribute))
+        return DWEXPR_LIBDW_NO_NUMBER;
+    code = dwexpr_libdw_number_with(given, &attribute, bytes);
+    *bytes = dwexpr_libdw_whole_bytes(*bytes);
+    return code;
 }
 
-uint64_t dwexpr_libdw_size_of(struct dwexpr_libdw_given *given, Dwarf_Die *type)
+uint32_t dwexpr_libdw_size_of(const struct dwexpr_libdw_given *given, Dwarf_Die *type, uint64_t *bits)
 {
     struct dwexpr_libdw_shape shape = {.bits = 0};
-    if (dwarf_hasattr_integrate(type, DW_AT_byte_size) || dwarf_tag(type) != DW_TAG_array_type)
-        return product(given, 8, other_size(given, type));
-    if (++given->arrays > MOST_ARRAYS)
-        given->code = DWEXPR_LIBDW_NO_NUMBER;
-    else
-        dwexpr_libdw_read_shape(given, type, &shape);
+    struct dwexpr_libdw_given own = *given;
+    uint32_t code;
+    *bits = 0;
+    if (dwarf_hasattr_integrate(type, DW_AT_byte_size) || dwarf_tag(type) != DW_TAG_array_type) {
+        code = other_size(given, type, bits);
+        return code ? code : multiply(8, *bits, bits);
+    }
+    if (++own.arrays > MOST_ARRAYS)
+        return DWEXPR_LIBDW_NO_NUMBER;
+    code = dwexpr_libdw_read_shape(&own, type, &shape);
     free(shape.dimensions.items);
-    if (!given->code && !shape.is_contiguous)
-        given->code = DWEXPR_LIBDW_NO_NUMBER;
-    return given->code ? 0 : 8 * dwexpr_libdw_whole_bytes(shape.total);
+    if (!code && !shape.is_contiguous)
+        code = DWEXPR_LIBDW_NO_NUMBER;
+    return code ? code : multiply(8, dwexpr_libdw_whole_bytes(shape.total), bits);
 }
 
 /* ---- members */
 
-/* Where the bits begin of a bit field, in the bytes that hold it. DWARF 3 counts them from the highest one (5.6.6). */
-static uint64_t old_offset(struct dwexpr_libdw_given *given, Dwarf_Die *member, uint64_t size, uint64_t bits)
+/* Moves the begin of a bit field by what DW_AT_bit_offset says: DWARF 3 counts its bits from the highest one of the
+ * bytes that hold it (5.6.6). `bits` is 0 if the member doesn't say how many it has. */
+static uint32_t add_old_offset(const struct dwexpr_libdw_given *given, Dwarf_Die *member, Dwarf_Die *type,
+                               uint64_t bits, uint64_t *begin)
 {
-    const uint64_t highest = dwexpr_libdw_number_or(given, member, DW_AT_bit_offset, 0);
-    const uint64_t whole = 8 * dwexpr_libdw_number_or(given, member, DW_AT_byte_size, size / 8);
-    dwexpr_encoding encoding = {.big_endian = 0};
-    if (!given->code)
-        given->code = dwexpr_libdw_encoding(member->cu, &encoding);
-    return encoding.big_endian ? highest : whole - highest - bits;
+    uint64_t highest = 0, size, bytes = 0;
+    dwexpr_encoding encoding;
+    uint32_t code = dwexpr_libdw_size_of(given, type, &size);
+    if (!code)
+        code = dwexpr_libdw_number_or(given, member, DW_AT_bit_offset, 0, &highest);
+    if (!code)
+        code = dwexpr_libdw_number_or(given, member, DW_AT_byte_size, size / 8, &bytes);
+    if (!code)
+        code = dwexpr_libdw_encoding(member->cu, &encoding);
+    if (!code)
+        *begin += encoding.big_endian ? highest : 8 * bytes - highest - (bits ? bits : size);
+    return code;
 }
 
-uint64_t dwexpr_libdw_member_begin(struct dwexpr_libdw_given *given, Dwarf_Die *member, Dwarf_Die *type, uint64_t *bits)
+uint32_t dwexpr_libdw_member_begin(const struct dwexpr_libdw_given *given, Dwarf_Die *member, Dwarf_Die *type,
+                                   uint64_t *begin, uint64_t *bits)
 {
     const uint64_t whole = given->object ? *given->object : 0;
     struct dwexpr_libdw_given own = *given;
     Dwarf_Attribute attribute;
     Dwarf_Block block;
-    uint64_t begin = 0, size;
-    *bits = dwexpr_libdw_number_or(given, member, DW_AT_bit_size, 0);
-    /* that of a class, which no object holds */
-    if (dwarf_hasattr(member, DW_AT_declaration))
-        given->code = DWEXPR_LIBDW_NO_NUMBER;
-    else if (!given->code && dwarf_attr(member, DW_AT_data_member_location, &attribute)) {
+    uint32_t code = dwexpr_libdw_number_or(given, member, DW_AT_bit_size, 0, bits);
+    *begin = 0;
+    if (dwarf_hasattr(member, DW_AT_declaration)) /* that of a class, which no object holds */
+        return DWEXPR_LIBDW_NO_NUMBER;
+    if (!code && dwarf_attr(member, DW_AT_data_member_location, &attribute)) {
         own.object = &whole;
-        given->code = dwexpr_libdw_number_with(&own, &attribute, &begin);
+        code = dwexpr_libdw_number_with(&own, &attribute, begin);
         /* an expression gives the member's address */
-        begin -= dwarf_formblock(&attribute, &block) ? 0 : whole;
+        *begin -= dwarf_formblock(&attribute, &block) ? 0 : whole;
     }
-    begin = dwexpr_libdw_number_or(given, member, DW_AT_data_bit_offset, 8 * begin);
-    if (!given->code && dwarf_hasattr(member, DW_AT_bit_offset)) {
-        size = dwexpr_libdw_size_of(given, type);
-        begin += old_offset(given, member, size, *bits ? *bits : size);
-    }
-    return begin;
+    if (!code)
+        code = dwexpr_libdw_number_or(given, member, DW_AT_data_bit_offset, 8 * *begin, begin);
+    return code || !dwarf_hasattr(member, DW_AT_bit_offset) ? code : add_old_offset(given, member, type, *bits, begin);
 }

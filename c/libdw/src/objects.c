@@ -126,29 +126,34 @@ Dwarf_Die dwexpr_libdw_object_type(const dwexpr_libdw_object *object)
 
 uint32_t dwexpr_libdw_object_size(const dwexpr_libdw_object *object, uint64_t *bits)
 {
-    struct dwexpr_libdw_given given = given_of(object);
+    const struct dwexpr_libdw_given given = given_of(object);
     Dwarf_Die type = object->type;
-    *bits = object->bits ? object->bits : dwexpr_libdw_size_of(&given, &type);
-    return given.code;
+    *bits = object->bits;
+    return *bits ? 0 : dwexpr_libdw_size_of(&given, &type, bits);
 }
 
 /* Finds where the data of an object is: at it, or where DW_AT_data_location says. */
 static uint32_t find_data(dwexpr_libdw_object *object)
 {
-    struct dwexpr_libdw_given given = given_of(object);
+    const struct dwexpr_libdw_given given = given_of(object);
     Dwarf_Die *type = &object->type;
-    int is_there;
+    Dwarf_Attribute attribute;
+    uint64_t is_allocated, is_associated = 1;
+    uint32_t code;
     if (object->has_data)
         return 0;
-    is_there = dwexpr_libdw_number_or(&given, type, DW_AT_allocated, 1) &&
-               dwexpr_libdw_number_or(&given, type, DW_AT_associated, 1);
-    if (!given.code && !is_there)
+    code = dwexpr_libdw_number_or(&given, type, DW_AT_allocated, 1, &is_allocated);
+    if (!code)
+        code = dwexpr_libdw_number_or(&given, type, DW_AT_associated, 1, &is_associated);
+    if (!code && !(is_allocated && is_associated))
         return DWEXPR_LIBDW_OPTIMIZED_AWAY;
     object->data = object->place;
-    if (dwarf_hasattr_integrate(type, DW_AT_data_location))
-        object->data = (struct place){.address = dwexpr_libdw_number_or(&given, type, DW_AT_data_location, 0)};
-    object->has_data = !given.code;
-    return given.code;
+    if (!code && dwarf_attr_integrate(type, DW_AT_data_location, &attribute)) {
+        object->data = (struct place){.address = 0};
+        code = dwexpr_libdw_number_with(&given, &attribute, &object->data.address);
+    }
+    object->has_data = !code;
+    return code;
 }
 
 uint32_t dwexpr_libdw_object_address(dwexpr_libdw_object *object, uint64_t *address, uint64_t *bit)
@@ -178,15 +183,15 @@ uint32_t dwexpr_libdw_object_member(dwexpr_libdw_object *object, Dwarf_Die *memb
     struct dwexpr_libdw_given given = given_of(object);
     Dwarf_Die type;
     uint64_t begin, bits;
+    uint32_t code = find_data(object);
     *part = NULL;
-    given.code = find_data(object);
-    if (!given.code)
-        given.code = dwexpr_libdw_type(member, &type);
-    if (given.code)
-        return given.code;
+    if (!code)
+        code = dwexpr_libdw_type(member, &type);
+    if (code)
+        return code;
     given.object = object->data.value || object->data.begin ? NULL : &object->data.address;
-    begin = dwexpr_libdw_member_begin(&given, member, &type, &bits);
-    return given.code ? given.code : make_part(object, &type, begin, bits, part);
+    code = dwexpr_libdw_member_begin(&given, member, &type, &begin, &bits);
+    return code ? code : make_part(object, &type, begin, bits, part);
 }
 
 /* ---- bits */
@@ -337,7 +342,7 @@ uint32_t dwexpr_libdw_discriminant(const dwexpr_libdw_object *object, Dwarf_Die 
     while (object && !stands_below(member, &object->type))
         object = object->whole;
     if (!object || object->place.value || dwexpr_libdw_type(member, &part.type) ||
-        dwexpr_libdw_scalar(&part.type, &size, &kind) || dwarf_hasattr(member, DW_AT_bit_size) ||
+        !dwexpr_libdw_is_scalar(&part.type, &size, &kind) || dwarf_hasattr(member, DW_AT_bit_size) ||
         dwarf_hasattr(member, DW_AT_data_bit_offset) ||
         dwarf_formudata(dwarf_attr(member, DW_AT_data_member_location, &attribute), &begin))
         return DWEXPR_LIBDW_NO_NUMBER;
@@ -575,16 +580,17 @@ uint32_t dwexpr_libdw_object_named(dwexpr_libdw_object *object, const char *name
 
 static uint32_t find_shape(dwexpr_libdw_object *object)
 {
-    struct dwexpr_libdw_given given = given_of(object);
+    const struct dwexpr_libdw_given given = given_of(object);
+    uint32_t code;
     if (object->has_shape)
         return 0;
     if (dwarf_tag(&object->type) != DW_TAG_array_type)
         return DWEXPR_LIBDW_NO_PART;
     free(object->shape.dimensions.items);
     memset(&object->shape, 0, sizeof object->shape);
-    dwexpr_libdw_read_shape(&given, &object->type, &object->shape);
-    object->has_shape = !given.code;
-    return given.code;
+    code = dwexpr_libdw_read_shape(&given, &object->type, &object->shape);
+    object->has_shape = !code;
+    return code;
 }
 
 uint32_t dwexpr_libdw_object_shape(dwexpr_libdw_object *object, const dwexpr_libdw_dimension **dimensions, size_t *rank)

@@ -1,4 +1,5 @@
-/* What the sources of libdwexpr_libdw.a share. */
+/* What the sources of libdwexpr_libdw.a share. What may fail returns 0 or a code, as the calls do. An int is an answer: 1
+ * for yes. */
 #ifndef DWEXPR_LIBDW_PRIVATE_H
 #define DWEXPR_LIBDW_PRIVATE_H
 
@@ -80,9 +81,9 @@ Dwarf_Die dwexpr_libdw_base(Dwarf_Die *type);
 /* Finds an attribute of a type or, if it is a range or an enumeration, of its base type. Gives back whether it is
  * there. */
 int dwexpr_libdw_has_in_base(Dwarf_Die *type, unsigned name, Dwarf_Attribute *attribute);
-/* The bytes of a number and its encoding, as a type says them, or that of which it is a range. Gives back 0 if both are
- * known. */
-int dwexpr_libdw_scalar(Dwarf_Die *type, Dwarf_Word *size, Dwarf_Word *encoding);
+/* Finds the bytes of a number and its encoding, as a type says them, or that of which it is a range. Gives back whether
+ * both are known. */
+int dwexpr_libdw_is_scalar(Dwarf_Die *type, Dwarf_Word *size, Dwarf_Word *encoding);
 
 /* ---- evaluate.c */
 
@@ -97,7 +98,6 @@ struct dwexpr_libdw_given {
     const uint64_t *object, *initial;
     const dwexpr_libdw_object *holder; /* that may have the member of which it is the number, or NULL */
     unsigned arrays; /* how many arrays are within each other */
-    uint32_t code;   /* why the first number of several isn't known, else 0 */
     enum dwexpr_libdw_purpose purpose;
     uint32_t *left; /* how many more expressions may be evaluated; NULL for as many as the frame's limit says */
 };
@@ -109,8 +109,9 @@ uint32_t dwexpr_libdw_string_length(const struct dwexpr_libdw_given *given, Dwar
 
 /* ---- layouts.c */
 
-/* The number of an attribute, or `other` if the entry has none. After one that isn't known each is 0. */
-uint64_t dwexpr_libdw_number_or(struct dwexpr_libdw_given *given, Dwarf_Die *entry, unsigned name, uint64_t other);
+/* The number of an attribute, or `other` if the entry has none. */
+uint32_t dwexpr_libdw_number_or(const struct dwexpr_libdw_given *given, Dwarf_Die *entry, unsigned name, uint64_t other,
+                                uint64_t *number);
 uint64_t dwexpr_libdw_whole_bytes(uint64_t bits);
 /* Goes from a type to the one that says how it is laid out: without typedefs and qualifiers, and not a declaration. */
 uint32_t dwexpr_libdw_find_layout(dwexpr_libdw_frame *frame, Dwarf_Die *type);
@@ -127,15 +128,16 @@ struct dwexpr_libdw_shape {
     int is_contiguous; /* each bound is known, and they follow each other */
 };
 
-/* Free its dimensions. */
-void dwexpr_libdw_read_shape(struct dwexpr_libdw_given *given, Dwarf_Die *array, struct dwexpr_libdw_shape *shape);
+/* Free its dimensions, whatever it returns. */
+uint32_t dwexpr_libdw_read_shape(const struct dwexpr_libdw_given *given, Dwarf_Die *array,
+                                 struct dwexpr_libdw_shape *shape);
 /* How many indexes are below a number, and not below a lower one. */
 uint64_t dwexpr_libdw_indexes(Dwarf_Die *type, int64_t lower, int64_t number);
 /* The bits of a type. Those of an array are known if its elements follow each other. */
-uint64_t dwexpr_libdw_size_of(struct dwexpr_libdw_given *given, Dwarf_Die *type);
+uint32_t dwexpr_libdw_size_of(const struct dwexpr_libdw_given *given, Dwarf_Die *type, uint64_t *bits);
 /* The bit at which a member begins and, if the member says it, how many bits it has; else 0. */
-uint64_t dwexpr_libdw_member_begin(struct dwexpr_libdw_given *given, Dwarf_Die *member, Dwarf_Die *type,
-                                   uint64_t *bits);
+uint32_t dwexpr_libdw_member_begin(const struct dwexpr_libdw_given *given, Dwarf_Die *member, Dwarf_Die *type,
+                                   uint64_t *begin, uint64_t *bits);
 
 /* ---- objects.c */
 
@@ -163,18 +165,18 @@ ptrdiff_t dwexpr_libdw_next_module(Dwfl *dwfl, ptrdiff_t at, Dwfl_Module **modul
 
 /* Finds the module, the unit and the function of a frame, the same each time. */
 uint32_t dwexpr_libdw_find_place(dwexpr_libdw_frame *frame);
-/* Finds the module of a unit, and what is added to its addresses: those of the frame if the unit is NULL. Gives back 0,
- * or 1 if they aren't known. */
-int dwexpr_libdw_find_module(dwexpr_libdw_frame *frame, Dwarf_CU *unit, Dwfl_Module **module, Dwarf_Addr *bias);
+/* Finds the module of a unit, and what is added to its addresses: those of the frame if the unit is NULL. Returns 0 or
+ * DWEXPR_LIBDW_FAILED. */
+uint32_t dwexpr_libdw_find_module(dwexpr_libdw_frame *frame, Dwarf_CU *unit, Dwfl_Module **module, Dwarf_Addr *bias);
 void dwexpr_libdw_begin_frame(dwexpr_libdw_frame *frame, const dwexpr_libdw_source *source);
 /* The address where a function is entered: the begin of its first range. Gives back whether there is one. */
 int dwexpr_libdw_has_entry(Dwarf_Die *function, Dwarf_Addr *address);
 /* The same for a frame's function, as an address in the process; 0 if there is none. */
 uint64_t dwexpr_libdw_entry_of(const dwexpr_libdw_frame *frame);
 
-/* The call frame information at a frame's address, of .eh_frame or else of .debug_frame. Gives back 0, and then `state`
- * is to be freed. */
-int dwexpr_libdw_find_state(const dwexpr_libdw_frame *frame, Dwarf_Frame **state, Elf **elf);
+/* Finds the call frame information at a frame's address, of .eh_frame or else of .debug_frame. Returns 0, and then
+ * `state` is to be freed, or DWEXPR_LIBDW_NO_UNIT. */
+uint32_t dwexpr_libdw_find_state(const dwexpr_libdw_frame *frame, Dwarf_Frame **state, Elf **elf);
 
 /* ---- symbols.c */
 

@@ -59,7 +59,7 @@ static void read_upper_half(const struct dwexpr_libdw_sets *sets, uint32_t numbe
 }
 
 /* A register of the innermost frame. */
-static int read_set(const dwexpr_libdw_stack *stack, uint32_t number, uint8_t *bytes, size_t *size)
+static uint32_t read_set(const dwexpr_libdw_stack *stack, uint32_t number, uint8_t *bytes, size_t *size)
 {
     size_t i;
     for (i = 0; i < sizeof rows / sizeof *rows; i++) {
@@ -74,7 +74,7 @@ static int read_set(const dwexpr_libdw_stack *stack, uint32_t number, uint8_t *b
             read_upper_half(&stack->sets, number, bytes, size);
         return 0;
     }
-    return 1;
+    return DWEXPR_LIBDW_NOT_READABLE;
 }
 
 /* ---- registers of callers */
@@ -114,7 +114,7 @@ static int read_register(void *context, uint32_t number, uint8_t *bytes, size_t 
             return 0;
         }
         if (frame == frames_of(frame->stack))
-            return read_set(frame->stack, number, bytes, size);
+            return read_set(frame->stack, number, bytes, size) != 0;
         /* a signal's handler keeps nothing */
         if (frame->frame.source.is_activation || frame->is_guessed ||
             (frame == first && !is_kept(&frame->frame, target->machine, number)))
@@ -124,37 +124,37 @@ static int read_register(void *context, uint32_t number, uint8_t *bytes, size_t 
 
 static int read_memory(void *context, uint64_t address, uint8_t *bytes, size_t size)
 {
-    return dwexpr_libdw_read_memory(((const struct stack_frame *)context)->stack->target, address, bytes, size);
+    return dwexpr_libdw_read_memory(((const struct stack_frame *)context)->stack->target, address, bytes, size) != 0;
 }
 
 /* ---- thread-local storage */
 
 /* The base of the segment that gs selects on i386. Register 10 of the general ones is gs; the kernel keeps a list of
  * segments for each thread, with their numbers and bases. */
-static int find_segment(const dwexpr_libdw_stack *stack, uint64_t *base)
+static uint32_t find_segment(const dwexpr_libdw_stack *stack, uint64_t *base)
 {
     const uint8_t *general = stack->sets.bytes[GENERAL], *entries = stack->sets.bytes[SEGMENTS];
     size_t i;
     if (stack->sets.lengths[GENERAL] < 44) /* GCOVR_EXCL_BR_LINE: a thread has them */
-        return 1; /* GCOVR_EXCL_LINE: likewise */
+        return DWEXPR_LIBDW_NOT_READABLE; /* GCOVR_EXCL_LINE: likewise */
     for (i = 0; i + 16 <= stack->sets.lengths[SEGMENTS]; i += 16)
         if (dwexpr_libdw_number_of(entries + i, 4, 0) == dwexpr_libdw_number_of(general + 40, 4, 0) >> 3) {
             *base = dwexpr_libdw_number_of(entries + i + 4, 4, 0);
             return 0;
         }
-    return 1;
+    return DWEXPR_LIBDW_NOT_READABLE;
 }
 
-static int find_thread_pointer(const dwexpr_libdw_stack *stack, uint64_t *pointer)
+static uint32_t find_thread_pointer(const dwexpr_libdw_stack *stack, uint64_t *pointer)
 {
     uint8_t bytes[DWEXPR_LIBDW_REGISTER_SIZE];
-    size_t size;
+    size_t size = 0;
+    uint32_t code;
     if (stack->target->machine == EM_386)
         return find_segment(stack, pointer);
-    if (read_set(stack, FS_BASE, bytes, &size)) /* GCOVR_EXCL_BR_LINE: another machine, which has no such set */
-        return 1; /* GCOVR_EXCL_LINE: likewise */
+    code = read_set(stack, FS_BASE, bytes, &size);
     *pointer = dwexpr_libdw_number_of(bytes, size, 0);
-    return 0;
+    return code;
 }
 
 static int find_tls(void *context, Dwfl_Module *module, uint64_t offset, uint64_t *address)
@@ -199,9 +199,9 @@ static int has_rules(const struct stack_frame *frame)
 {
     Dwarf_Frame *rules = NULL;
     Elf *elf;
-    const int failed = dwexpr_libdw_find_state(&frame->frame, &rules, &elf);
+    const uint32_t code = dwexpr_libdw_find_state(&frame->frame, &rules, &elf);
     free(rules);
-    return !failed;
+    return !code;
 }
 
 /* Whether a frame stands where no code can be, on x86: it, or what the signal interrupted, called a bad pointer. */
@@ -229,7 +229,7 @@ static int on_frame(Dwfl_Frame *state, void *given)
     }
     dwfl_frame_pc(state, &pc, &is_activation);
     if (stack->frames.length) {
-        frame.is_guessed = dwexpr_libdw_find_state(&last_of(stack)->frame, &rules, &elf);
+        frame.is_guessed = dwexpr_libdw_find_state(&last_of(stack)->frame, &rules, &elf) != 0;
         dwarf_frame_info(rules, NULL, NULL, &frame.is_interrupted);
         free(rules);
     } else {
@@ -255,14 +255,13 @@ static void link_frames(dwexpr_libdw_stack *stack, size_t from)
     }
 }
 
-static int read_word(const struct stack_frame *frame, uint64_t address, uint64_t *word)
+static uint32_t read_word(const struct stack_frame *frame, uint64_t address, uint64_t *word)
 {
     const dwexpr_libdw_target *target = frame->stack->target;
-    uint8_t bytes[8];
-    if (dwexpr_libdw_read_memory(target, address, bytes, target->word))
-        return 1;
+    uint8_t bytes[8] = {0};
+    const uint32_t code = dwexpr_libdw_read_memory(target, address, bytes, target->word);
     *word = dwexpr_libdw_number_of(bytes, target->word, target->big_endian);
-    return 0;
+    return code;
 }
 
 /* Whether a call of an address that a register or memory has, or of a stub, ends at an address. */

@@ -50,13 +50,13 @@ static ssize_t read_core(const dwexpr_libdw_target *target, uint64_t address, ui
     return elf ? read_segments(elf, bias, address, bytes, size) : 0;
 }
 
-int dwexpr_libdw_read_memory(const dwexpr_libdw_target *target, uint64_t address, uint8_t *bytes, size_t size)
+uint32_t dwexpr_libdw_read_memory(const dwexpr_libdw_target *target, uint64_t address, uint8_t *bytes, size_t size)
 {
     while (size) {
         const ssize_t count = target->core ? read_core(target, address, bytes, size)
                                            : pread(target->file, bytes, size, (off_t)address);
         if (count <= 0)
-            return 1;
+            return DWEXPR_LIBDW_NOT_READABLE;
         address += (size_t)count;
         bytes += count;
         size -= (size_t)count;

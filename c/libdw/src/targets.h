@@ -35,11 +35,11 @@ struct dwexpr_libdw_sets {
 /* Reads the sets of a thread that libdwfl keeps stopped, or that a core dump has. */
 void dwexpr_libdw_read_sets(const dwexpr_libdw_target *target, pid_t thread, struct dwexpr_libdw_sets *sets);
 /* The address of an offset in a module's thread-local storage, of the thread with these sets and a thread pointer. */
-int dwexpr_libdw_find_block(const dwexpr_libdw_frame *frame, const struct dwexpr_libdw_sets *sets, Dwfl_Module *module,
-                            uint64_t pointer, uint64_t offset, uint64_t *address);
+uint32_t dwexpr_libdw_find_block(const dwexpr_libdw_frame *frame, const struct dwexpr_libdw_sets *sets,
+                                 Dwfl_Module *module, uint64_t pointer, uint64_t offset, uint64_t *address);
 /* Whether there may be code at an address: not if no memory is there, or if it can't be executed. */
 int dwexpr_libdw_may_be_code(const dwexpr_libdw_target *target, uint64_t address);
-int dwexpr_libdw_read_memory(const dwexpr_libdw_target *target, uint64_t address, uint8_t *bytes, size_t size);
+uint32_t dwexpr_libdw_read_memory(const dwexpr_libdw_target *target, uint64_t address, uint8_t *bytes, size_t size);
 
 #pragma GCC visibility pop
 

@@ -97,8 +97,8 @@ static int is_current(struct reader *reader, uint64_t vector, uint64_t number)
 
 /* The block of a module that was loaded at the start is at a distance from the thread pointer. Other blocks are in the
  * thread's vector once the thread has used them. */
-static int find_library_block(const dwexpr_libdw_frame *frame, size_t word, Dwfl_Module *module, uint64_t pointer,
-                              uint64_t offset, uint64_t *address)
+static uint32_t find_library_block(const dwexpr_libdw_frame *frame, size_t word, Dwfl_Module *module, uint64_t pointer,
+                                   uint64_t offset, uint64_t *address)
 {
     struct reader reader = {frame, word, 0};
     const uint64_t none = reader.word == 4 ? 0xffffffff : UINT64_MAX;
@@ -106,7 +106,7 @@ static int find_library_block(const dwexpr_libdw_frame *frame, size_t word, Dwfl
     const uint64_t distance = map ? word_at(&reader, map + offset_of(&reader, "_thread_db_link_map_l_tls_offset")) : 0;
     uint64_t number, vector, block;
     if (!map || reader.failed) /* GCOVR_EXCL_BR_LINE: the list can be read */
-        return 1;
+        return DWEXPR_LIBDW_NOT_READABLE;
     if (distance && distance != none) {
         *address = pointer - distance + offset;
         return 0;
@@ -116,8 +116,10 @@ static int find_library_block(const dwexpr_libdw_frame *frame, size_t word, Dwfl
     block = word_at(&reader, vector + 2 * reader.word * number);
     *address = block + offset;
     /* an odd one isn't there yet */
-    return !number || !block || block % 2 || !is_current(&reader, vector, number) ||
-           reader.failed; /* GCOVR_EXCL_BR_LINE: it is current if it can be read */
+    if (!number || !block || block % 2 || !is_current(&reader, vector, number) ||
+        reader.failed) /* GCOVR_EXCL_BR_LINE: it is current if it can be read */
+        return DWEXPR_LIBDW_NOT_READABLE;
+    return 0;
 }
 
 /* The program's own block ends at the thread pointer, and begins as its segment is aligned. */
@@ -137,8 +139,8 @@ static Dwarf_Addr program_of(const struct dwexpr_libdw_sets *sets, size_t word)
     return 0;
 }
 
-int dwexpr_libdw_find_block(const dwexpr_libdw_frame *frame, const struct dwexpr_libdw_sets *sets, Dwfl_Module *module,
-                            uint64_t pointer, uint64_t offset, uint64_t *address)
+uint32_t dwexpr_libdw_find_block(const dwexpr_libdw_frame *frame, const struct dwexpr_libdw_sets *sets,
+                                 Dwfl_Module *module, uint64_t pointer, uint64_t offset, uint64_t *address)
 {
     Dwarf_Addr program;
     GElf_Phdr segment;
@@ -146,7 +148,7 @@ int dwexpr_libdw_find_block(const dwexpr_libdw_frame *frame, const struct dwexpr
     const size_t word = word_of(dwfl_module_getelf(module, &bias));
     /* GCC 12 writes an address for an offset in split debug information of version 5 */
     if (!dwexpr_libdw_find_segment(module, PT_TLS, &segment, &bias) || offset >= segment.p_memsz)
-        return 1;
+        return DWEXPR_LIBDW_NOT_READABLE;
     program = program_of(sets, word);
     if (!program || dwfl_addrmodule(frame->source.dwfl, program) != module)
         return find_library_block(frame, word, module, pointer, offset, address);

@@ -55,6 +55,7 @@ class Types(Unit):
             ("size none", array(int32, more, span(0, count=4))),
             ("size none", array(int32, more)),
             ("size none", array(int32, more, bit_stride=64)),
+            ("size none", array(self.byte, span(0, count=2**64 - 1), bit_stride=1)),
             ("size none", array(array(int32, many, bit_stride=8), many)),
             ("size none", array(array(int32, many), many)),
             # no bound, as in C; the last index but not the first
@@ -71,6 +72,7 @@ class Types(Unit):
             ("size none; at 1,1 88 16", array(self.short, span(0, 1, byte_stride=9), span(0, 2), ordering=0)),
             ("size none; at 0 none", array(int32, span(0, count=4, byte_stride=NO_NUMBER))),
             ("size none; at 0 none", array(int32, span(0, count=4), byte_stride=NO_NUMBER)),
+            ("size none; at 0 none", array(int32, span(0, count=4), ordering=NO_NUMBER)),
             # too many dimensions, a child that is no dimension, bad types of elements
             ("size none; at 0 none", array(self.byte, *(span(0, count=1) for _ in range(65)))),
             ("size none; at 0 none", array(self.byte, span(NO_NUMBER, 3))),

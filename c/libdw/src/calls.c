@@ -16,44 +16,48 @@ static int is_tail_call(Dwarf_Die *site)
 }
 
 /* Goes to the next call site of a function, in its blocks and in what is inlined into it; to the next tail call if
- * `has_left`. Gives back whether there is one. */
-static int next_call_site(struct dwexpr_libdw_walk *walk, int has_left, Dwarf_Die *site)
+ * `has_left`. Returns what dwexpr_libdw_next_entry does. */
+static uint32_t next_call_site(struct dwexpr_libdw_walk *walk, int has_left, Dwarf_Die *site)
 {
     int enters = walk->path.length == walk->floor; /* where it began */
-    while (dwexpr_libdw_next_entry(walk, enters)) {
+    uint32_t code;
+    while (!(code = dwexpr_libdw_next_entry(walk, enters))) {
         Dwarf_Die *entry = dwexpr_libdw_here(walk);
         const int tag = dwarf_tag(entry);
         if ((tag == DW_TAG_call_site || tag == DW_TAG_GNU_call_site) && (!has_left || is_tail_call(entry))) {
             *site = *entry;
-            return 1;
+            break;
         }
         enters = tag == DW_TAG_lexical_block || tag == DW_TAG_inlined_subroutine || tag == DW_TAG_try_block ||
                  tag == DW_TAG_catch_block;
     }
-    return 0;
+    return code;
 }
 
-/* Finds the call site that led to a frame, which is in its caller. Gives back whether there is one. */
-static int find_call_site(dwexpr_libdw_frame *frame, Dwarf_Die *site)
+/* Finds the call site that led to a frame, which is in its caller. Returns likewise. */
+static uint32_t find_call_site(dwexpr_libdw_frame *frame, Dwarf_Die *site)
 {
     dwexpr_libdw_frame *caller = frame->source.caller;
     struct dwexpr_libdw_walk walk;
+    uint32_t code;
     int found = 0;
     if (!caller)
-        return 0;
+        return DWEXPR_LIBDW_NO_PART;
     dwexpr_libdw_find_place(frame);
     dwexpr_libdw_find_place(caller);
     if (!frame->place.function.addr || !caller->place.function.addr)
-        return 0;
-    dwexpr_libdw_begin_walk(&walk, &caller->place.function);
-    while (!found && next_call_site(&walk, 0, site)) {
+        return DWEXPR_LIBDW_NO_PART;
+    code = dwexpr_libdw_begin_walk(&walk, &caller->place.function);
+    while (!code && !found) {
         Dwarf_Attribute attribute;
         Dwarf_Addr address;
-        found = !dwarf_formaddr(attribute_of(site, DW_AT_call_return_pc, DW_AT_low_pc, &attribute), &address) &&
+        code = next_call_site(&walk, 0, site);
+        found = !code &&
+                !dwarf_formaddr(attribute_of(site, DW_AT_call_return_pc, DW_AT_low_pc, &attribute), &address) &&
                 address == caller->place.address + 1;
     }
     free(walk.path.items);
-    return found;
+    return code;
 }
 
 /* ---- which function a call site names */
@@ -129,11 +133,13 @@ static int find_tail_call(dwexpr_libdw_frame *between, const dwexpr_libdw_frame 
 {
     struct dwexpr_libdw_walk walk;
     int count = 0;
-    dwexpr_libdw_begin_walk(&walk, &between->place.function);
-    while (next_call_site(&walk, 1, site))
-        count++;
+    uint32_t code = dwexpr_libdw_begin_walk(&walk, &between->place.function);
+    while (!code) {
+        code = next_call_site(&walk, 1, site);
+        count += !code;
+    }
     free(walk.path.items);
-    if (walk.path.code) /* GCOVR_EXCL_BR_LINE: no memory */
+    if (code == DWEXPR_LIBDW_NO_MEMORY) /* GCOVR_EXCL_BR_LINE: no memory */
         return -1; /* GCOVR_EXCL_LINE: no memory */
     return count == 1 ? is_named(site, between, called, address) : -1;
 }
@@ -157,8 +163,8 @@ static int may_call_itself(dwexpr_libdw_frame *frame)
     if (functions)
         functions[0] = *frame;
     for (at = 0; at < count && !found; at++) {
-        dwexpr_libdw_begin_walk(&walk, &functions[at].place.function);
-        while (!found && next_call_site(&walk, 1, &site)) {
+        uint32_t code = dwexpr_libdw_begin_walk(&walk, &functions[at].place.function);
+        while (!found && !code && !(code = next_call_site(&walk, 1, &site))) {
             next = &functions[count];
             if (is_named(&site, &functions[at], &functions[0], &address) || count == MOST_FUNCTIONS)
                 found = 1;
@@ -171,7 +177,7 @@ static int may_call_itself(dwexpr_libdw_frame *frame)
             }
         }
         free(walk.path.items);
-        found |= walk.path.code != 0;
+        found |= code == DWEXPR_LIBDW_NO_MEMORY;
     }
     free(functions);
     frame->is_checked = 1;
@@ -194,8 +200,8 @@ static int is_passed_in(dwexpr_text wanted, const Dwarf_Block *place, dwexpr_enc
            second.kind == DWEXPR_OP_REGISTER && first.register_number == second.register_number;
 }
 
-/* Finds the attribute of the value that a call site passes. */
-static int find_passed(struct dwexpr_libdw_question *question, Dwarf_Attribute *value)
+/* Finds the attribute of the value that a call site passes. Returns 0 or DWEXPR_LIBDW_NO_PART. */
+static uint32_t find_passed(struct dwexpr_libdw_question *question, Dwarf_Attribute *value)
 {
     Dwarf_Die parameter;
     int more;
@@ -209,14 +215,16 @@ static int find_passed(struct dwexpr_libdw_question *question, Dwarf_Attribute *
                                        origin.addr == question->entry.addr /* GCOVR_EXCL_BR_LINE: GCC before 11 */
                                  : !dwarf_formblock(dwarf_attr(&parameter, DW_AT_location, &attribute), &block) &&
                                        is_passed_in(question->place, &block, question->encoding))
-            return dwarf_attr(&parameter, is_old ? DW_AT_GNU_call_site_value : DW_AT_call_value, value) != NULL;
+            return dwarf_attr(&parameter, is_old ? DW_AT_GNU_call_site_value : DW_AT_call_value, value)
+                       ? 0
+                       : DWEXPR_LIBDW_NO_PART;
     }
-    return 0;
+    return DWEXPR_LIBDW_NO_PART;
 }
 
 /* The caller called another function, at `address`, which left for this one by tail calls, each of them the only one of
  * its function. Asks for what the last one passed. Its own values are those that it had on entry. */
-static int ask_between(struct dwexpr_libdw_question *question, uint64_t address, Dwarf_Attribute *value)
+static uint32_t ask_between(struct dwexpr_libdw_question *question, uint64_t address, Dwarf_Attribute *value)
 {
     int steps, is_called = 0;
     question->asked = &question->between;
@@ -224,24 +232,26 @@ static int ask_between(struct dwexpr_libdw_question *question, uint64_t address,
         is_called = enter(question->frame->source.caller, address, &question->between)
                         ? find_tail_call(&question->between, question->frame, &question->site, &address)
                         : -1;
-    return is_called > 0 && find_passed(question, value);
+    return is_called > 0 ? find_passed(question, value) : DWEXPR_LIBDW_NO_PART;
 }
 
-int dwexpr_libdw_ask(struct dwexpr_libdw_question *question, Dwarf_Attribute *value)
+uint32_t dwexpr_libdw_ask(struct dwexpr_libdw_question *question, Dwarf_Attribute *value)
 {
     dwexpr_libdw_frame *caller = question->asked = question->frame->source.caller;
     uint64_t address;
     int is_called;
-    if (!find_call_site(question->frame, &question->site) || may_call_itself(question->frame))
-        return 0;
+    const uint32_t code = find_call_site(question->frame, &question->site);
+    if (code || may_call_itself(question->frame))
+        return code ? code : DWEXPR_LIBDW_NO_PART;
     is_called = is_named(&question->site, caller, question->frame, &address);
     if (is_called >= 0)
         return is_called ? find_passed(question, value) : ask_between(question, address, value);
     question->waits_for_target = 1;
-    return attribute_of(&question->site, DW_AT_call_target, DW_AT_GNU_call_site_target, value) != NULL;
+    return attribute_of(&question->site, DW_AT_call_target, DW_AT_GNU_call_site_target, value) ? 0
+                                                                                               : DWEXPR_LIBDW_NO_PART;
 }
 
-int dwexpr_libdw_ask_target(struct dwexpr_libdw_question *question, uint64_t address, Dwarf_Attribute *value)
+uint32_t dwexpr_libdw_ask_target(struct dwexpr_libdw_question *question, uint64_t address, Dwarf_Attribute *value)
 {
     question->waits_for_target = 0;
     return dwexpr_libdw_entry_of(question->frame) == address ? find_passed(question, value)

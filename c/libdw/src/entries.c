@@ -3,11 +3,11 @@
 
 /* ---- a way without recursion */
 
-void dwexpr_libdw_begin_walk(struct dwexpr_libdw_walk *walk, const Dwarf_Die *first)
+uint32_t dwexpr_libdw_begin_walk(struct dwexpr_libdw_walk *walk, const Dwarf_Die *first)
 {
     memset(walk, 0, sizeof *walk);
     walk->floor = 1;
-    dwexpr_libdw_add(&walk->path, first, sizeof *first);
+    return dwexpr_libdw_add(&walk->path, first, sizeof *first);
 }
 
 Dwarf_Die *dwexpr_libdw_here(const struct dwexpr_libdw_walk *walk)
@@ -15,17 +15,17 @@ Dwarf_Die *dwexpr_libdw_here(const struct dwexpr_libdw_walk *walk)
     return (Dwarf_Die *)walk->path.items + walk->path.length - 1;
 }
 
-int dwexpr_libdw_next_entry(struct dwexpr_libdw_walk *walk, int enters)
+uint32_t dwexpr_libdw_next_entry(struct dwexpr_libdw_walk *walk, int enters)
 {
     Dwarf_Die child;
-    if (!walk->path.code && enters && dwarf_child(dwexpr_libdw_here(walk), &child) == 0)
-        return !dwexpr_libdw_add(&walk->path, &child, sizeof child);
-    for (; !walk->path.code && walk->path.length > walk->floor; walk->path.length--) {
+    if (enters && dwarf_child(dwexpr_libdw_here(walk), &child) == 0)
+        return dwexpr_libdw_add(&walk->path, &child, sizeof child);
+    for (; walk->path.length > walk->floor; walk->path.length--) {
         Dwarf_Die *entry = dwexpr_libdw_here(walk);
         if (dwarf_siblingof(entry, entry) == 0)
-            return 1;
+            return 0;
     }
-    return 0;
+    return DWEXPR_LIBDW_NO_PART;
 }
 
 Dwarf_Die dwexpr_libdw_function_around(const Dwarf_Die *first, const Dwarf_Die *entry)

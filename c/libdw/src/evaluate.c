@@ -282,13 +282,14 @@ static uint32_t refused(const struct job *job, uint32_t why)
 
 /* ---- values on entry */
 
-/* Begins the job that evaluates an attribute for a question of the top job, if it is found. */
-static uint32_t ask(struct job **top, int is_found, Dwarf_Attribute *attribute)
+/* Begins the job that evaluates the attribute for a question of the top job, which a call with this code found. */
+static uint32_t ask(struct job **top, uint32_t code, Dwarf_Attribute *attribute)
 {
     const struct job *job = *top;
     const struct dwexpr_libdw_given given = {.frame = job->question.asked, .left = job->given.left};
     dwexpr_libdw_text expression;
-    uint32_t code = is_found ? expression_in(given.frame, attribute, &expression) : DWEXPR_LIBDW_NO_NUMBER;
+    if (!code)
+        code = expression_in(given.frame, attribute, &expression);
     if (!code)
         code = begin(top, &given, &expression);
     return *top == job ? refused(job, code) : code;
@@ -382,8 +383,10 @@ static uint32_t answer(struct job **top)
         job->question.entry.addr = NULL;
         return ask(top, dwexpr_libdw_ask(&job->question, &attribute), &attribute);
     case DWEXPR_WANTS_PARAMETER:
-        return ask(top, find_entry(unit, DW_OP_GNU_parameter_ref, asked->number, &job->question.entry) &&
-                            dwexpr_libdw_ask(&job->question, &attribute), &attribute);
+        why = find_entry(unit, DW_OP_GNU_parameter_ref, asked->number, &job->question.entry)
+                  ? dwexpr_libdw_ask(&job->question, &attribute)
+                  : DWEXPR_LIBDW_FAILED;
+        return ask(top, why, &attribute);
     default: break; /* a base type */
     }
     return why ? refused(job, why) : resume(job);

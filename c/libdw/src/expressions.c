@@ -3,23 +3,23 @@
 
 uint32_t dwexpr_libdw_add(struct dwexpr_libdw_list *list, const void *item, size_t size)
 {
-    if (!list->code && list->length == list->room) {
+    if (list->length == list->room) {
         void *more = realloc(list->items, (2 * list->room + 8) * size);
-        list->code = more ? 0 : DWEXPR_LIBDW_NO_MEMORY;
-        list->items = more ? more : list->items;
+        if (!more)
+            return DWEXPR_LIBDW_NO_MEMORY;
+        list->items = more;
         list->room = 2 * list->room + 8;
     }
-    if (!list->code)
-        memcpy((char *)list->items + list->length++ * size, item, size);
-    return list->code;
+    memcpy((char *)list->items + list->length++ * size, item, size);
+    return 0;
 }
 
-void *dwexpr_libdw_give(const struct dwexpr_libdw_list *list, size_t *count)
+void *dwexpr_libdw_give(uint32_t code, const struct dwexpr_libdw_list *list, size_t *count)
 {
-    if (list->code)
+    if (code)
         free(list->items);
-    *count = list->code ? 0 : list->length;
-    return list->code ? NULL : list->items;
+    *count = code ? 0 : list->length;
+    return code ? NULL : list->items;
 }
 
 /* What stands before the bytes of each item in a list of memory. */

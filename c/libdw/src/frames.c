@@ -80,11 +80,11 @@ static int has_code(int tag)
  * functions which don't have the address. */
 static uint32_t find_scopes(Dwarf_Die *unit, Dwarf_Addr address, struct dwexpr_libdw_walk *walk)
 {
+    uint32_t code = dwexpr_libdw_begin_walk(walk, unit);
     int times;
-    dwexpr_libdw_begin_walk(walk, unit);
-    for (times = 0; times < 2 && walk->floor == 1; times++) {
+    for (times = 0; times < 2 && walk->floor == 1 && code != DWEXPR_LIBDW_NO_MEMORY; times++) {
         int enters = 1;
-        while (dwexpr_libdw_next_entry(walk, enters)) {
+        while (!(code = dwexpr_libdw_next_entry(walk, enters))) {
             Dwarf_Die *entry = dwexpr_libdw_here(walk);
             const int tag = dwarf_tag(entry), is_inside = walk->floor > 1;
             enters = (is_inside ? has_code(tag) : tag == DW_TAG_subprogram) && dwarf_haspc(entry, address) > 0;
@@ -98,7 +98,7 @@ static uint32_t find_scopes(Dwarf_Die *unit, Dwarf_Addr address, struct dwexpr_l
         }
     }
     walk->path.length = walk->floor;
-    return walk->path.code;
+    return code == DWEXPR_LIBDW_NO_PART ? 0 : code;
 }
 
 /* ---- the place of a frame */
@@ -242,17 +242,18 @@ uint32_t dwexpr_libdw_locate(dwexpr_libdw_frame *frame, dwexpr_libdw_place *plac
 uint32_t dwexpr_libdw_scopes(dwexpr_libdw_frame *frame, Dwarf_Die **scopes, size_t *count)
 {
     struct dwexpr_libdw_walk walk;
-    struct dwexpr_libdw_list found = {.code = dwexpr_libdw_find_place(frame)};
-    if (!found.code && !frame->place.unit.addr)
-        found.code = DWEXPR_LIBDW_NO_UNIT;
-    if (!found.code) {
-        found.code = find_scopes(&frame->place.unit, frame->place.address, &walk);
-        for (; !found.code && walk.path.length; walk.path.length--)
-            dwexpr_libdw_add(&found, dwexpr_libdw_here(&walk), sizeof **scopes);
+    struct dwexpr_libdw_list found = {.length = 0};
+    uint32_t code = dwexpr_libdw_find_place(frame);
+    if (!code && !frame->place.unit.addr)
+        code = DWEXPR_LIBDW_NO_UNIT;
+    if (!code) {
+        code = find_scopes(&frame->place.unit, frame->place.address, &walk);
+        for (; !code && walk.path.length; walk.path.length--)
+            code = dwexpr_libdw_add(&found, dwexpr_libdw_here(&walk), sizeof **scopes);
         free(walk.path.items);
     }
-    *scopes = dwexpr_libdw_give(&found, count);
-    return found.code;
+    *scopes = dwexpr_libdw_give(code, &found, count);
+    return code;
 }
 
 /* ---- variables */
@@ -264,10 +265,10 @@ struct found {
     int is_enclosing;
 };
 
-static void add_entry(struct found *found, const Dwarf_Die *entry)
+static uint32_t add_entry(struct found *found, const Dwarf_Die *entry)
 {
     const dwexpr_libdw_entry added = {*entry, found->level, found->is_enclosing};
-    dwexpr_libdw_add(&found->entries, &added, sizeof added);
+    return dwexpr_libdw_add(&found->entries, &added, sizeof added);
 }
 
 /* Whether a child of a scope is the instance of an entry. */
@@ -286,18 +287,31 @@ static int has_instance(Dwarf_Die *scope, const Dwarf_Die *entry)
 }
 
 /* Adds the variables that stand in an entry. If `scope` isn't NULL, those with an instance there are left out. */
-static void add_variables(struct found *found, Dwarf_Die *parent, Dwarf_Die *scope)
+static uint32_t add_variables(struct found *found, Dwarf_Die *parent, Dwarf_Die *scope)
 {
     Dwarf_Die entry;
+    uint32_t code = 0;
     int more;
-    for (more = dwarf_child(parent, &entry); more == 0; more = dwarf_siblingof(&entry, &entry)) {
+    for (more = dwarf_child(parent, &entry); more == 0 && !code; more = dwarf_siblingof(&entry, &entry)) {
         const int tag = dwarf_tag(&entry);
         if (tag == DW_TAG_common_block && dwarf_tag(parent) != DW_TAG_common_block)
-            add_variables(found, &entry, scope);
+            code = add_variables(found, &entry, scope);
         else if ((tag == DW_TAG_variable || tag == DW_TAG_formal_parameter || tag == DW_TAG_constant) &&
                  !(scope && has_instance(scope, &entry)))
-            add_entry(found, &entry);
+            code = add_entry(found, &entry);
     }
+    return code;
+}
+
+/* Adds the variables of a scope, and what only the entry has of which it is an instance. */
+static uint32_t add_scope(struct found *found, Dwarf_Die *scope)
+{
+    Dwarf_Attribute attribute;
+    Dwarf_Die origin;
+    const uint32_t code = add_variables(found, scope, NULL);
+    return code || !dwarf_formref_die(dwarf_attr(scope, DW_AT_abstract_origin, &attribute), &origin)
+               ? code
+               : add_variables(found, &origin, scope);
 }
 
 uint32_t dwexpr_libdw_variables(dwexpr_libdw_frame *frame, dwexpr_libdw_entry **entries, size_t *count)
@@ -305,24 +319,18 @@ uint32_t dwexpr_libdw_variables(dwexpr_libdw_frame *frame, dwexpr_libdw_entry **
     struct found found = {.level = 0};
     Dwarf_Die *scopes;
     size_t length, function, scope = 0;
-    found.entries.code = dwexpr_libdw_scopes(frame, &scopes, &length);
-    for (function = 0; function < length; function++) {
+    uint32_t code = dwexpr_libdw_scopes(frame, &scopes, &length);
+    for (function = 0; function < length && !code; function++) {
         const int tag = dwarf_tag(&scopes[function]);
         if (tag != DW_TAG_subprogram && tag != DW_TAG_inlined_subroutine)
             continue;
-        add_entry(&found, &scopes[function]);
-        for (; scope <= function; scope++) {
-            Dwarf_Attribute attribute;
-            Dwarf_Die origin;
-            add_variables(&found, &scopes[scope], NULL);
-            /* what only the entry has of which this one is an instance */
-            if (dwarf_formref_die(dwarf_attr(&scopes[scope], DW_AT_abstract_origin, &attribute), &origin))
-                add_variables(&found, &origin, &scopes[scope]);
-        }
+        code = add_entry(&found, &scopes[function]);
+        for (; scope <= function && !code; scope++)
+            code = add_scope(&found, &scopes[scope]);
         found.level++;
         found.is_enclosing |= tag == DW_TAG_subprogram;
     }
     free(scopes);
-    *entries = dwexpr_libdw_give(&found.entries, count);
-    return found.entries.code;
+    *entries = dwexpr_libdw_give(code, &found.entries, count);
+    return code;
 }

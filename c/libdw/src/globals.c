@@ -3,48 +3,53 @@
 
 /* A search through units. */
 struct search {
-    /* looks at the entry where a walk is, and gives back whether to look at its children too */
-    int (*visit)(struct search *search, const struct dwexpr_libdw_walk *walk);
+    /* looks at the entry where a walk is, and says whether to look at its children too */
+    uint32_t (*visit)(struct search *search, const struct dwexpr_libdw_walk *walk, int *enters);
     const char *name;              /* of a variable; NULL for all */
     struct dwexpr_libdw_walk type; /* the path to a declaration of a type */
-    struct dwexpr_libdw_list found; /* its code ends the search */
+    struct dwexpr_libdw_list found;
 };
 
-static void search_unit(struct search *search, const Dwarf_Die *unit)
+static uint32_t search_unit(struct search *search, const Dwarf_Die *unit)
 {
     struct dwexpr_libdw_walk walk;
     int enters = 1;
-    dwexpr_libdw_begin_walk(&walk, unit);
-    while (!search->found.code && dwexpr_libdw_next_entry(&walk, enters))
-        enters = search->visit(search, &walk);
+    uint32_t code = dwexpr_libdw_begin_walk(&walk, unit);
+    while (!code && !(code = dwexpr_libdw_next_entry(&walk, enters)))
+        code = search->visit(search, &walk, &enters);
     free(walk.path.items);
-    search->found.code |= walk.path.code;
+    return code == DWEXPR_LIBDW_NO_PART ? 0 : code;
 }
 
-static void search_module(struct search *search, Dwfl_Module *module, const void *passed)
+static uint32_t search_module(struct search *search, Dwfl_Module *module, const void *passed)
 {
     Dwarf_Die *unit = NULL;
     Dwarf_Addr bias;
-    while (!search->found.code && (unit = dwfl_module_nextcu(module, unit, &bias)) != NULL) {
+    uint32_t code = 0;
+    while (!code && (unit = dwfl_module_nextcu(module, unit, &bias)) != NULL) {
         const Dwarf_Die entries = dwexpr_libdw_entries(unit);
         if (entries.addr != passed)
-            search_unit(search, &entries);
+            code = search_unit(search, &entries);
     }
+    return code;
 }
 
 /* Searches the units of all modules, the frame's unit first, and then its module. */
-static void search_modules(struct search *search, dwexpr_libdw_frame *frame)
+static uint32_t search_modules(struct search *search, dwexpr_libdw_frame *frame)
 {
     const Dwarf_Die *first = &frame->place.unit;
     Dwfl_Module *module;
     ptrdiff_t at = 0;
+    uint32_t code = 0;
     dwexpr_libdw_find_place(frame);
     if (first->addr)
-        search_unit(search, first);
-    search_module(search, frame->place.module, first->addr);
-    while (!search->found.code && (at = dwexpr_libdw_next_module(frame->source.dwfl, at, &module)) > 0)
+        code = search_unit(search, first);
+    if (!code)
+        code = search_module(search, frame->place.module, first->addr);
+    while (!code && (at = dwexpr_libdw_next_module(frame->source.dwfl, at, &module)) > 0)
         if (module != frame->place.module)
-            search_module(search, module, first->addr);
+            code = search_module(search, module, first->addr);
+    return code;
 }
 
 const char *dwexpr_libdw_linkage_name(Dwarf_Die *entry)
@@ -65,26 +70,24 @@ static int has_name(Dwarf_Die *entry, const char *name)
 /* ---- variables of modules */
 
 /* Adds what stands in a unit, its namespaces, modules and common blocks. */
-static int visit_global(struct search *search, const struct dwexpr_libdw_walk *walk)
+static uint32_t visit_global(struct search *search, const struct dwexpr_libdw_walk *walk, int *enters)
 {
     Dwarf_Die *entry = dwexpr_libdw_here(walk);
     const int tag = dwarf_tag(entry);
+    *enters = tag == DW_TAG_namespace || tag == DW_TAG_module;
     if ((tag == DW_TAG_constant || (tag == DW_TAG_variable && !dwarf_hasattr(entry, DW_AT_declaration))) &&
         (!search->name || has_name(entry, search->name)))
-        dwexpr_libdw_add(&search->found, entry, sizeof *entry);
-    return tag == DW_TAG_namespace || tag == DW_TAG_module;
+        return dwexpr_libdw_add(&search->found, entry, sizeof *entry);
+    return 0;
 }
 
 uint32_t dwexpr_libdw_globals(dwexpr_libdw_frame *frame, Dwfl_Module *module, const char *name, Dwarf_Die **globals,
                               size_t *count)
 {
     struct search search = {.visit = visit_global, .name = name};
-    if (module)
-        search_module(&search, module, NULL);
-    else
-        search_modules(&search, frame);
-    *globals = dwexpr_libdw_give(&search.found, count);
-    return search.found.code;
+    const uint32_t code = module ? search_module(&search, module, NULL) : search_modules(&search, frame);
+    *globals = dwexpr_libdw_give(code, &search.found, count);
+    return code;
 }
 
 /* ---- types that are only declared */
@@ -100,14 +103,15 @@ static int is_same(Dwarf_Die *first, Dwarf_Die *second)
 }
 
 /* Looks for a definition in namespaces and classes of the same names. */
-static int visit_type(struct search *search, const struct dwexpr_libdw_walk *walk)
+static uint32_t visit_type(struct search *search, const struct dwexpr_libdw_walk *walk, int *enters)
 {
     const size_t depth = walk->path.length, wanted = search->type.path.length;
     Dwarf_Die *entry = dwexpr_libdw_here(walk);
     const int same = depth <= wanted && is_same(entry, (Dwarf_Die *)search->type.path.items + depth - 1);
+    *enters = same && depth < wanted;
     if (same && depth == wanted && !dwarf_hasattr(entry, DW_AT_declaration))
-        dwexpr_libdw_add(&search->found, entry, sizeof *entry);
-    return same && depth < wanted;
+        return dwexpr_libdw_add(&search->found, entry, sizeof *entry);
+    return 0;
 }
 
 /* ---- definitions that may differ */
@@ -194,6 +198,17 @@ static int are_alike(Dwarf_Die *first, Dwarf_Die *second, struct comparison *com
     return alike;
 }
 
+/* Finds the path to a type from its unit. */
+static uint32_t find_path(struct dwexpr_libdw_walk *walk, const Dwarf_Die *unit, const Dwarf_Die *type)
+{
+    uint32_t code = dwexpr_libdw_begin_walk(walk, unit);
+    /* GCOVR_EXCL_BR_START: no memory; a type is in its unit */
+    while (!code && dwexpr_libdw_here(walk)->addr != type->addr)
+    /* GCOVR_EXCL_BR_STOP */
+        code = dwexpr_libdw_next_entry(walk, 1);
+    return code == DWEXPR_LIBDW_NO_PART ? DWEXPR_LIBDW_NOT_DEFINED : code; /* GCOVR_EXCL_BR_LINE: likewise */
+}
+
 uint32_t dwexpr_libdw_definition(dwexpr_libdw_frame *frame, Dwarf_Die *type, Dwarf_Die *definition)
 {
     struct search search = {.visit = visit_type};
@@ -203,22 +218,16 @@ uint32_t dwexpr_libdw_definition(dwexpr_libdw_frame *frame, Dwarf_Die *type, Dwa
     size_t count, i;
     uint32_t code;
     dwarf_diecu(type, &unit, NULL, NULL);
-    dwexpr_libdw_begin_walk(&search.type, &unit);
-    /* GCOVR_EXCL_BR_START: no memory; a type is in its unit */
-    while (!search.type.path.code && dwexpr_libdw_here(&search.type)->addr != type->addr &&
-    /* GCOVR_EXCL_BR_STOP */
-           dwexpr_libdw_next_entry(&search.type, 1))
-        ;
-    search.found.code = search.type.path.code;
-    search_unit(&search, &unit);
-    if (!search.found.length) {
+    code = find_path(&search.type, &unit, type);
+    if (!code) /* GCOVR_EXCL_BR_LINE: no memory */
+        code = search_unit(&search, &unit);
+    if (!code && !search.found.length) { /* GCOVR_EXCL_BR_LINE: no memory */
         dwexpr_libdw_find_module(frame, type->cu, &module, &bias);
-        search_module(&search, module, unit.addr);
+        code = search_module(&search, module, unit.addr);
     }
-    if (!search.found.length)
-        search_modules(&search, frame);
-    found = dwexpr_libdw_give(&search.found, &count);
-    code = search.found.code;
+    if (!code && !search.found.length) /* GCOVR_EXCL_BR_LINE: no memory */
+        code = search_modules(&search, frame);
+    found = dwexpr_libdw_give(code, &search.found, &count);
     if (!code && !count) /* GCOVR_EXCL_BR_LINE: no memory */
         code = DWEXPR_LIBDW_NOT_DEFINED;
     for (i = 1; i < count && !code; i++) {

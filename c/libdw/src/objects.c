@@ -322,16 +322,16 @@ uint32_t dwexpr_libdw_object_number(dwexpr_libdw_object *object, uint64_t *numbe
     return is_number(kind) ? read_number(object, is_signed(kind), number) : DWEXPR_LIBDW_NO_NUMBER;
 }
 
-/* Whether an entry stands below another one. */
-static int stands_below(const Dwarf_Die *entry, const Dwarf_Die *parent)
+/* Finds an entry below another one. Returns 0; DWEXPR_LIBDW_NO_PART if it stands elsewhere; or
+ * DWEXPR_LIBDW_NO_MEMORY. */
+static uint32_t find_below(const Dwarf_Die *entry, const Dwarf_Die *parent)
 {
     struct dwexpr_libdw_walk walk;
-    int found = 0;
-    dwexpr_libdw_begin_walk(&walk, parent);
-    while (!found && dwexpr_libdw_next_entry(&walk, 1))
-        found = dwexpr_libdw_here(&walk)->addr == entry->addr;
+    uint32_t code = dwexpr_libdw_begin_walk(&walk, parent);
+    while (!code && !(code = dwexpr_libdw_next_entry(&walk, 1)) && dwexpr_libdw_here(&walk)->addr != entry->addr)
+        ;
     free(walk.path.items);
-    return found;
+    return code;
 }
 
 uint32_t dwexpr_libdw_discriminant(const dwexpr_libdw_object *object, Dwarf_Die *member, uint64_t *number)
@@ -339,8 +339,11 @@ uint32_t dwexpr_libdw_discriminant(const dwexpr_libdw_object *object, Dwarf_Die 
     dwexpr_libdw_object part = {.has_data = 1};
     Dwarf_Attribute attribute;
     Dwarf_Word size, kind, begin;
-    while (object && !stands_below(member, &object->type))
+    uint32_t code = 0;
+    while (object && (code = find_below(member, &object->type)) == DWEXPR_LIBDW_NO_PART)
         object = object->whole;
+    if (code == DWEXPR_LIBDW_NO_MEMORY) /* GCOVR_EXCL_BR_LINE: no memory */
+        return code; /* GCOVR_EXCL_LINE: no memory */
     if (!object || object->place.value || dwexpr_libdw_type(member, &part.type) ||
         !dwexpr_libdw_is_scalar(&part.type, &size, &kind) || dwarf_hasattr(member, DW_AT_bit_size) ||
         dwarf_hasattr(member, DW_AT_data_bit_offset) ||
@@ -534,30 +537,30 @@ uint32_t dwexpr_libdw_object_variant(dwexpr_libdw_object *object, Dwarf_Die *par
 struct search {
     const char *name;
     unsigned left;
-    uint32_t code;
     dwexpr_libdw_object *found;
 };
 
 /* Looks for a member among the children of an entry: also in members without names, in bases, and in the variant that
  * is there. */
-static void find_member(dwexpr_libdw_object *object, Dwarf_Die *parent, struct search *search)
+static uint32_t find_member(dwexpr_libdw_object *object, Dwarf_Die *parent, struct search *search)
 {
     Dwarf_Die child, variant;
+    uint32_t code = DWEXPR_LIBDW_NO_PART;
     int more;
-    for (more = dwarf_child(parent, &child); more == 0 && search->code == DWEXPR_LIBDW_NO_PART && search->left;
+    for (more = dwarf_child(parent, &child); more == 0 && code == DWEXPR_LIBDW_NO_PART && search->left;
          more = dwarf_siblingof(&child, &child)) {
         const int tag = dwarf_tag(&child);
         const char *name = tag == DW_TAG_member ? dwarf_diename(&child) : NULL;
         dwexpr_libdw_object *part = NULL, *last;
         search->left--;
         if (tag == DW_TAG_variant_part && !dwexpr_libdw_object_variant(object, &child, &variant))
-            find_member(object, &variant, search);
+            code = find_member(object, &variant, search);
         else if (name && !strcmp(name, search->name))
-            search->code = dwexpr_libdw_object_member(object, &child, &search->found);
+            code = dwexpr_libdw_object_member(object, &child, &search->found);
         else if (tag == DW_TAG_inheritance || (tag == DW_TAG_member && !name))
             dwexpr_libdw_object_member(object, &child, &part);
         if (part)
-            find_member(part, &part->type, search);
+            code = find_member(part, &part->type, search);
         /* what is found within a part keeps it */
         for (last = search->found; part && last && last->owned; last = last->owned)
             ;
@@ -566,14 +569,15 @@ static void find_member(dwexpr_libdw_object *object, Dwarf_Die *parent, struct s
         else
             dwexpr_libdw_object_free(part);
     }
+    return code;
 }
 
 uint32_t dwexpr_libdw_object_named(dwexpr_libdw_object *object, const char *name, dwexpr_libdw_object **part)
 {
-    struct search search = {.name = name, .left = 10000, .code = DWEXPR_LIBDW_NO_PART};
-    find_member(object, &object->type, &search);
+    struct search search = {.name = name, .left = 10000};
+    const uint32_t code = find_member(object, &object->type, &search);
     *part = search.found;
-    return search.code;
+    return code;
 }
 
 /* ---- elements */

@@ -1,5 +1,5 @@
-/* What the sources of libdwexpr_libdw.a share. What may fail returns 0 or a code, as the calls do. An int is an answer: 1
- * for yes. */
+/* What the sources of libdwexpr_libdw.a share. What may fail returns 0 or a code, as the calls do. An int that is given
+ * back is an answer: 1 for yes. */
 #ifndef DWEXPR_LIBDW_PRIVATE_H
 #define DWEXPR_LIBDW_PRIVATE_H
 
@@ -38,14 +38,12 @@ void dwexpr_libdw_bytes_of(uint64_t number, size_t size, int big_endian, uint8_t
 struct dwexpr_libdw_list {
     void *items;
     size_t length, room;
-    uint32_t code; /* why the list isn't complete, else 0 */
 };
 
-/* Adds a copy of an item to a list whose code is 0. Answers the code, which is DWEXPR_LIBDW_NO_MEMORY if there is none
- * for the item. */
+/* Adds a copy of an item to a list. Returns 0 or DWEXPR_LIBDW_NO_MEMORY. */
 uint32_t dwexpr_libdw_add(struct dwexpr_libdw_list *list, const void *item, size_t size);
-/* The items for a client, who frees them, and how many there are; NULL and 0 if the code isn't 0. */
-void *dwexpr_libdw_give(const struct dwexpr_libdw_list *list, size_t *count);
+/* The items for a client, who frees them, and how many there are. If there is a code, NULL and 0, and frees them. */
+void *dwexpr_libdw_give(uint32_t code, const struct dwexpr_libdw_list *list, size_t *count);
 
 /* Takes so many bytes of memory, and puts them to a list. Gives back NULL if there is none. */
 uint8_t *dwexpr_libdw_take(void **list, size_t size);
@@ -62,15 +60,17 @@ uint32_t dwexpr_libdw_entry_expression(Dwarf_Attribute *attribute, Dwarf_Addr en
 /* A walk through entries, each before its children, without recursion. It ends, since libdw goes to no entry that
  * stands before. Free `path.items` after it. */
 struct dwexpr_libdw_walk {
-    struct dwexpr_libdw_list path; /* the entries from where it began to where it is; its code ends the walk */
+    struct dwexpr_libdw_list path; /* the entries from where it began to where it is */
     size_t floor; /* the walk ends when it would leave the first so many entries of the path */
 };
 
-void dwexpr_libdw_begin_walk(struct dwexpr_libdw_walk *walk, const Dwarf_Die *first);
+/* Begins a walk. Returns 0 or DWEXPR_LIBDW_NO_MEMORY. */
+uint32_t dwexpr_libdw_begin_walk(struct dwexpr_libdw_walk *walk, const Dwarf_Die *first);
 /* The entry where a walk is. */
 Dwarf_Die *dwexpr_libdw_here(const struct dwexpr_libdw_walk *walk);
-/* Goes to the next entry, into the children if `enters`. Gives back whether there is one. */
-int dwexpr_libdw_next_entry(struct dwexpr_libdw_walk *walk, int enters);
+/* Goes to the next entry, into the children if `enters`. Returns 0; DWEXPR_LIBDW_NO_PART if there is none; or
+ * DWEXPR_LIBDW_NO_MEMORY. */
+uint32_t dwexpr_libdw_next_entry(struct dwexpr_libdw_walk *walk, int enters);
 /* The innermost function in which an entry stands, of `first` and those in it. Its `addr` is NULL if there is none. */
 Dwarf_Die dwexpr_libdw_function_around(const Dwarf_Die *first, const Dwarf_Die *entry);
 
@@ -248,10 +248,10 @@ struct dwexpr_libdw_question {
 };
 
 /* Finds the attribute whose number, in the frame that is asked, is the answer: or what the call site called, if it
- * `waits_for_target`. Gives back whether there is one. */
-int dwexpr_libdw_ask(struct dwexpr_libdw_question *question, Dwarf_Attribute *value);
-/* Goes on if that is known. Gives back likewise. */
-int dwexpr_libdw_ask_target(struct dwexpr_libdw_question *question, uint64_t address, Dwarf_Attribute *value);
+ * `waits_for_target`. Returns 0; DWEXPR_LIBDW_NO_PART if there is none; or DWEXPR_LIBDW_NO_MEMORY. */
+uint32_t dwexpr_libdw_ask(struct dwexpr_libdw_question *question, Dwarf_Attribute *value);
+/* Goes on if that is known. Returns as above. */
+uint32_t dwexpr_libdw_ask_target(struct dwexpr_libdw_question *question, uint64_t address, Dwarf_Attribute *value);
 
 #pragma GCC visibility pop
 

@@ -15,7 +15,7 @@ import subprocess
 import sys
 
 LIBDW = pathlib.Path(__file__).resolve().parents[1]
-SOURCES = [*LIBDW.glob("src/*.c"), LIBDW.parent / "src/run.c"]
+SOURCES = [*LIBDW.glob("src/*/*.c"), LIBDW.parent / "src/run.c"]
 # At most so many lines of 100 are marked.
 MOST_MARKED = 2
 

@@ -1,15 +1,7 @@
 /* How types lay out the bits of objects: their sizes, the elements of arrays, and the places of members. */
-#include "private.h"
+#include "values.h"
 
-/* ---- numbers of attributes */
-
-uint32_t dwexpr_libdw_number_or(const struct dwexpr_libdw_given *given, Dwarf_Die *entry, unsigned name, uint64_t other,
-                                uint64_t *number)
-{
-    Dwarf_Attribute attribute;
-    *number = other;
-    return dwarf_attr_integrate(entry, name, &attribute) ? dwexpr_libdw_number_with(given, &attribute, number) : 0;
-}
+/* ---- numbers */
 
 /* Multiplies two numbers. The product isn't known if it has more than 64 bits. */
 static uint32_t multiply(uint64_t number, uint64_t factor, uint64_t *product)

@@ -1,5 +1,5 @@
 /* The call that led to a frame, and what it passed (DWARF 5, section 3.4). */
-#include "private.h"
+#include "values.h"
 
 /* An attribute of a call site, which has another name before version 5. */
 static Dwarf_Attribute *attribute_of(Dwarf_Die *site, unsigned name, unsigned old_name, Dwarf_Attribute *attribute)

@@ -1,5 +1,5 @@
 /* Where a thread has the thread-local storage of a module, on x86. */
-#include "targets.h"
+#include "values.h"
 
 /* ---- what glibc keeps of other modules */
 
@@ -72,7 +72,7 @@ int dwexpr_libdw_is_bound(const dwexpr_libdw_frame *frame, const struct dwexpr_l
     return number && content == (relocation->kind == HAS_MODULE ? number : distance);
 }
 
-#if _ELFUTILS_PREREQ(0, 188) /* stacks.c */
+#if _ELFUTILS_PREREQ(0, 188) /* targets */
 
 /* Whether a thread's vector of blocks is up to date for a module: no older than when the module got its number. */
 static int is_current(struct reader *reader, uint64_t vector, uint64_t number)
@@ -129,27 +129,15 @@ static uint64_t program_block(const GElf_Phdr *segment, uint64_t pointer)
     return pointer - first - (segment->p_memsz - first + align - 1) / align * align;
 }
 
-/* An address in the program itself: that of its headers, by the auxiliary vector. 0 if it isn't known. */
-static Dwarf_Addr program_of(const struct dwexpr_libdw_sets *sets, size_t word)
+uint32_t dwexpr_libdw_find_block(const dwexpr_libdw_frame *frame, Dwarf_Addr program, Dwfl_Module *module,
+                                 uint64_t pointer, uint64_t offset, uint64_t *address)
 {
-    size_t at;
-    for (at = 0; at + 2 * word <= sets->lengths[VECTOR]; at += 2 * word)
-        if (dwexpr_libdw_number_of(sets->bytes[VECTOR] + at, word, 0) == AT_PHDR)
-            return dwexpr_libdw_number_of(sets->bytes[VECTOR] + at + word, word, 0);
-    return 0;
-}
-
-uint32_t dwexpr_libdw_find_block(const dwexpr_libdw_frame *frame, const struct dwexpr_libdw_sets *sets,
-                                 Dwfl_Module *module, uint64_t pointer, uint64_t offset, uint64_t *address)
-{
-    Dwarf_Addr program;
     GElf_Phdr segment;
     Dwarf_Addr bias;
     const size_t word = word_of(dwfl_module_getelf(module, &bias));
     /* GCC 12 writes an address for an offset in split debug information of version 5 */
     if (!dwexpr_libdw_find_segment(module, PT_TLS, &segment, &bias) || offset >= segment.p_memsz)
         return DWEXPR_LIBDW_NOT_READABLE;
-    program = program_of(sets, word);
     if (!program || dwfl_addrmodule(frame->source.dwfl, program) != module)
         return find_library_block(frame, word, module, pointer, offset, address);
     *address = program_block(&segment, pointer) + offset;

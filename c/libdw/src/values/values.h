@@ -1,7 +1,8 @@
-/* What the sources of libdwexpr_libdw.a share. What may fail returns 0 or a code, as the calls do. An int that is given
- * back is an answer: 1 for yes. */
-#ifndef DWEXPR_LIBDW_PRIVATE_H
-#define DWEXPR_LIBDW_PRIVATE_H
+/* What the sources share that find values from a frame over callbacks. Those of processes and core dumps, whose frames
+ * are such frames, share targets.h. What may fail returns 0 or a code, as the calls do. An int that is given back is an
+ * answer: 1 for yes. */
+#ifndef DWEXPR_LIBDW_VALUES_H
+#define DWEXPR_LIBDW_VALUES_H
 
 #include <dwarf.h>
 #include <elfutils/version.h>
@@ -26,13 +27,13 @@ struct dwexpr_libdw_frame {
     int is_checked, may_call_itself; /* by tail calls */
 };
 
-/* ---- encode.c */
+/* ---- encoding.c */
 
 /* Bytes as a number, and a number as bytes, in a byte order. Of more than 8 bytes only the lowest 8 count. */
 uint64_t dwexpr_libdw_number_of(const uint8_t *bytes, size_t size, int big_endian);
 void dwexpr_libdw_bytes_of(uint64_t number, size_t size, int big_endian, uint8_t *bytes);
 
-/* ---- expressions.c */
+/* ---- lists.c */
 
 /* Items of one size, in memory that grows. */
 struct dwexpr_libdw_list {
@@ -50,6 +51,8 @@ uint8_t *dwexpr_libdw_take(void **list, size_t size);
 void dwexpr_libdw_free_memory(void *first);
 /* Puts the memory of an expression to a list. */
 void dwexpr_libdw_keep(dwexpr_libdw_text *expression, void **list);
+
+/* ---- expressions.c */
 
 /* The expression of an attribute on entry of a function: GCC's lists may have a range there that has no addresses (a
  * location view), for the time before the first instruction. Returns what dwexpr_libdw_expression does. */
@@ -74,6 +77,8 @@ uint32_t dwexpr_libdw_next_entry(struct dwexpr_libdw_walk *walk, int enters);
 /* The innermost function in which an entry stands, of `first` and those in it. Its `addr` is NULL if there is none. */
 Dwarf_Die dwexpr_libdw_function_around(const Dwarf_Die *first, const Dwarf_Die *entry);
 
+/* ---- types.c */
+
 /* Whether types of a tag lay out nothing: typedefs and qualifiers. */
 int dwexpr_libdw_is_left_out(int tag);
 /* The type of which a type is a range, or the type itself. */
@@ -84,8 +89,10 @@ int dwexpr_libdw_has_in_base(Dwarf_Die *type, unsigned name, Dwarf_Attribute *at
 /* Finds the bytes of a number and its encoding, as a type says them, or that of which it is a range. Gives back whether
  * both are known. */
 int dwexpr_libdw_is_scalar(Dwarf_Die *type, Dwarf_Word *size, Dwarf_Word *encoding);
+/* Whether types of a tag are pointers or references, which `dwexpr_libdw_object_follow` follows. */
+int dwexpr_libdw_is_pointer(int tag);
 
-/* ---- evaluate.c */
+/* ---- evaluation.c */
 
 /* What an expression is for. A frame base's can't ask for the frame base; a CFA's can only ask for registers and
  * memory. */
@@ -102,16 +109,74 @@ struct dwexpr_libdw_given {
     uint32_t *left; /* how many more expressions may be evaluated; NULL for as many as the frame's limit says */
 };
 
+/* Evaluates an expression, and all for which it waits. Its memory goes to the value, or is freed. */
+uint32_t dwexpr_libdw_evaluate_with(const struct dwexpr_libdw_given *given, dwexpr_libdw_text *expression,
+                                    dwexpr_libdw_value **value);
+
+/* ---- answers.c */
+
+uint32_t dwexpr_libdw_register_number(const dwexpr_libdw_value *value, uint32_t number, uint64_t *content);
+/* The number in memory for which a value's evaluation asks. */
+uint32_t dwexpr_libdw_memory_number(const dwexpr_libdw_value *value, uint64_t *content);
+/* Frees the value that an evaluation with this code gave, if any, and gives its number: of one that has a number, or
+ * that is in a register. */
+uint32_t dwexpr_libdw_take_number(uint32_t code, dwexpr_libdw_value *value, uint64_t *number);
+/* The expression of an attribute at a frame's address, in the addresses of the attribute's module. */
+uint32_t dwexpr_libdw_expression_in(dwexpr_libdw_frame *frame, Dwarf_Attribute *attribute,
+                                    dwexpr_libdw_text *expression);
+/* The value that an attribute's expression comes to, and its number. */
+uint32_t dwexpr_libdw_attribute_value(const struct dwexpr_libdw_given *given, Dwarf_Attribute *attribute,
+                                      dwexpr_libdw_value **value);
+uint32_t dwexpr_libdw_attribute_number(const struct dwexpr_libdw_given *given, Dwarf_Attribute *attribute,
+                                       uint64_t *number);
+uint32_t dwexpr_libdw_find_base(dwexpr_libdw_frame *frame, uint32_t *left);
+uint32_t dwexpr_libdw_find_cfa(dwexpr_libdw_frame *frame, uint32_t *left);
+/* Finds the entry that an operation names. Gives back whether there is one. */
+int dwexpr_libdw_find_entry(Dwarf_CU *unit, uint8_t opcode, uint64_t offset, Dwarf_Die *entry);
+/* The text of the entry that a value's evaluation calls, by its index in the table. */
+uint32_t dwexpr_libdw_find_location(dwexpr_libdw_frame *frame, dwexpr_libdw_value *value, size_t *index);
+uint32_t dwexpr_libdw_find_tls(const dwexpr_libdw_frame *frame, Dwfl_Module *module, uint64_t offset,
+                               uint64_t *address);
+/* The address or the constant that a value's evaluation names by its index. */
+uint32_t dwexpr_libdw_find_indexed(const dwexpr_libdw_value *value, uint64_t *address);
+/* Whether an expression has no operations but of these kinds. */
+int dwexpr_libdw_has_only(dwexpr_text text, dwexpr_encoding encoding, const uint8_t *kinds, size_t count);
+/* Finds the integer type that stands for a base type in the evaluation of a value. */
+uint32_t dwexpr_libdw_find_base_type(const dwexpr_libdw_value *value, uint64_t offset, uint32_t *value_type);
+
+/* ---- constants.c */
+
+/* Makes a value of one piece, at an address. */
+uint32_t dwexpr_libdw_make_value(const dwexpr_libdw_frame *frame, Dwarf_CU *unit, uint64_t address,
+                                 dwexpr_libdw_value **value);
+/* Makes the one piece of a value what DW_AT_const_value says: a string, a block, or a number, which has more than 64
+ * bits if its type has more. */
+uint32_t dwexpr_libdw_hold_constant(dwexpr_libdw_value *value, Dwarf_Die *variable, Dwarf_Attribute *attribute);
+
+/* ---- names.c */
+
+/* The name that an entry has for the linker, or else in its source. */
+const char *dwexpr_libdw_linkage_name(Dwarf_Die *entry);
+/* The value of a variable that has no location: if it is declared, that of its definition, and else of another name of
+ * a variable, that of its symbol. */
+uint32_t dwexpr_libdw_named(dwexpr_libdw_frame *frame, Dwarf_Die *variable, dwexpr_libdw_value **value);
+/* Replaces the value that a variable has at its own place if the dynamic linker bound its name to another one, as when
+ * the program has a copy of it. `code` is that of its own value. */
+uint32_t dwexpr_libdw_replaced(dwexpr_libdw_frame *frame, Dwarf_Die *variable, uint32_t code,
+                               dwexpr_libdw_value **value);
+
+/* ---- numbers.c */
+
 uint32_t dwexpr_libdw_number_with(const struct dwexpr_libdw_given *given, Dwarf_Attribute *attribute, uint64_t *number);
+/* The number of an attribute, or `other` if the entry has none. */
+uint32_t dwexpr_libdw_number_or(const struct dwexpr_libdw_given *given, Dwarf_Die *entry, unsigned name, uint64_t other,
+                                uint64_t *number);
 /* The bytes of a string, by DW_AT_string_length, which is the place of a number. */
 uint32_t dwexpr_libdw_string_length(const struct dwexpr_libdw_given *given, Dwarf_Die *type,
                                     Dwarf_Attribute *attribute, uint64_t *bytes);
 
 /* ---- layouts.c */
 
-/* The number of an attribute, or `other` if the entry has none. */
-uint32_t dwexpr_libdw_number_or(const struct dwexpr_libdw_given *given, Dwarf_Die *entry, unsigned name, uint64_t other,
-                                uint64_t *number);
 uint64_t dwexpr_libdw_whole_bytes(uint64_t bits);
 /* Goes from a type to the one that says how it is laid out: without typedefs and qualifiers, and not a declaration. */
 uint32_t dwexpr_libdw_find_layout(dwexpr_libdw_frame *frame, Dwarf_Die *type);
@@ -141,11 +206,57 @@ uint32_t dwexpr_libdw_member_begin(const struct dwexpr_libdw_given *given, Dwarf
 
 /* ---- objects.c */
 
+/* Where bits are: in a value, or at an address if that is NULL. */
+struct dwexpr_libdw_bit_place {
+    const dwexpr_libdw_value *value;
+    uint64_t address, begin; /* the first bit there: at an address, below 8 */
+};
+
+struct dwexpr_libdw_object {
+    dwexpr_libdw_frame *frame;
+    const dwexpr_libdw_object *whole; /* which has it as a part, or NULL */
+    dwexpr_libdw_object *owned;       /* the whole, if it is freed with this part */
+    dwexpr_libdw_value *value;        /* that is freed with it */
+    Dwarf_Die type;
+    struct dwexpr_libdw_bit_place place, data;
+    uint64_t bits; /* if the member or the array says them; else 0, and the type does */
+    struct dwexpr_libdw_shape shape;
+    int has_data, has_shape; /* they are read once */
+};
+
+/* What numbers are computed with for an object: it, and its address if it begins at one. */
+struct dwexpr_libdw_given dwexpr_libdw_given_of(const dwexpr_libdw_object *object);
+void dwexpr_libdw_move(struct dwexpr_libdw_bit_place *place, int64_t bits);
+/* Makes an object of a type, at a place that is a number of bits away from another one. */
+uint32_t dwexpr_libdw_make_object(dwexpr_libdw_frame *frame, const Dwarf_Die *type,
+                                  const struct dwexpr_libdw_bit_place *from, int64_t bits,
+                                  dwexpr_libdw_object **object);
+/* Makes an object with a value, which it keeps or frees. */
+uint32_t dwexpr_libdw_make_with(dwexpr_libdw_frame *frame, const Dwarf_Die *type, dwexpr_libdw_value *value,
+                                dwexpr_libdw_object **object);
+/* Finds where the data of an object is: at it, or where DW_AT_data_location says. */
+uint32_t dwexpr_libdw_find_data(dwexpr_libdw_object *object);
+
+/* How many bits an object has, and whether they are in big endian: as its unit's are, unless DW_AT_endianity says
+ * otherwise of a number. */
+struct dwexpr_libdw_bits {
+    uint64_t count;
+    int of_unit, of_number;
+};
+
+uint32_t dwexpr_libdw_find_bits(dwexpr_libdw_object *object, struct dwexpr_libdw_bits *bits);
+
+/* ---- texts.c */
+
+/* What the numbers of a type are, DW_ATE_*; 0 if it has none. */
+Dwarf_Word dwexpr_libdw_kind_of(Dwarf_Die *type);
+/* Whether numbers of a kind have a sign. */
+int dwexpr_libdw_is_signed(Dwarf_Word kind);
 /* The number of a member, in whole bytes at a place that is a number, of an object or of one that has it as a part: a
  * discriminant in Ada. */
 uint32_t dwexpr_libdw_discriminant(const dwexpr_libdw_object *object, Dwarf_Die *member, uint64_t *number);
 
-/* ---- read.c */
+/* ---- reading.c */
 
 /* Reads bits of a value that has `size` bits, from one on, as dwexpr_libdw_read does. */
 uint32_t dwexpr_libdw_read_part(const dwexpr_libdw_frame *frame, const dwexpr_libdw_value *value, uint64_t size,
@@ -160,14 +271,8 @@ void dwexpr_libdw_take_bits(uint8_t *to, const uint8_t *from, uint64_t begin, ui
 
 /* The unit with the entries: that of the split debug information if the unit is split. */
 Dwarf_Die dwexpr_libdw_entries(Dwarf_Die *unit);
-/* The module at a place, 0 for the first one. Gives back the next place; 0 or less at the end, and then no module. */
-ptrdiff_t dwexpr_libdw_next_module(Dwfl *dwfl, ptrdiff_t at, Dwfl_Module **module);
-
 /* Finds the module, the unit and the function of a frame, the same each time. */
 uint32_t dwexpr_libdw_find_place(dwexpr_libdw_frame *frame);
-/* Finds the module of a unit, and what is added to its addresses: those of the frame if the unit is NULL. Returns 0 or
- * DWEXPR_LIBDW_FAILED. */
-uint32_t dwexpr_libdw_find_module(dwexpr_libdw_frame *frame, Dwarf_CU *unit, Dwfl_Module **module, Dwarf_Addr *bias);
 void dwexpr_libdw_begin_frame(dwexpr_libdw_frame *frame, const dwexpr_libdw_source *source);
 /* The address where a function is entered: the begin of its first range. Gives back whether there is one. */
 int dwexpr_libdw_has_entry(Dwarf_Die *function, Dwarf_Addr *address);
@@ -177,6 +282,23 @@ uint64_t dwexpr_libdw_entry_of(const dwexpr_libdw_frame *frame);
 /* Finds the call frame information at a frame's address, of .eh_frame or else of .debug_frame. Returns 0, and then
  * `state` is to be freed, or DWEXPR_LIBDW_NO_UNIT. */
 uint32_t dwexpr_libdw_find_state(const dwexpr_libdw_frame *frame, Dwarf_Frame **state, Elf **elf);
+
+/* ---- scopes.c */
+
+/* The scopes at an address, from the unit to the innermost: a walk that has gone there. It has one scope if no function
+ * has the address. Most functions stand in namespaces and classes; the second time those are found too that stand in
+ * functions which don't have the address. */
+uint32_t dwexpr_libdw_find_scopes(Dwarf_Die *unit, Dwarf_Addr address, struct dwexpr_libdw_walk *walk);
+
+/* ---- modules.c */
+
+/* The module at a place, 0 for the first one. Gives back the next place; 0 or less at the end, and then no module. */
+ptrdiff_t dwexpr_libdw_next_module(Dwfl *dwfl, ptrdiff_t at, Dwfl_Module **module);
+/* Finds the module of a unit, and what is added to its addresses: those of the frame if the unit is NULL. Returns 0 or
+ * DWEXPR_LIBDW_FAILED. */
+uint32_t dwexpr_libdw_find_module(dwexpr_libdw_frame *frame, Dwarf_CU *unit, Dwfl_Module **module, Dwarf_Addr *bias);
+/* The first segment of a type that a module has, and the bias of its address. Gives back whether there is one. */
+int dwexpr_libdw_find_segment(Dwfl_Module *module, unsigned type, GElf_Phdr *segment, Dwarf_Addr *bias);
 
 /* ---- symbols.c */
 
@@ -218,19 +340,32 @@ uint32_t dwexpr_libdw_resolve(dwexpr_libdw_frame *frame, Dwfl_Module *module, co
 uint32_t dwexpr_libdw_look_up(dwexpr_libdw_frame *frame, const struct dwexpr_libdw_relocation *relocation,
                               struct dwexpr_libdw_symbol *symbol);
 
-/* The first segment of a type that a module has, and the bias of its address. Gives back whether there is one. */
-int dwexpr_libdw_find_segment(Dwfl_Module *module, unsigned type, GElf_Phdr *segment, Dwarf_Addr *bias);
-
 /* ---- thread_local.c */
 
 /* Whether the dynamic linker bound a relocation to this symbol in thread-local storage. */
 int dwexpr_libdw_is_bound(const dwexpr_libdw_frame *frame, const struct dwexpr_libdw_relocation *relocation,
                           const struct dwexpr_libdw_symbol *symbol);
+/* The address of an offset in a module's thread-local storage, of the thread with this pointer. `program` is an address
+ * in the program, or 0 if it isn't known. */
+uint32_t dwexpr_libdw_find_block(const dwexpr_libdw_frame *frame, Dwarf_Addr program, Dwfl_Module *module,
+                                 uint64_t pointer, uint64_t offset, uint64_t *address);
 
 /* ---- globals.c */
 
-/* The name that an entry has for the linker, or else in its source. */
-const char *dwexpr_libdw_linkage_name(Dwarf_Die *entry);
+/* A search through units. */
+struct dwexpr_libdw_search {
+    /* looks at the entry where a walk is, and says whether to look at its children too */
+    uint32_t (*visit)(struct dwexpr_libdw_search *search, const struct dwexpr_libdw_walk *walk, int *enters);
+    const char *name;              /* of a variable; NULL for all */
+    struct dwexpr_libdw_walk type; /* the path to a declaration of a type */
+    struct dwexpr_libdw_list found;
+};
+
+uint32_t dwexpr_libdw_search_unit(struct dwexpr_libdw_search *search, const Dwarf_Die *unit);
+/* Searches the units of a module, but one that was passed. */
+uint32_t dwexpr_libdw_search_module(struct dwexpr_libdw_search *search, Dwfl_Module *module, const void *passed);
+/* Searches the units of all modules, the frame's unit first, and then its module. */
+uint32_t dwexpr_libdw_search_modules(struct dwexpr_libdw_search *search, dwexpr_libdw_frame *frame);
 
 /* ---- calls.c */
 

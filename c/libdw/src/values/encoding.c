@@ -1,6 +1,6 @@
 /* Numbers as bytes, and the bytes of libdw's operations. */
 #include "dwexpr_names.h"
-#include "private.h"
+#include "values.h"
 
 uint64_t dwexpr_libdw_number_of(const uint8_t *bytes, size_t size, int big_endian)
 {

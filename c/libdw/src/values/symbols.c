@@ -1,17 +1,6 @@
 /* Symbols, and which one a module's name stands for: the dynamic linker wrote it into the process (System V ABI,
  * "Relocation"). */
-#include "private.h"
-
-int dwexpr_libdw_find_segment(Dwfl_Module *module, unsigned type, GElf_Phdr *segment, Dwarf_Addr *bias)
-{
-    Elf *elf = dwfl_module_getelf(module, bias);
-    size_t count = 0, i;
-    elf_getphdrnum(elf, &count);
-    segment->p_type = PT_NULL;
-    for (i = 0; i < count && segment->p_type != type; i++)
-        gelf_getphdr(elf, (int)i, segment);
-    return segment->p_type == type;
-}
+#include "values.h"
 
 /* ---- symbols */
 

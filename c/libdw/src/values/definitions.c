@@ -1,96 +1,5 @@
-/* What is looked for by its name: variables of modules, and the definitions of types that are only declared. */
-#include "private.h"
-
-/* A search through units. */
-struct search {
-    /* looks at the entry where a walk is, and says whether to look at its children too */
-    uint32_t (*visit)(struct search *search, const struct dwexpr_libdw_walk *walk, int *enters);
-    const char *name;              /* of a variable; NULL for all */
-    struct dwexpr_libdw_walk type; /* the path to a declaration of a type */
-    struct dwexpr_libdw_list found;
-};
-
-static uint32_t search_unit(struct search *search, const Dwarf_Die *unit)
-{
-    struct dwexpr_libdw_walk walk;
-    int enters = 1;
-    uint32_t code = dwexpr_libdw_begin_walk(&walk, unit);
-    while (!code && !(code = dwexpr_libdw_next_entry(&walk, enters)))
-        code = search->visit(search, &walk, &enters);
-    free(walk.path.items);
-    return code == DWEXPR_LIBDW_NO_PART ? 0 : code;
-}
-
-static uint32_t search_module(struct search *search, Dwfl_Module *module, const void *passed)
-{
-    Dwarf_Die *unit = NULL;
-    Dwarf_Addr bias;
-    uint32_t code = 0;
-    while (!code && (unit = dwfl_module_nextcu(module, unit, &bias)) != NULL) {
-        const Dwarf_Die entries = dwexpr_libdw_entries(unit);
-        if (entries.addr != passed)
-            code = search_unit(search, &entries);
-    }
-    return code;
-}
-
-/* Searches the units of all modules, the frame's unit first, and then its module. */
-static uint32_t search_modules(struct search *search, dwexpr_libdw_frame *frame)
-{
-    const Dwarf_Die *first = &frame->place.unit;
-    Dwfl_Module *module;
-    ptrdiff_t at = 0;
-    uint32_t code = 0;
-    dwexpr_libdw_find_place(frame);
-    if (first->addr)
-        code = search_unit(search, first);
-    if (!code)
-        code = search_module(search, frame->place.module, first->addr);
-    while (!code && (at = dwexpr_libdw_next_module(frame->source.dwfl, at, &module)) > 0)
-        if (module != frame->place.module)
-            code = search_module(search, module, first->addr);
-    return code;
-}
-
-const char *dwexpr_libdw_linkage_name(Dwarf_Die *entry)
-{
-    Dwarf_Attribute attribute;
-    const char *name = dwarf_formstring(dwarf_attr_integrate(entry, DW_AT_linkage_name, &attribute));
-    if (!name)
-        name = dwarf_formstring(dwarf_attr_integrate(entry, DW_AT_MIPS_linkage_name, &attribute));
-    return name ? name : dwarf_diename(entry);
-}
-
-static int has_name(Dwarf_Die *entry, const char *name)
-{
-    const char *plain = dwarf_diename(entry), *linkage = dwexpr_libdw_linkage_name(entry);
-    return (plain && !strcmp(plain, name)) || (linkage && !strcmp(linkage, name));
-}
-
-/* ---- variables of modules */
-
-/* Adds what stands in a unit, its namespaces, modules and common blocks. */
-static uint32_t visit_global(struct search *search, const struct dwexpr_libdw_walk *walk, int *enters)
-{
-    Dwarf_Die *entry = dwexpr_libdw_here(walk);
-    const int tag = dwarf_tag(entry);
-    *enters = tag == DW_TAG_namespace || tag == DW_TAG_module;
-    if ((tag == DW_TAG_constant || (tag == DW_TAG_variable && !dwarf_hasattr(entry, DW_AT_declaration))) &&
-        (!search->name || has_name(entry, search->name)))
-        return dwexpr_libdw_add(&search->found, entry, sizeof *entry);
-    return 0;
-}
-
-uint32_t dwexpr_libdw_globals(dwexpr_libdw_frame *frame, Dwfl_Module *module, const char *name, Dwarf_Die **globals,
-                              size_t *count)
-{
-    struct search search = {.visit = visit_global, .name = name};
-    const uint32_t code = module ? search_module(&search, module, NULL) : search_modules(&search, frame);
-    *globals = dwexpr_libdw_give(code, &search.found, count);
-    return code;
-}
-
-/* ---- types that are only declared */
+/* The definitions of types that are only declared. */
+#include "values.h"
 
 /* Whether two entries have the same name, and are of the same kind. */
 static int is_same(Dwarf_Die *first, Dwarf_Die *second)
@@ -103,7 +12,7 @@ static int is_same(Dwarf_Die *first, Dwarf_Die *second)
 }
 
 /* Looks for a definition in namespaces and classes of the same names. */
-static uint32_t visit_type(struct search *search, const struct dwexpr_libdw_walk *walk, int *enters)
+static uint32_t visit_type(struct dwexpr_libdw_search *search, const struct dwexpr_libdw_walk *walk, int *enters)
 {
     const size_t depth = walk->path.length, wanted = search->type.path.length;
     Dwarf_Die *entry = dwexpr_libdw_here(walk);
@@ -198,6 +107,8 @@ static int are_alike(Dwarf_Die *first, Dwarf_Die *second, struct comparison *com
     return alike;
 }
 
+/* ---- declarations */
+
 /* Finds the path to a type from its unit. */
 static uint32_t find_path(struct dwexpr_libdw_walk *walk, const Dwarf_Die *unit, const Dwarf_Die *type)
 {
@@ -211,7 +122,7 @@ static uint32_t find_path(struct dwexpr_libdw_walk *walk, const Dwarf_Die *unit,
 
 uint32_t dwexpr_libdw_definition(dwexpr_libdw_frame *frame, Dwarf_Die *type, Dwarf_Die *definition)
 {
-    struct search search = {.visit = visit_type};
+    struct dwexpr_libdw_search search = {.visit = visit_type};
     Dwarf_Die unit, *found;
     Dwfl_Module *module;
     Dwarf_Addr bias;
@@ -220,13 +131,13 @@ uint32_t dwexpr_libdw_definition(dwexpr_libdw_frame *frame, Dwarf_Die *type, Dwa
     dwarf_diecu(type, &unit, NULL, NULL);
     code = find_path(&search.type, &unit, type);
     if (!code) /* GCOVR_EXCL_BR_LINE: no memory */
-        code = search_unit(&search, &unit);
+        code = dwexpr_libdw_search_unit(&search, &unit);
     if (!code && !search.found.length) { /* GCOVR_EXCL_BR_LINE: no memory */
         dwexpr_libdw_find_module(frame, type->cu, &module, &bias);
-        code = search_module(&search, module, unit.addr);
+        code = dwexpr_libdw_search_module(&search, module, unit.addr);
     }
     if (!code && !search.found.length) /* GCOVR_EXCL_BR_LINE: no memory */
-        code = search_modules(&search, frame);
+        code = dwexpr_libdw_search_modules(&search, frame);
     found = dwexpr_libdw_give(code, &search.found, &count);
     if (!code && !count) /* GCOVR_EXCL_BR_LINE: no memory */
         code = DWEXPR_LIBDW_NOT_DEFINED;

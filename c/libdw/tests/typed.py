@@ -55,6 +55,7 @@ class Types(Unit):
             ("size none", array(int32, more, span(0, count=4))),
             ("size none", array(int32, more)),
             ("size none", array(int32, more, bit_stride=64)),
+            ("size none", array(int32, span(0, count=2), more, span(0, count=4))),
             ("size none", array(self.byte, span(0, count=2**64 - 1), bit_stride=1)),
             ("size none", array(array(int32, many, bit_stride=8), many)),
             ("size none", array(array(int32, many), many)),

@@ -1,4 +1,5 @@
 /* Processes and core dumps, and their threads. */
+#define _GNU_SOURCE /* O_CLOEXEC */
 #include "targets.h"
 
 #if _ELFUTILS_PREREQ(0, 188) /* dwfl_frame_reg */

@@ -109,17 +109,6 @@ static int are_alike(Dwarf_Die *first, Dwarf_Die *second, struct comparison *com
 
 /* ---- declarations */
 
-/* Finds the path to a type from its unit. */
-static uint32_t find_path(struct dwexpr_libdw_walk *walk, const Dwarf_Die *unit, const Dwarf_Die *type)
-{
-    uint32_t code = dwexpr_libdw_begin_walk(walk, unit);
-    /* GCOVR_EXCL_BR_START: no memory; a type is in its unit */
-    while (!code && dwexpr_libdw_here(walk)->addr != type->addr)
-    /* GCOVR_EXCL_BR_STOP */
-        code = dwexpr_libdw_next_entry(walk, 1);
-    return code == DWEXPR_LIBDW_NO_PART ? DWEXPR_LIBDW_NOT_DEFINED : code; /* GCOVR_EXCL_BR_LINE: likewise */
-}
-
 uint32_t dwexpr_libdw_definition(dwexpr_libdw_frame *frame, Dwarf_Die *type, Dwarf_Die *definition)
 {
     struct dwexpr_libdw_search search = {.visit = visit_type};
@@ -129,7 +118,7 @@ uint32_t dwexpr_libdw_definition(dwexpr_libdw_frame *frame, Dwarf_Die *type, Dwa
     size_t count, i;
     uint32_t code;
     dwarf_diecu(type, &unit, NULL, NULL);
-    code = find_path(&search.type, &unit, type);
+    code = dwexpr_libdw_walk_to(&search.type, &unit, type);
     if (!code) /* GCOVR_EXCL_BR_LINE: no memory */
         code = dwexpr_libdw_search_unit(&search, &unit);
     if (!code && !search.found.length) { /* GCOVR_EXCL_BR_LINE: no memory */
@@ -139,7 +128,7 @@ uint32_t dwexpr_libdw_definition(dwexpr_libdw_frame *frame, Dwarf_Die *type, Dwa
     if (!code && !search.found.length) /* GCOVR_EXCL_BR_LINE: no memory */
         code = dwexpr_libdw_search_modules(&search, frame);
     found = dwexpr_libdw_give(code, &search.found, &count);
-    if (!code && !count) /* GCOVR_EXCL_BR_LINE: no memory */
+    if (code == DWEXPR_LIBDW_NO_PART || (!code && !count)) /* GCOVR_EXCL_BR_LINE: a type is in its unit; no memory */
         code = DWEXPR_LIBDW_NOT_DEFINED;
     for (i = 1; i < count && !code; i++) {
         struct comparison comparison = {10000, 0};

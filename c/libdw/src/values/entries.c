@@ -26,6 +26,14 @@ uint32_t dwexpr_libdw_next_entry(struct dwexpr_libdw_walk *walk, int enters)
     return DWEXPR_LIBDW_NO_PART;
 }
 
+uint32_t dwexpr_libdw_walk_to(struct dwexpr_libdw_walk *walk, const Dwarf_Die *first, const Dwarf_Die *entry)
+{
+    uint32_t code = dwexpr_libdw_begin_walk(walk, first);
+    while (!code && dwexpr_libdw_here(walk)->addr != entry->addr)
+        code = dwexpr_libdw_next_entry(walk, 1);
+    return code;
+}
+
 Dwarf_Die dwexpr_libdw_function_around(const Dwarf_Die *first, const Dwarf_Die *entry)
 {
     Dwarf_Die here = *first, next, function = {.addr = NULL}, none = function;

@@ -59,9 +59,7 @@ uint32_t dwexpr_libdw_object_number(dwexpr_libdw_object *object, uint64_t *numbe
 static uint32_t find_below(const Dwarf_Die *entry, const Dwarf_Die *parent)
 {
     struct dwexpr_libdw_walk walk;
-    uint32_t code = dwexpr_libdw_begin_walk(&walk, parent);
-    while (!code && !(code = dwexpr_libdw_next_entry(&walk, 1)) && dwexpr_libdw_here(&walk)->addr != entry->addr)
-        ;
+    const uint32_t code = dwexpr_libdw_walk_to(&walk, parent, entry);
     free(walk.path.items);
     return code;
 }

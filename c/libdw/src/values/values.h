@@ -69,6 +69,8 @@ struct dwexpr_libdw_walk {
 
 /* Begins a walk. Returns 0 or DWEXPR_LIBDW_NO_MEMORY. */
 uint32_t dwexpr_libdw_begin_walk(struct dwexpr_libdw_walk *walk, const Dwarf_Die *first);
+/* Begins a walk at an entry and goes to another one below it. Returns what dwexpr_libdw_next_entry does. */
+uint32_t dwexpr_libdw_walk_to(struct dwexpr_libdw_walk *walk, const Dwarf_Die *first, const Dwarf_Die *entry);
 /* The entry where a walk is. */
 Dwarf_Die *dwexpr_libdw_here(const struct dwexpr_libdw_walk *walk);
 /* Goes to the next entry, into the children if `enters`. Returns 0; DWEXPR_LIBDW_NO_PART if there is none; or

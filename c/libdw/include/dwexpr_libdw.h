@@ -147,6 +147,14 @@ void dwexpr_libdw_free_stack(dwexpr_libdw_stack *stack);
 /* A frame of a stack, 0 for the innermost; NULL if there is none. It belongs to the stack. */
 dwexpr_libdw_frame *dwexpr_libdw_frame_at(dwexpr_libdw_stack *stack, size_t index);
 
+/* The variables outside of functions, by their names. They are read from a module when it is searched first. Frames of
+ * one target, or of one Dwfl whose modules stay, may share them. Targets do so by themselves. */
+typedef struct dwexpr_libdw_names dwexpr_libdw_names;
+
+/* Makes them. Returns 0 or DWEXPR_LIBDW_NO_MEMORY. Free them after the frames. */
+uint32_t dwexpr_libdw_make_names(dwexpr_libdw_names **names);
+void dwexpr_libdw_free_names(dwexpr_libdw_names *names);
+
 /* The most bytes of a register. */
 #define DWEXPR_LIBDW_REGISTER_SIZE 64
 
@@ -166,6 +174,7 @@ typedef struct dwexpr_libdw_source {
     /* the address of an offset in a module's thread-local storage */
     int (*find_tls)(void *context, Dwfl_Module *module, uint64_t offset, uint64_t *address);
     void *context;
+    dwexpr_libdw_names *names; /* NULL: each search for a variable by its name reads all entries */
 } dwexpr_libdw_source;
 
 /* Makes a frame. Returns 0 or DWEXPR_LIBDW_NO_MEMORY. Free it by dwexpr_libdw_free_frame. */

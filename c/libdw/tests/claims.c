@@ -17,6 +17,7 @@
 struct subject subject;
 
 static Dwfl *dwfl; /* NULL if the file isn't a program */
+static dwexpr_libdw_names *names; /* of a program; NULL for libraries that are linked */
 static int big_endian;
 static char place[4096]; /* of the claims */
 
@@ -116,7 +117,7 @@ static int read_loaded(void *context, uint64_t address, uint8_t *content, size_t
 static char *make_frames(char *row)
 {
     dwexpr_libdw_source source = {.dwfl = dwfl, .read_register = read_more_registers, .read_memory = read_loaded,
-                                  .context = &big_endian, .is_activation = 1};
+                                  .context = &big_endian, .is_activation = 1, .names = names};
     size_t count = 0, i;
     unsigned long places[8] = {0};
     int stopped[8] = {0}, read;
@@ -220,7 +221,11 @@ static void check_file(const char *path)
         subject.foreign = subject.unit;
         subject.unit = *dwfl_module_nextcu(module, NULL, &bias);
     }
+    if (strstr(path, ".functions"))
+        dwexpr_libdw_make_names(&names);
     check_rows(path, dwfl ? ':' : ' ');
+    dwexpr_libdw_free_names(names);
+    names = NULL;
     dwfl_end(dwfl);
     dwfl = NULL;
     dwarf_end(dwarf);

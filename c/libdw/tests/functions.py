@@ -376,6 +376,8 @@ class Functions(Unit):
     def globals(self):
         """By their names: in the source, and for the linker; in a namespace and a module; constants."""
         self.variable(self.root, "global", "lit0", linkage_name="linked")
+        self.variable(self.root, "same", "lit0", linkage_name="same")
+        self.variable(self.root, None, "lit0", linkage_name="plain")
         self.variable(self.root.add("namespace", name="space"), "in_namespace", "lit0")
         self.variable(self.root.add("module", name="module"), "in_module", "lit0")
         self.variable(self.root, None, "lit0")
@@ -384,7 +386,7 @@ class Functions(Unit):
         self.variable(self.root, "twice", "lit5 stack_value")
         self.variable(self.root, "twice", "lit6 stack_value")
         self.variable(self.root, "lost")
-        names = "global", "linked", "in_namespace", "in_module", "fixed", "lost"
+        names = "global", "linked", "same", "plain", "in_namespace", "in_module", "fixed", "lost"
         self.row([OUTSIDE], *(f"all of {name} is 1" for name in names), "all of no_such is 0", "first of fixed is 1",
                  "first of twice is 5", "first of lost is optimized away", "first of no_such is it is only declared")
 
@@ -401,12 +403,16 @@ class Functions(Unit):
 
 
     def misled(self):
-        """A program whose .debug_aranges names another unit for all code: one that has none of it."""
+        """A program whose .debug_aranges names another unit for all code: one that has the last of it."""
         function = self.function()
         self.variable(function, "here", "lit7 stack_value")
-        self.row([function.begin + 3], "here in 0 is 07000000")
+        self.row([function.begin + 3], "here in 0 is 07000000", "first of both is 1")
+        # a frame's unit is searched first
+        self.variable(self.root, "both", "lit1 stack_value")
+        self.row([FIRST + len(CODE) - 1], "first of both is 2", "all of both is 2")
         sections = self.tree()
-        other = Unit(8, 4, self.version, "le", **self.placed(FIRST + len(CODE), SIZE))
+        other = Unit(8, 4, self.version, "le", **self.placed(FIRST + len(CODE) - SIZE, SIZE))
+        other.root.add("variable", name="both", type=other.base_type(4, 5), location="lit2 stack_value")
         other.abbreviations = self.abbreviations
         second = len(sections[".debug_info"])
         both = other.tree()

@@ -16,6 +16,7 @@ static int add_frame(dwexpr_libdw_stack *stack, struct dwexpr_libdw_stack_frame 
 {
     dwexpr_libdw_source source = dwexpr_libdw_of_stack;
     source.dwfl = stack->target->dwfl;
+    source.names = stack->target->names;
     source.pc = pc;
     source.is_activation = is_activation;
     frame->stack = stack;

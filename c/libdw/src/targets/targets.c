@@ -71,12 +71,16 @@ static uint32_t ended(uint32_t code, dwexpr_libdw_target **target)
 /* Makes a target, with a Dwfl of its own unless `finders` is NULL. */
 static uint32_t make_target(const Dwfl_Callbacks *finders, dwexpr_libdw_target **target)
 {
+    uint32_t code;
     *target = (dwexpr_libdw_target *)calloc(1, sizeof **target);
     if (!*target)
         return DWEXPR_LIBDW_NO_MEMORY;
     (*target)->file = -1;
+    code = dwexpr_libdw_make_names(&(*target)->names);
     (*target)->owned = finders ? dwfl_begin(finders) : NULL;
-    return ended(finders && !(*target)->owned ? DWEXPR_LIBDW_NO_MEMORY : 0, target); /* GCOVR_EXCL_BR_LINE: no memory */
+    if (finders && !(*target)->owned) /* GCOVR_EXCL_BR_LINE: no memory */
+        code = DWEXPR_LIBDW_NO_MEMORY; /* GCOVR_EXCL_LINE: no memory */
+    return ended(code, target);
 }
 
 static uint32_t begin_target(dwexpr_libdw_target *target, Dwfl *dwfl, Elf *core)
@@ -154,6 +158,7 @@ void dwexpr_libdw_close(dwexpr_libdw_target *target)
     if (!target)
         return;
     free(target->threads.items);
+    dwexpr_libdw_free_names(target->names);
     dwfl_end(target->owned);
     elf_end(target->opened);
     if (target->file >= 0)

@@ -20,6 +20,7 @@ struct dwexpr_libdw_target {
     int big_endian;
     size_t word;  /* the bytes of an address */
     unsigned machine;
+    dwexpr_libdw_names *names; /* for its frames */
 };
 
 /* What dwexpr_libdw_target_error says. */

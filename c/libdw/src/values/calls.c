@@ -121,7 +121,7 @@ static int enter(dwexpr_libdw_frame *caller, uint64_t address, dwexpr_libdw_fram
     const dwexpr_libdw_source *given = &caller->source;
     const dwexpr_libdw_source source = {.dwfl = given->dwfl, .pc = address, .is_activation = 1, .caller = caller,
                                         .read_memory = given->read_memory, .find_tls = given->find_tls,
-                                        .context = given->context};
+                                        .context = given->context, .names = given->names};
     dwexpr_libdw_begin_frame(entered, &source);
     return address && !dwexpr_libdw_find_place(entered) && dwexpr_libdw_entry_of(entered) == address;
 }

@@ -11,16 +11,62 @@ static int is_same(Dwarf_Die *first, Dwarf_Die *second)
     return (tag == other || are_classes) && name && wanted && !strcmp(name, wanted);
 }
 
-/* Looks for a definition in namespaces and classes of the same names. */
-static uint32_t visit_type(struct dwexpr_libdw_search *search, const struct dwexpr_libdw_walk *walk, int *enters)
+/* ---- searches */
+
+struct search {
+    struct dwexpr_libdw_walk type;  /* the path to a declaration */
+    struct dwexpr_libdw_list found; /* its definitions */
+};
+
+/* Looks for definitions in namespaces and classes of the same names. */
+static uint32_t search_unit(struct search *search, const Dwarf_Die *unit)
 {
-    const size_t depth = walk->path.length, wanted = search->type.path.length;
-    Dwarf_Die *entry = dwexpr_libdw_here(walk);
-    const int same = depth <= wanted && is_same(entry, (Dwarf_Die *)search->type.path.items + depth - 1);
-    *enters = same && depth < wanted;
-    if (same && depth == wanted && !dwarf_hasattr(entry, DW_AT_declaration))
-        return dwexpr_libdw_add(&search->found, entry, sizeof *entry);
-    return 0;
+    const size_t wanted = search->type.path.length;
+    struct dwexpr_libdw_walk walk;
+    int enters = 1;
+    uint32_t code = dwexpr_libdw_begin_walk(&walk, unit);
+    while (!code && !(code = dwexpr_libdw_next_entry(&walk, enters))) {
+        const size_t depth = walk.path.length;
+        Dwarf_Die *entry = dwexpr_libdw_here(&walk);
+        const int same = depth <= wanted && is_same(entry, (Dwarf_Die *)search->type.path.items + depth - 1);
+        enters = same && depth < wanted;
+        if (same && depth == wanted && !dwarf_hasattr(entry, DW_AT_declaration))
+            code = dwexpr_libdw_add(&search->found, entry, sizeof *entry);
+    }
+    free(walk.path.items);
+    return code == DWEXPR_LIBDW_NO_PART ? 0 : code;
+}
+
+/* Searches the units of a module, but one that was passed. */
+static uint32_t search_module(struct search *search, Dwfl_Module *module, const void *passed)
+{
+    Dwarf_Die *unit = NULL;
+    Dwarf_Addr bias;
+    uint32_t code = 0;
+    while (!code && (unit = dwfl_module_nextcu(module, unit, &bias)) != NULL) {
+        const Dwarf_Die entries = dwexpr_libdw_entries(unit);
+        if (entries.addr != passed)
+            code = search_unit(search, &entries);
+    }
+    return code;
+}
+
+/* Searches the units of all modules, the frame's unit first, and then its module. */
+static uint32_t search_modules(struct search *search, dwexpr_libdw_frame *frame)
+{
+    const Dwarf_Die *first = &frame->place.unit;
+    Dwfl_Module *module;
+    ptrdiff_t at = 0;
+    uint32_t code = 0;
+    dwexpr_libdw_find_place(frame);
+    if (first->addr)
+        code = search_unit(search, first);
+    if (!code) /* GCOVR_EXCL_BR_LINE: no memory */
+        code = search_module(search, frame->place.module, first->addr);
+    while (!code && (at = dwexpr_libdw_next_module(frame->source.dwfl, at, &module)) > 0)
+        if (module != frame->place.module)
+            code = search_module(search, module, first->addr);
+    return code;
 }
 
 /* ---- definitions that may differ */
@@ -111,7 +157,7 @@ static int are_alike(Dwarf_Die *first, Dwarf_Die *second, struct comparison *com
 
 uint32_t dwexpr_libdw_definition(dwexpr_libdw_frame *frame, Dwarf_Die *type, Dwarf_Die *definition)
 {
-    struct dwexpr_libdw_search search = {.visit = visit_type};
+    struct search search = {.found = {.length = 0}};
     Dwarf_Die unit, *found;
     Dwfl_Module *module;
     Dwarf_Addr bias;
@@ -120,13 +166,13 @@ uint32_t dwexpr_libdw_definition(dwexpr_libdw_frame *frame, Dwarf_Die *type, Dwa
     dwarf_diecu(type, &unit, NULL, NULL);
     code = dwexpr_libdw_walk_to(&search.type, &unit, type);
     if (!code) /* GCOVR_EXCL_BR_LINE: no memory */
-        code = dwexpr_libdw_search_unit(&search, &unit);
+        code = search_unit(&search, &unit);
     if (!code && !search.found.length) { /* GCOVR_EXCL_BR_LINE: no memory */
         dwexpr_libdw_find_module(frame, type->cu, &module, &bias);
-        code = dwexpr_libdw_search_module(&search, module, unit.addr);
+        code = search_module(&search, module, unit.addr);
     }
     if (!code && !search.found.length) /* GCOVR_EXCL_BR_LINE: no memory */
-        code = dwexpr_libdw_search_modules(&search, frame);
+        code = search_modules(&search, frame);
     found = dwexpr_libdw_give(code, &search.found, &count);
     if (code == DWEXPR_LIBDW_NO_PART || (!code && !count)) /* GCOVR_EXCL_BR_LINE: a type is in its unit; no memory */
         code = DWEXPR_LIBDW_NOT_DEFINED;

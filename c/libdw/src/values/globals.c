@@ -1,71 +1,194 @@
-/* Variables outside of functions. */
+/* Variables outside of functions, in tables that are read once. */
 #include "values.h"
 
-uint32_t dwexpr_libdw_search_unit(struct dwexpr_libdw_search *search, const Dwarf_Die *unit)
+/* A name of a variable, and the variable's place among those of its table. */
+struct name {
+    const char *text;
+    size_t place;
+};
+
+/* The variables of a module, or of a unit, in the order of their entries. */
+struct table {
+    const void *of;                     /* which module or unit it is */
+    struct dwexpr_libdw_list variables; /* of Dwarf_Die */
+    struct dwexpr_libdw_list names;     /* of name, sorted */
+};
+
+/* ---- tables */
+
+static uint32_t add_name(struct table *table, const char *text)
+{
+    const struct name name = {text, table->variables.length};
+    return dwexpr_libdw_add(&table->names, &name, sizeof name);
+}
+
+/* Adds a variable with its name in the source and, if that is another one, its name for the linker. */
+static uint32_t add_variable(struct table *table, Dwarf_Die *entry)
+{
+    const char *plain = dwarf_diename(entry), *linkage = dwexpr_libdw_linkage_name(entry);
+    uint32_t code = plain ? add_name(table, plain) : 0;
+    if (!code && linkage && (!plain || strcmp(plain, linkage)))
+        code = add_name(table, linkage);
+    return code ? code : dwexpr_libdw_add(&table->variables, entry, sizeof *entry);
+}
+
+/* Adds what stands in a unit, its namespaces and its modules. */
+static uint32_t add_unit(struct table *table, const Dwarf_Die *unit)
 {
     struct dwexpr_libdw_walk walk;
     int enters = 1;
     uint32_t code = dwexpr_libdw_begin_walk(&walk, unit);
-    while (!code && !(code = dwexpr_libdw_next_entry(&walk, enters)))
-        code = search->visit(search, &walk, &enters);
+    while (!code && !(code = dwexpr_libdw_next_entry(&walk, enters))) {
+        Dwarf_Die *entry = dwexpr_libdw_here(&walk);
+        const int tag = dwarf_tag(entry);
+        enters = tag == DW_TAG_namespace || tag == DW_TAG_module;
+        if (tag == DW_TAG_constant || (tag == DW_TAG_variable && !dwarf_hasattr(entry, DW_AT_declaration)))
+            code = add_variable(table, entry);
+    }
     free(walk.path.items);
     return code == DWEXPR_LIBDW_NO_PART ? 0 : code;
 }
 
-uint32_t dwexpr_libdw_search_module(struct dwexpr_libdw_search *search, Dwfl_Module *module, const void *passed)
+static uint32_t add_units(struct table *table, Dwfl_Module *module)
 {
     Dwarf_Die *unit = NULL;
     Dwarf_Addr bias;
     uint32_t code = 0;
     while (!code && (unit = dwfl_module_nextcu(module, unit, &bias)) != NULL) {
         const Dwarf_Die entries = dwexpr_libdw_entries(unit);
-        if (entries.addr != passed)
-            code = dwexpr_libdw_search_unit(search, &entries);
+        code = add_unit(table, &entries);
     }
     return code;
 }
 
-uint32_t dwexpr_libdw_search_modules(struct dwexpr_libdw_search *search, dwexpr_libdw_frame *frame)
+static int compare(const void *first, const void *second)
 {
-    const Dwarf_Die *first = &frame->place.unit;
-    Dwfl_Module *module;
-    ptrdiff_t at = 0;
+    const struct name *name = (const struct name *)first, *other = (const struct name *)second;
+    const int order = strcmp(name->text, other->text);
+    return order ? order : (name->place > other->place) - (name->place < other->place);
+}
+
+static void free_table(const struct table *table)
+{
+    free(table->variables.items);
+    free(table->names.items);
+}
+
+/* Finds the table of a unit or, if that is NULL, of a module. It is read the first time. */
+static uint32_t find_table(struct dwexpr_libdw_names *names, const Dwarf_Die *unit, Dwfl_Module *module,
+                           const struct table **found)
+{
+    struct table made = {.of = unit ? unit->addr : (const void *)module};
+    const struct table *tables = (const struct table *)names->tables.items;
+    size_t i = 0;
     uint32_t code = 0;
-    dwexpr_libdw_find_place(frame);
-    if (first->addr)
-        code = dwexpr_libdw_search_unit(search, first);
-    if (!code)
-        code = dwexpr_libdw_search_module(search, frame->place.module, first->addr);
-    while (!code && (at = dwexpr_libdw_next_module(frame->source.dwfl, at, &module)) > 0)
-        if (module != frame->place.module)
-            code = dwexpr_libdw_search_module(search, module, first->addr);
+    while (i < names->tables.length && tables[i].of != made.of)
+        i++;
+    if (i == names->tables.length) {
+        code = unit ? add_unit(&made, unit) : add_units(&made, module);
+        if (made.names.length)
+            qsort(made.names.items, made.names.length, sizeof(struct name), compare);
+        if (!code)
+            code = dwexpr_libdw_add(&names->tables, &made, sizeof made);
+        if (code)
+            free_table(&made);
+    }
+    *found = (const struct table *)names->tables.items + i;
     return code;
 }
 
-static int has_name(Dwarf_Die *entry, const char *name)
+static void free_tables(const struct dwexpr_libdw_names *names)
 {
-    const char *plain = dwarf_diename(entry), *linkage = dwexpr_libdw_linkage_name(entry);
-    return (plain && !strcmp(plain, name)) || (linkage && !strcmp(linkage, name));
+    size_t i;
+    for (i = 0; i < names->tables.length; i++)
+        free_table((const struct table *)names->tables.items + i);
+    free(names->tables.items);
 }
 
-/* Adds what stands in a unit, its namespaces, modules and common blocks. */
-static uint32_t visit_global(struct dwexpr_libdw_search *search, const struct dwexpr_libdw_walk *walk, int *enters)
+uint32_t dwexpr_libdw_make_names(dwexpr_libdw_names **names)
 {
-    Dwarf_Die *entry = dwexpr_libdw_here(walk);
-    const int tag = dwarf_tag(entry);
-    *enters = tag == DW_TAG_namespace || tag == DW_TAG_module;
-    if ((tag == DW_TAG_constant || (tag == DW_TAG_variable && !dwarf_hasattr(entry, DW_AT_declaration))) &&
-        (!search->name || has_name(entry, search->name)))
-        return dwexpr_libdw_add(&search->found, entry, sizeof *entry);
-    return 0;
+    *names = (dwexpr_libdw_names *)calloc(1, sizeof **names);
+    return *names ? 0 : DWEXPR_LIBDW_NO_MEMORY;
+}
+
+void dwexpr_libdw_free_names(dwexpr_libdw_names *names)
+{
+    if (names)
+        free_tables(names);
+    free(names);
+}
+
+/* ---- searches */
+
+struct search {
+    struct dwexpr_libdw_names *names;
+    const char *name;         /* NULL for all variables */
+    const Dwarf_CU *left_out; /* a unit that isn't searched again */
+    struct dwexpr_libdw_list found;
+};
+
+/* The first name of a table that doesn't stand before another one. */
+static size_t first_of(const struct table *table, const char *name)
+{
+    const struct name *names = (const struct name *)table->names.items;
+    size_t first = 0, end = table->names.length;
+    while (first < end) {
+        const size_t middle = first + (end - first) / 2;
+        if (strcmp(names[middle].text, name) < 0)
+            first = middle + 1;
+        else
+            end = middle;
+    }
+    return first;
+}
+
+static uint32_t add_found(struct search *search, const struct table *table, size_t place)
+{
+    const Dwarf_Die *variable = (const Dwarf_Die *)table->variables.items + place;
+    return variable->cu == search->left_out ? 0 : dwexpr_libdw_add(&search->found, variable, sizeof *variable);
+}
+
+/* Searches a unit or, if that is NULL, the units of a module. */
+static uint32_t search_in(struct search *search, const Dwarf_Die *unit, Dwfl_Module *module)
+{
+    const struct table *table;
+    const struct name *name;
+    uint32_t code = find_table(search->names, unit, module, &table);
+    size_t i;
+    for (i = 0; !search->name && !code && i < table->variables.length; i++)
+        code = add_found(search, table, i);
+    for (i = search->name && !code ? first_of(table, search->name) : SIZE_MAX; !code && i < table->names.length; i++) {
+        name = (const struct name *)table->names.items + i;
+        if (strcmp(name->text, search->name))
+            break;
+        code = add_found(search, table, name->place);
+    }
+    return code;
 }
 
 uint32_t dwexpr_libdw_globals(dwexpr_libdw_frame *frame, Dwfl_Module *module, const char *name, Dwarf_Die **globals,
                               size_t *count)
 {
-    struct dwexpr_libdw_search search = {.visit = visit_global, .name = name};
-    const uint32_t code = module ? dwexpr_libdw_search_module(&search, module, NULL)
-                                 : dwexpr_libdw_search_modules(&search, frame);
+    struct dwexpr_libdw_names own = {.tables = {.length = 0}};
+    struct search search = {.names = frame->source.names ? frame->source.names : &own, .name = name};
+    const dwexpr_libdw_place *place = &frame->place;
+    Dwfl_Module *other;
+    ptrdiff_t at = 0;
+    uint32_t code = 0;
+    dwexpr_libdw_find_place(frame);
+    if (module) {
+        code = search_in(&search, NULL, module);
+    } else {
+        if (place->unit.addr)
+            code = search_in(&search, &place->unit, NULL);
+        search.left_out = place->unit.addr ? place->unit.cu : NULL;
+        if (!code && place->module)
+            code = search_in(&search, NULL, place->module);
+        while (!code && (at = dwexpr_libdw_next_module(frame->source.dwfl, at, &other)) > 0)
+            if (other != place->module)
+                code = search_in(&search, NULL, other);
+    }
+    free_tables(&own);
     *globals = dwexpr_libdw_give(code, &search.found, count);
     return code;
 }

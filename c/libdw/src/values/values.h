@@ -354,20 +354,10 @@ uint32_t dwexpr_libdw_find_block(const dwexpr_libdw_frame *frame, Dwarf_Addr pro
 
 /* ---- globals.c */
 
-/* A search through units. */
-struct dwexpr_libdw_search {
-    /* looks at the entry where a walk is, and says whether to look at its children too */
-    uint32_t (*visit)(struct dwexpr_libdw_search *search, const struct dwexpr_libdw_walk *walk, int *enters);
-    const char *name;              /* of a variable; NULL for all */
-    struct dwexpr_libdw_walk type; /* the path to a declaration of a type */
-    struct dwexpr_libdw_list found;
+/* The variables outside of functions, by their names, of each module that was searched. */
+struct dwexpr_libdw_names {
+    struct dwexpr_libdw_list tables;
 };
-
-uint32_t dwexpr_libdw_search_unit(struct dwexpr_libdw_search *search, const Dwarf_Die *unit);
-/* Searches the units of a module, but one that was passed. */
-uint32_t dwexpr_libdw_search_module(struct dwexpr_libdw_search *search, Dwfl_Module *module, const void *passed);
-/* Searches the units of all modules, the frame's unit first, and then its module. */
-uint32_t dwexpr_libdw_search_modules(struct dwexpr_libdw_search *search, dwexpr_libdw_frame *frame);
 
 /* ---- calls.c */
 

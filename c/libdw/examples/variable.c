@@ -1,7 +1,7 @@
 /* Prints an int of a stopped process, of the innermost frame with such a variable.
  *
  *     cc variable.c $(pkg-config --cflags --libs dwexpr-libdw) -o variable
- *     ./variable PID NAME */
+ *     ./variable PID NAME [FOLDER]     FOLDER has debug information */
 #include <dwarf.h>
 #include <stdio.h>
 #include <stdlib.h>
@@ -50,11 +50,11 @@ int main(int argc, char **argv)
     size_t i;
     int found = 0;
     uint32_t code;
-    if (argc != 3) {
-        fprintf(stderr, "usage: %s PID NAME\n", argv[0]);
+    if (argc != 3 && argc != 4) {
+        fprintf(stderr, "usage: %s PID NAME [FOLDER]\n", argv[0]);
         return 2;
     }
-    code = dwexpr_libdw_open_process((pid_t)atol(argv[1]), &target);
+    code = dwexpr_libdw_open_process((pid_t)atol(argv[1]), argv[3], &target);
     if (!code) {
         dwexpr_libdw_threads(target, &threads);
         code = dwexpr_libdw_unwind(target, threads[0], 1000, &stack);

@@ -133,8 +133,8 @@ int main(int argc, char **argv)
         fprintf(stderr, "usage: %s --pid PID | --core FILE [PROGRAM]\n", argv[0]);
         return 2;
     }
-    code = is_process ? dwexpr_libdw_open_process((pid_t)atol(argv[2]), &target)
-                      : dwexpr_libdw_open_core(argv[2], argv[3], &target);
+    code = is_process ? dwexpr_libdw_open_process((pid_t)atol(argv[2]), NULL, &target)
+                      : dwexpr_libdw_open_core(argv[2], argv[3], NULL, &target);
     for (i = 0; target && i < dwexpr_libdw_threads(target, &threads); i++) {
         printf("thread %ld\n", (long)threads[i]);
         found = dwexpr_libdw_unwind(target, threads[i], 100000, &stack);

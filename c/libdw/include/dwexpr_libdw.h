@@ -1,9 +1,9 @@
 /* Finds values of variables by libdw: plain C over dwexpr.h and libdw 0.186 or later, not proved. Link with
  * libdwexpr_libdw.a, libdwexpr.a, libdw and libelf: `pkg-config --cflags --libs dwexpr-libdw`, or the CMake target
- * dwexpr::libdw. The frames of a process or a core dump need libdw 0.188.
+ * dwexpr::libdw. Targets need libdw 0.188.
  *
- * An expression is evaluated in a frame. For a process or a core dump, open a target and unwind one of its threads to a
- * stack of frames. With an unwinder of your own, make frames by dwexpr_libdw_make_frame.
+ * An expression is evaluated in a frame. For a process, a core dump, or what your callbacks read, open a target and
+ * unwind one of its threads to a stack of frames. With an unwinder of your own, make frames by dwexpr_libdw_make_frame.
  *
  * A call that returns a uint32_t returns 0 or a code: of dwexpr.h, one below, or DWEXPR_LIBDW_WANTS plus the request
  * that can't be answered. With a code, a result that is a pointer is set to NULL, unless the call says otherwise. Each
@@ -105,20 +105,44 @@ uint32_t dwexpr_libdw_rule(Dwarf_Frame *state, Elf *elf, int register_number, dw
 
 /* ---------------------------------------------------------------- targets, threads and frames */
 
-typedef struct dwexpr_libdw_target dwexpr_libdw_target; /* a stopped process, or a core dump */
+typedef struct dwexpr_libdw_target dwexpr_libdw_target; /* a stopped process, a core dump, or what callbacks read */
 typedef struct dwexpr_libdw_stack dwexpr_libdw_stack;   /* the frames of a thread, innermost first */
 typedef struct dwexpr_libdw_frame dwexpr_libdw_frame;
 
 /* Opens a process that is stopped, and stays so as long as the target is open. It uses ptrace, which only one debugger
- * can. Returns 0, DWEXPR_LIBDW_NO_TARGET or DWEXPR_LIBDW_NO_MEMORY. */
-uint32_t dwexpr_libdw_open_process(pid_t process, dwexpr_libdw_target **target);
+ * can. `debug_path` names the folders with debug information that isn't in the programs and libraries, separated by
+ * colons, as dwfl_standard_find_debuginfo reads them; NULL stands for ":.debug:/usr/lib/debug". Returns 0,
+ * DWEXPR_LIBDW_NO_TARGET or DWEXPR_LIBDW_NO_MEMORY. */
+uint32_t dwexpr_libdw_open_process(pid_t process, const char *debug_path, dwexpr_libdw_target **target);
 
-/* Opens a core dump. `program` is the program's file; if it is NULL, the dump says which it was. Returns as above. */
-uint32_t dwexpr_libdw_open_core(const char *file, const char *program, dwexpr_libdw_target **target);
+/* Opens a core dump. `program` is the program's file; if it is NULL, the dump says which it was. The path is as above.
+ * Returns as above. */
+uint32_t dwexpr_libdw_open_core(const char *file, const char *program, const char *debug_path,
+                                dwexpr_libdw_target **target);
 
 /* Makes a target of a Dwfl of the caller's, which has its modules, and was attached to a process or to the core dump
  * `core`, which is NULL for a process. Both have to outlive the target. Returns as above. */
 uint32_t dwexpr_libdw_attach(Dwfl *dwfl, Elf *core, dwexpr_libdw_target **target);
+
+/* The number of no register: the address at which a thread stands. */
+#define DWEXPR_LIBDW_PC UINT32_MAX
+
+/* What reads a target that is neither a process of this machine nor a core dump: of a debugger's stub, a profiler's
+ * record, or another form of dump. Callbacks answer as those of dwexpr_libdw_source do, for the thread of a number. */
+typedef struct dwexpr_libdw_reader {
+    const pid_t *threads; /* their numbers, which are positive */
+    size_t threads_length;
+    /* also for DWEXPR_LIBDW_PC; it must be there */
+    int (*read_register)(void *context, pid_t thread, uint32_t number, uint8_t *bytes, size_t *size);
+    int (*read_memory)(void *context, uint64_t address, uint8_t *bytes, size_t size);
+    int (*find_tls)(void *context, pid_t thread, Dwfl_Module *module, uint64_t offset, uint64_t *address);
+    void *context;
+} dwexpr_libdw_reader;
+
+/* Makes a target of a Dwfl of the caller's, whose modules are what is loaded: dwfl_report_elf takes a file and its
+ * address. It mustn't be attached before. It has to outlive the target, as all that the reader points to, and can only
+ * be ended after the target or a code. Returns as above. */
+uint32_t dwexpr_libdw_open_reader(Dwfl *dwfl, const dwexpr_libdw_reader *reader, dwexpr_libdw_target **target);
 
 /* The system's or libdw's message on why the last of these calls gave no target, or dwexpr_libdw_unwind cut frames off.
  * It stays valid until the thread's next such call. */

@@ -58,9 +58,9 @@ int main(int argc, char **argv)
     if (argc != 2)
         return 2;
     if (atol(argv[1]))
-        dwexpr_libdw_open_process((pid_t)atol(argv[1]), &target);
+        dwexpr_libdw_open_process((pid_t)atol(argv[1]), NULL, &target);
     else
-        dwexpr_libdw_open_core(argv[1], NULL, &target);
+        dwexpr_libdw_open_core(argv[1], NULL, NULL, &target);
     for (i = 0; target && i < dwexpr_libdw_threads(target, &threads); i++) {
         dwexpr_libdw_stack *stack;
         printf("thread %ld\n", (long)threads[i]);

@@ -288,8 +288,8 @@ static char **words;
 static void *check_program(void *unused)
 {
     const pid_t number = (pid_t)atol(words[0]), *threads;
-    const uint32_t code = number ? dwexpr_libdw_open_process(number, &subject.target)
-                                 : dwexpr_libdw_open_core(words[0], NULL, &subject.target);
+    const uint32_t code = number ? dwexpr_libdw_open_process(number, NULL, &subject.target)
+                                 : dwexpr_libdw_open_core(words[0], NULL, NULL, &subject.target);
     int i;
     subject.encoding = LE8;
     check(!code, words[0], dwexpr_libdw_code_name(code));

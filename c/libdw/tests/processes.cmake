@@ -151,6 +151,13 @@ foreach(kind copies address distance descriptor clang static)
 endforeach()
 dwexpr_on_stopped(libdw_readers 0 "${all_passed}" signals-clang 1 $<TARGET_FILE:test_libdw_readers> PID)
 
+# By callbacks: frames of inlined functions, under a handler, of threads, and after calls of bad pointers.
+foreach(stopped "pieces-gcc-O2-5 10" "signals-gcc 1" "threads 1" "whole/modules 1" "ends 1" "ends 2")
+  string(REPLACE " " ";" words ${stopped})
+  dwexpr_on_stopped("libdw_open_reader ${stopped}" 0 "(.*\n)?[1-9][0-9]* passed, 0 failed\n" ${words}
+    $<TARGET_FILE:test_libdw_open_reader> PID)
+endforeach()
+
 # In `middle`, which `outermost` called with 3, and `main` with argc 2. The others are in no frame but one of these.
 set(pieces pieces-gcc-O0-5 11)
 set(variable $<TARGET_FILE:variable> PID)
@@ -162,6 +169,18 @@ set(nothing "no frame has a variable [a-z]*\n")
 dwexpr_on_stopped("examples/variable.c, a function" 1 "${nothing}" ${pieces} ${variable} middle)
 dwexpr_on_stopped("examples/variable.c, in the C library" 0 "answer = 42\n" waiting 1 ${variable} answer)
 dwexpr_on_stopped("examples/variable.c, in no frame" 1 "${nothing}" waiting 1 ${variable} number)
+# A program whose debug information is elsewhere.
+if(waiting IN_LIST programs)
+  set(stripped ${CMAKE_CURRENT_BINARY_DIR}/stripped)
+  file(MAKE_DIRECTORY ${stripped}/debug)
+  add_custom_command(TARGET libdw_programs POST_BUILD WORKING_DIRECTORY ${CMAKE_CURRENT_BINARY_DIR}
+    COMMAND ${CMAKE_OBJCOPY} --only-keep-debug waiting stripped/debug/waiting.debug
+    COMMAND ${CMAKE_OBJCOPY} --strip-debug --add-gnu-debuglink=stripped/debug/waiting.debug waiting stripped/waiting)
+  list(APPEND programs stripped/waiting)
+  dwexpr_on_stopped("examples/variable.c, no debug information" 1 "${nothing}" stripped/waiting 1 ${variable} answer)
+  dwexpr_on_stopped("examples/variable.c, debug information on a path" 0 "answer = 42\n" stripped/waiting 1
+    ${variable} answer ${stripped}/debug)
+endif()
 set(no_process "no such process, core dump or thread can be read: [^\n]+\n")
 dwexpr_prints("examples/variable.c, no process" 2 "${no_process}" $<TARGET_FILE:variable> 4194305 inner)
 foreach(example variable where)

@@ -57,7 +57,7 @@ int main(int argc, char **argv)
     dwexpr_libdw_target *target;
     dwexpr_libdw_stack *stack;
     const pid_t *threads;
-    if (argc != 2 || dwexpr_libdw_open_process((pid_t)atol(argv[1]), &target))
+    if (argc != 2 || dwexpr_libdw_open_process((pid_t)atol(argv[1]), NULL, &target))
         return 2;
     dwexpr_libdw_threads(target, &threads);
     check(!dwexpr_libdw_unwind(target, threads[0], 1000, &stack), "a thread", "its frames");

@@ -15,9 +15,9 @@ using Stack = std::unique_ptr<dwexpr_libdw_stack, Free>;
 int main(int, char **words)
 {
     dwexpr_libdw_target *opened;
-    if (dwexpr_libdw_open_process(-1, &opened) != DWEXPR_LIBDW_NO_TARGET || opened)
+    if (dwexpr_libdw_open_process(-1, NULL, &opened) != DWEXPR_LIBDW_NO_TARGET || opened)
         return 1;
-    dwexpr_libdw_open_process(static_cast<pid_t>(std::atol(words[1])), &opened);
+    dwexpr_libdw_open_process(static_cast<pid_t>(std::atol(words[1])), NULL, &opened);
     const Target target(opened);
     const pid_t *threads;
     dwexpr_libdw_stack *found = nullptr;

@@ -40,19 +40,20 @@ static void check_errors(void)
     Dwfl *dwfl = dwfl_begin(&finders);
     const char *path = path_of("x86_64.program");
     dwexpr_libdw_stack *stack;
-    check(dwexpr_libdw_open_core("/nowhere/core", NULL, &target) == DWEXPR_LIBDW_NO_TARGET && !target, "no file", "");
+    check(dwexpr_libdw_open_core("/nowhere/core", NULL, NULL, &target) == DWEXPR_LIBDW_NO_TARGET, "no file", "");
+    check(!target, "no file", "no target");
     check(!strcmp(dwexpr_libdw_target_error(), "No such file or directory"), "no file", dwexpr_libdw_target_error());
-    check(dwexpr_libdw_open_core("/dev/null", NULL, &target) == DWEXPR_LIBDW_NO_TARGET, "no ELF file", "");
+    check(dwexpr_libdw_open_core("/dev/null", NULL, NULL, &target) == DWEXPR_LIBDW_NO_TARGET, "no ELF file", "");
     check(dwexpr_libdw_target_error() != NULL, "no ELF file", "why");
-    check(dwexpr_libdw_open_core(path, NULL, &target) == DWEXPR_LIBDW_NO_TARGET, "no core dump", "");
+    check(dwexpr_libdw_open_core(path, NULL, NULL, &target) == DWEXPR_LIBDW_NO_TARGET, "no core dump", "");
     check(strlen(dwexpr_libdw_target_error()) > 0, "no core dump", "why");
-    check(dwexpr_libdw_open_process(4194305, &target) == DWEXPR_LIBDW_NO_TARGET, "no process", "");
+    check(dwexpr_libdw_open_process(4194305, NULL, &target) == DWEXPR_LIBDW_NO_TARGET, "no process", "");
     check(!strcmp(dwexpr_libdw_target_error(), "No such file or directory") ||
               !strcmp(dwexpr_libdw_target_error(), "No such process"),
           "no process", dwexpr_libdw_target_error());
-    check(dwexpr_libdw_open_core("/", NULL, &target) == DWEXPR_LIBDW_NO_TARGET && !target, "a folder", "");
+    check(dwexpr_libdw_open_core("/", NULL, NULL, &target) == DWEXPR_LIBDW_NO_TARGET && !target, "a folder", "");
     check(dwexpr_libdw_attach(dwfl, NULL, &target) == DWEXPR_LIBDW_NO_TARGET && !target, "no process", "");
-    check(!dwexpr_libdw_open_process(getpid(), &target) ||
+    check(!dwexpr_libdw_open_process(getpid(), NULL, &target) ||
               !strcmp(dwexpr_libdw_target_error(), "it has no threads") || strlen(dwexpr_libdw_target_error()) > 0,
           "this process", "why");
     if (target)

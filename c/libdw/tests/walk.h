@@ -12,7 +12,7 @@ static inline size_t read_core(const char *path, size_t most, void (*read)(dwexp
 {
     dwexpr_libdw_target *target;
     const pid_t *threads;
-    size_t without_memory = dwexpr_libdw_open_core(path, NULL, &target) == DWEXPR_LIBDW_NO_MEMORY;
+    size_t without_memory = dwexpr_libdw_open_core(path, NULL, NULL, &target) == DWEXPR_LIBDW_NO_MEMORY;
     size_t i, j;
     for (i = 0; target && i < dwexpr_libdw_threads(target, &threads); i++) {
         dwexpr_libdw_stack *stack;

@@ -46,6 +46,11 @@ static ssize_t read_core(const dwexpr_libdw_target *target, uint64_t address, ui
 
 uint32_t dwexpr_libdw_read_memory(const dwexpr_libdw_target *target, uint64_t address, uint8_t *bytes, size_t size)
 {
+    const dwexpr_libdw_reader *reader = &target->reader;
+    if (reader->read_register)
+        return !reader->read_memory || reader->read_memory(reader->context, address, bytes, size)
+                   ? DWEXPR_LIBDW_NOT_READABLE
+                   : 0;
     while (size) {
         const ssize_t count = target->core ? read_core(target, address, bytes, size)
                                            : pread(target->file, bytes, size, (off_t)address);
@@ -58,13 +63,25 @@ uint32_t dwexpr_libdw_read_memory(const dwexpr_libdw_target *target, uint64_t ad
     return 0;
 }
 
+uint32_t dwexpr_libdw_read_word(const dwexpr_libdw_target *target, uint64_t address, uint64_t *word)
+{
+    uint8_t bytes[8] = {0};
+    const uint32_t code = dwexpr_libdw_read_memory(target, address, bytes, target->word);
+    *word = dwexpr_libdw_number_of(bytes, target->word, target->big_endian);
+    return code;
+}
+
 int dwexpr_libdw_may_be_code(const dwexpr_libdw_target *target, uint64_t address)
 {
-    FILE *maps = target->core ? NULL : fopen(dwexpr_libdw_path_of(target, "maps").text, "re");
+    const int has_maps = !target->core && !target->reader.read_register;
+    FILE *maps = has_maps ? fopen(dwexpr_libdw_path_of(target, "maps").text, "re") : NULL;
+    uint8_t byte;
     uint64_t begin = 0, end = 0;
     char executable = 0;
     size_t count = 0, i;
     int is_code = dwfl_addrmodule(target->dwfl, address) != NULL;
+    if (target->reader.read_register) /* its callbacks don't say what can be executed */
+        is_code |= !dwexpr_libdw_read_memory(target, address, &byte, 1);
     while (maps && fscanf(maps, "%" SCNx64 "-%" SCNx64 " %*c%*c%c%*[^\n]", &begin, &end, &executable) == 3)
         if (address - begin < end - begin)
             is_code = executable == 'x';

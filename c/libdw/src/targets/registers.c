@@ -81,7 +81,10 @@ static int read_register(void *context, uint32_t number, uint8_t *bytes, size_t 
 {
     struct dwexpr_libdw_stack_frame *first = (struct dwexpr_libdw_stack_frame *)context, *frame;
     const dwexpr_libdw_target *target = first->stack->target;
+    const dwexpr_libdw_reader *reader = &target->reader;
     for (frame = first;; frame--) {
+        if (frame == dwexpr_libdw_frames_of(frame->stack) && reader->read_register)
+            return reader->read_register(reader->context, frame->stack->thread, number, bytes, size);
         if (is_known(frame, number)) {
             *size = target->word;
             dwexpr_libdw_bytes_of(frame->registers[number], *size, target->big_endian, bytes);
@@ -147,7 +150,11 @@ static Dwarf_Addr find_program(const dwexpr_libdw_stack *stack)
 static int find_tls(void *context, Dwfl_Module *module, uint64_t offset, uint64_t *address)
 {
     const struct dwexpr_libdw_stack_frame *frame = (const struct dwexpr_libdw_stack_frame *)context;
+    const dwexpr_libdw_reader *reader = &frame->stack->target->reader;
     uint64_t pointer;
+    if (reader->read_register)
+        return !reader->find_tls ||
+               reader->find_tls(reader->context, frame->stack->thread, module, offset, address);
     return find_thread_pointer(frame->stack, &pointer) ||
            dwexpr_libdw_find_block(&frame->frame, find_program(frame->stack), module, pointer, offset, address);
 }

@@ -67,7 +67,7 @@ void dwexpr_libdw_read_sets(const dwexpr_libdw_target *target, pid_t thread, str
     elf_getphdrnum(target->core, &count);
     for (i = 0; i < count; i++)
         take_sets(target, notes_of(target->core, i), thread, sets);
-    for (set = GENERAL; set < SETS && !target->core; set++) {
+    for (set = GENERAL; set < SETS && !target->core && !target->reader.read_register; set++) {
         /* the kernel wants room for whole items: the largest, a segment, has 16 bytes */
         struct iovec part = {bytes, (size_t)(sets->traced + sizeof sets->traced - bytes) / 16 * 16};
         if (set == VECTOR)

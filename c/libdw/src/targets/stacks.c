@@ -97,15 +97,6 @@ static void link_frames(dwexpr_libdw_stack *stack, size_t from)
     }
 }
 
-static uint32_t read_word(const struct dwexpr_libdw_stack_frame *frame, uint64_t address, uint64_t *word)
-{
-    const dwexpr_libdw_target *target = frame->stack->target;
-    uint8_t bytes[8] = {0};
-    const uint32_t code = dwexpr_libdw_read_memory(target, address, bytes, target->word);
-    *word = dwexpr_libdw_number_of(bytes, target->word, target->big_endian);
-    return code;
-}
-
 /* Whether a call of an address that a register or memory has, or of a stub, ends at an address. */
 static int follows_call(const struct dwexpr_libdw_stack_frame *frame, uint64_t address)
 {
@@ -124,12 +115,13 @@ static int follows_call(const struct dwexpr_libdw_stack_frame *frame, uint64_t a
 static void add_caller_of_bad(dwexpr_libdw_stack *stack)
 {
     struct dwexpr_libdw_stack_frame *last = last_of(stack), frame = *last;
-    const unsigned number = stack->target->machine == EM_386 ? 4 : 7;
-    const size_t word = stack->target->word;
+    const dwexpr_libdw_target *target = stack->target;
+    const unsigned number = target->machine == EM_386 ? 4 : 7;
+    const size_t word = target->word;
     const uint64_t pc = last->frame.source.pc;
     uint64_t top = last->registers[number], returns = 0, below = 0;
-    if (read_word(last, top, &returns) || !follows_call(last, returns) ||
-        (pc && (read_word(last, top - word, &below) || below == pc))) {
+    if (dwexpr_libdw_read_word(target, top, &returns) || !follows_call(last, returns) ||
+        (pc && (dwexpr_libdw_read_word(target, top - word, &below) || below == pc))) {
         cut_off(stack, "a frame stands at no code, and none has called it");
         return;
     }

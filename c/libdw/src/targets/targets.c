@@ -1,4 +1,4 @@
-/* Processes and core dumps, and their threads. */
+/* Targets and their threads. */
 #define _GNU_SOURCE /* O_CLOEXEC */
 #include "targets.h"
 
@@ -68,19 +68,41 @@ static uint32_t ended(uint32_t code, dwexpr_libdw_target **target)
     return code;
 }
 
-/* Makes a target, with a Dwfl of its own unless `finders` is NULL. */
-static uint32_t make_target(const Dwfl_Callbacks *finders, dwexpr_libdw_target **target)
+static uint32_t make_target(dwexpr_libdw_target **target)
 {
-    uint32_t code;
     *target = (dwexpr_libdw_target *)calloc(1, sizeof **target);
     if (!*target)
         return DWEXPR_LIBDW_NO_MEMORY;
     (*target)->file = -1;
-    code = dwexpr_libdw_make_names(&(*target)->names);
-    (*target)->owned = finders ? dwfl_begin(finders) : NULL;
-    if (finders && !(*target)->owned) /* GCOVR_EXCL_BR_LINE: no memory */
-        code = DWEXPR_LIBDW_NO_MEMORY; /* GCOVR_EXCL_LINE: no memory */
-    return ended(code, target);
+    return ended(dwexpr_libdw_make_names(&(*target)->names), target);
+}
+
+/* Makes a target with a Dwfl of its own, which looks for debug information on a path unless that is NULL. */
+static uint32_t make_owner(const Dwfl_Callbacks *finders, const char *debug_path, dwexpr_libdw_target **target)
+{
+    const size_t size = debug_path ? strlen(debug_path) + 1 : 0;
+    const uint32_t code = make_target(target);
+    dwexpr_libdw_target *made = *target;
+    if (code)
+        return code;
+    made->finders = *finders;
+    made->finders.debuginfo_path = &made->debug_path;
+    made->debug_path = size ? (char *)malloc(size) : NULL;
+    if (made->debug_path)
+        memcpy(made->debug_path, debug_path, size);
+    made->owned = made->debug_path || !size ? dwfl_begin(&made->finders) : NULL;
+    return ended(made->owned ? 0 : DWEXPR_LIBDW_NO_MEMORY, target);
+}
+
+/* Reads the header of the first module whose file can be read. */
+static void read_header(Dwfl *dwfl, GElf_Ehdr *header)
+{
+    Dwfl_Module *module;
+    Dwarf_Addr bias;
+    ptrdiff_t at = 0;
+    while ((at = dwexpr_libdw_next_module(dwfl, at, &module)) > 0)
+        if (gelf_getehdr(dwfl_module_getelf(module, &bias), header))
+            return;
 }
 
 static uint32_t begin_target(dwexpr_libdw_target *target, Dwfl *dwfl, Elf *core)
@@ -91,6 +113,8 @@ static uint32_t begin_target(dwexpr_libdw_target *target, Dwfl *dwfl, Elf *core)
     target->core = core;
     if (core) {
         gelf_getehdr(core, &header);
+    } else if (target->reader.read_register) {
+        read_header(dwfl, &header);
     } else {
         /* its words are in the order of this machine, and the first fields are the same for words of 32 bits */
         dwexpr_libdw_read_proc(target, "exe", &header, sizeof header);
@@ -109,14 +133,26 @@ static uint32_t begin_target(dwexpr_libdw_target *target, Dwfl *dwfl, Elf *core)
 
 uint32_t dwexpr_libdw_attach(Dwfl *dwfl, Elf *core, dwexpr_libdw_target **target)
 {
-    const uint32_t code = make_target(NULL, target);
+    const uint32_t code = make_target(target);
     return code ? code : ended(begin_target(*target, dwfl, core), target); /* GCOVR_EXCL_BR_LINE: no memory */
 }
 
-uint32_t dwexpr_libdw_open_process(pid_t process, dwexpr_libdw_target **target)
+uint32_t dwexpr_libdw_open_reader(Dwfl *dwfl, const dwexpr_libdw_reader *reader, dwexpr_libdw_target **target)
+{
+    const pid_t process = reader->threads_length ? reader->threads[0] : 0;
+    const uint32_t code = make_target(target);
+    if (code) /* GCOVR_EXCL_BR_LINE: no memory */
+        return code; /* GCOVR_EXCL_LINE: no memory */
+    (*target)->reader = *reader;
+    if (has_failed(-!dwfl_attach_state(dwfl, NULL, process, &dwexpr_libdw_of_reader, *target)))
+        return ended(DWEXPR_LIBDW_NO_TARGET, target);
+    return ended(begin_target(*target, dwfl, NULL), target);
+}
+
+uint32_t dwexpr_libdw_open_process(pid_t process, const char *debug_path, dwexpr_libdw_target **target)
 {
     static const Dwfl_Callbacks finders = {dwfl_linux_proc_find_elf, dwfl_standard_find_debuginfo, NULL, NULL};
-    const uint32_t code = make_target(&finders, target);
+    const uint32_t code = make_owner(&finders, debug_path, target);
     Dwfl *dwfl;
     if (code) /* GCOVR_EXCL_BR_LINE: no memory */
         return code; /* GCOVR_EXCL_LINE: no memory */
@@ -129,10 +165,11 @@ uint32_t dwexpr_libdw_open_process(pid_t process, dwexpr_libdw_target **target)
     return ended(begin_target(*target, dwfl, NULL), target);
 }
 
-uint32_t dwexpr_libdw_open_core(const char *file, const char *program, dwexpr_libdw_target **target)
+uint32_t dwexpr_libdw_open_core(const char *file, const char *program, const char *debug_path,
+                                dwexpr_libdw_target **target)
 {
     static const Dwfl_Callbacks finders = {dwfl_build_id_find_elf, dwfl_standard_find_debuginfo, NULL, NULL};
-    const uint32_t code = make_target(&finders, target);
+    const uint32_t code = make_owner(&finders, debug_path, target);
     Dwfl *dwfl;
     Elf *core;
     if (code)
@@ -160,6 +197,7 @@ void dwexpr_libdw_close(dwexpr_libdw_target *target)
     free(target->threads.items);
     dwexpr_libdw_free_names(target->names);
     dwfl_end(target->owned);
+    free(target->debug_path);
     elf_end(target->opened);
     if (target->file >= 0)
         close(target->file);

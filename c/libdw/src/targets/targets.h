@@ -1,4 +1,4 @@
-/* What the sources on processes and core dumps share. */
+/* What the sources share that make frames of processes, of core dumps, and of what callbacks read. */
 #ifndef DWEXPR_LIBDW_TARGETS_H
 #define DWEXPR_LIBDW_TARGETS_H
 
@@ -13,7 +13,11 @@ enum set { GENERAL, FLOATING, FXSAVE, XSAVE, SEGMENTS, VECTOR, SETS };
 struct dwexpr_libdw_target {
     Dwfl *dwfl;
     Dwfl *owned;  /* `dwfl` if it was opened here */
-    Elf *core;    /* NULL for a process */
+    Dwfl_Callbacks finders; /* of `owned` */
+    char *debug_path;       /* where these look, or NULL */
+    dwexpr_libdw_reader reader; /* without callbacks for a process or a core dump */
+    size_t next_thread;         /* of the reader's, for libdwfl */
+    Elf *core;    /* NULL if it is none */
     Elf *opened;  /* `core` if it was opened here */
     int file;     /* the memory of a process, or the core dump if it was opened here; -1 if there is none */
     struct dwexpr_libdw_list threads; /* of pid_t */
@@ -47,13 +51,19 @@ size_t dwexpr_libdw_read_proc(const dwexpr_libdw_target *target, const char *nam
 /* ---- memory.c */
 
 uint32_t dwexpr_libdw_read_memory(const dwexpr_libdw_target *target, uint64_t address, uint8_t *bytes, size_t size);
-/* Whether there may be code at an address: not if no memory is there, or if it can't be executed. */
+/* Reads as many bytes as an address has. */
+uint32_t dwexpr_libdw_read_word(const dwexpr_libdw_target *target, uint64_t address, uint64_t *word);
+/* Whether there may be code at an address: not if no memory is there, or if it is known that it can't be executed. */
 int dwexpr_libdw_may_be_code(const dwexpr_libdw_target *target, uint64_t address);
 
 /* ---- sets.c */
 
 /* Reads the sets of a thread that libdwfl keeps stopped, or that a core dump has. */
 void dwexpr_libdw_read_sets(const dwexpr_libdw_target *target, pid_t thread, struct dwexpr_libdw_sets *sets);
+
+/* ---- readers.c */
+
+extern const Dwfl_Thread_Callbacks dwexpr_libdw_of_reader;
 
 /* ---- registers.c */
 

@@ -138,8 +138,20 @@ class Links:
         library.relocate("data", "same", second.at("alias"))
         self.is_in(library, "alias", second)
 
+    def definitions(self):
+        """Types that the program declares: one that a library defines, also for a frame in no unit, and one that two
+        define in different ways."""
+        unlike = {self.library: 24, self.third: 8}
+        for name, sizes, said in [("far", {self.second: 24}, 24), ("unlike", unlike, "none")]:
+            kind = self.program.root.add("structure_type", name=name, declaration=True)
+            for place in (self.program.begin + 8, 0x10):
+                self.program.root.add("variable", name=f"{place:x}: size {said}", type=kind)
+            for module, size in sizes.items():
+                module.root.add("structure_type", name=name, byte_size=size)
+
     def files(self):
         self.variables()
+        self.definitions()
         # one has no dynamic section
         dynamic = [(FLAGS, 8)], [(FLAGS, 8)], [(SYMBOLIC, 0)], [(FLAGS, 2)] * (self.size == 8)
         for module, entries in zip(self.modules, dynamic):

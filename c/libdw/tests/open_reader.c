@@ -44,6 +44,8 @@ static int read_register(void *context, pid_t thread, uint32_t number, uint8_t *
     uint64_t content = 0x100 + number;
     size_t i;
     check(context == &machine, "a register", "the context");
+    if (number == 51)
+        return 0; /* and nothing is written */
     *size = number == 17 ? 16 : number == 50 ? DWEXPR_LIBDW_REGISTER_SIZE + 1 : machine->word;
     if ((number > 17 && number != 50 && number != DWEXPR_LIBDW_PC) || at > 1)
         return 1;
@@ -73,15 +75,16 @@ static int find_tls(void *context, pid_t thread, Dwfl_Module *module, uint64_t o
 {
     check(context == &machine && module, "thread-local storage", "the context");
     *address = 0x700000 + 0x100 * (uint64_t)thread + offset;
-    return 0;
+    return offset > 4;
 }
 
-/* Opens a program, or no module if that is NULL, with some of the callbacks. */
+/* Opens a program, unless it is NULL, after a module whose file isn't there, with some of the callbacks. */
 static uint32_t open_program(const char *folder, size_t count, int (*memory)(void *, uint64_t, uint8_t *, size_t),
                              int (*tls)(void *, pid_t, Dwfl_Module *, uint64_t, uint64_t *))
 {
     char path[4096];
     begin();
+    dwfl_report_module(dwfl, "nowhere", 0x10000, 0x11000);
     if (folder) {
         snprintf(path, sizeof path, "%s/%s.program", folder, machine->name);
         dwfl_report_elf(dwfl, "program", path, -1, 0, 0);
@@ -135,11 +138,13 @@ static void check_program(const char *folder)
           "it");
     check(!dwexpr_libdw_register(frame, 17, got, &size) && size == 16 && !memcmp(got, xmm, 16), "xmm0", "it");
     check(dwexpr_libdw_register(frame, 18, got, &size) == DWEXPR_LIBDW_NOT_READABLE, "18", "it isn't known");
+    check(dwexpr_libdw_register(frame, 51, got, &size) == DWEXPR_LIBDW_NOT_READABLE, "51", "nothing is written");
     check(dwexpr_libdw_register(frame, 50, got, &size) == DWEXPR_LIBDW_BAD_REGISTER, "50", "it is too long");
     check(!dwexpr_libdw_memory(frame, 0x500008, got, 4) && !memcmp(got, memory, 4), "memory", "it is the callback's");
     check(dwexpr_libdw_memory(frame, 0x10, got, 1) == DWEXPR_LIBDW_NOT_READABLE, "memory", "it isn't there");
     check_value(frame, "9c", 0, 0x500008 + machine->word);
     check_value(frame, "0804 9b", 0, 0x700000 + 0x100 * 11 + 4);
+    check_value(frame, "0805 9b", DWEXPR_LIBDW_WANTS + DWEXPR_WANTS_TLS, 0);
     dwexpr_libdw_free_stack(stack);
     dwexpr_libdw_free_stack(unwind(threads[1], 0, 2));
     has_code = 1; /* perhaps: nothing says that it can't be executed */

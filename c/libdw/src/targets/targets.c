@@ -100,7 +100,9 @@ static void read_header(Dwfl *dwfl, GElf_Ehdr *header)
     Dwfl_Module *module;
     Dwarf_Addr bias;
     ptrdiff_t at = 0;
+    /* GCOVR_EXCL_BR_START: libdwfl has found one */
     while ((at = dwexpr_libdw_next_module(dwfl, at, &module)) > 0)
+    /* GCOVR_EXCL_BR_STOP */
         if (gelf_getehdr(dwfl_module_getelf(module, &bias), header))
             return;
 }

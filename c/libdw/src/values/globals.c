@@ -152,16 +152,17 @@ static uint32_t add_found(struct search *search, const struct table *table, size
 static uint32_t search_in(struct search *search, const Dwarf_Die *unit, Dwfl_Module *module)
 {
     const struct table *table;
-    const struct name *name;
+    size_t i, end;
     uint32_t code = find_table(search->names, unit, module, &table);
-    size_t i;
-    for (i = 0; !search->name && !code && i < table->variables.length; i++)
-        code = add_found(search, table, i);
-    for (i = search->name && !code ? first_of(table, search->name) : SIZE_MAX; !code && i < table->names.length; i++) {
-        name = (const struct name *)table->names.items + i;
-        if (strcmp(name->text, search->name))
+    if (code)
+        return code;
+    i = search->name ? first_of(table, search->name) : 0;
+    end = search->name ? table->names.length : table->variables.length;
+    for (; i < end && !code; i++) {
+        const struct name *name = (const struct name *)table->names.items + i;
+        if (search->name && strcmp(name->text, search->name))
             break;
-        code = add_found(search, table, name->place);
+        code = add_found(search, table, search->name ? name->place : i);
     }
     return code;
 }

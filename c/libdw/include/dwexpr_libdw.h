@@ -168,6 +168,14 @@ size_t dwexpr_libdw_threads(const dwexpr_libdw_target *target, const pid_t **thr
 uint32_t dwexpr_libdw_unwind(dwexpr_libdw_target *target, pid_t thread, size_t most, dwexpr_libdw_stack **stack);
 void dwexpr_libdw_free_stack(dwexpr_libdw_stack *stack);
 
+/* Adds the frames of functions that left by tail calls: what they called returns to their callers. They are known if,
+ * by the call sites, each has one tail call only, and the last function can't have called itself by tail calls. Such a
+ * frame stands at its tail call. It has no registers and no CFA, so its values are known only if they need neither.
+ *
+ * The debug information of each frame is read. Frames that were taken from the stack before aren't valid any more.
+ * Returns 0; or DWEXPR_LIBDW_NO_MEMORY, and the stack is as it was. */
+uint32_t dwexpr_libdw_add_tail_calls(dwexpr_libdw_stack *stack);
+
 /* A frame of a stack, 0 for the innermost; NULL if there is none. It belongs to the stack. */
 dwexpr_libdw_frame *dwexpr_libdw_frame_at(dwexpr_libdw_stack *stack, size_t index);
 
@@ -213,6 +221,7 @@ void dwexpr_libdw_set_limit(dwexpr_libdw_frame *frame, uint32_t expressions);
 typedef struct dwexpr_libdw_place {
     Dwarf_Addr pc;
     int is_activation;
+    int has_left;        /* 1 if its function left by a tail call: see dwexpr_libdw_add_tail_calls */
     Dwfl_Module *module; /* NULL if there is none */
     Dwarf_Addr bias;     /* from addresses in the debug information to those of the process */
     Dwarf_Addr address;  /* in the debug information: of the instruction where it stands, or of its call */

@@ -42,6 +42,7 @@ dwexpr_program(nested-O0 gcc stopped/nested.c -O0)
 dwexpr_program(nested-O2 gcc stopped/nested.c -O2 -gdwarf-4)
 dwexpr_program(nested-2 gcc stopped/nested.c -O2 -gdwarf-2 -gstrict-dwarf)
 dwexpr_program(deep gcc stopped/deep.c -O1)
+dwexpr_program(tail_calls gcc stopped/tail_calls.c -O2)
 dwexpr_program(threads gcc stopped/threads.c -O2 -pthread)
 dwexpr_program(scopes-g++ g++ stopped/scopes.cpp -O1)
 dwexpr_program(scopes-clang++ clang++ stopped/scopes.cpp -O0 -gdwarf-4)
@@ -156,6 +157,12 @@ foreach(stopped "pieces-gcc-O2-5 10" "signals-gcc 1" "threads 1" "whole/modules 
   string(REPLACE " " ";" words ${stopped})
   dwexpr_on_stopped("libdw_open_reader ${stopped}" 0 "(.*\n)?[1-9][0-9]* passed, 0 failed\n" ${words}
     $<TARGET_FILE:test_libdw_open_reader> PID)
+endforeach()
+
+# Frames of functions that left by tail calls.
+foreach(place 1 2 3 4 5 6)
+  dwexpr_on_stopped("libdw_tail_calls ${place}" 0 "(.*\n)?[1-9][0-9]* passed, 0 failed\n" tail_calls ${place}
+    $<TARGET_FILE:test_libdw_tail_calls> ${place} PID)
 endforeach()
 
 # In `middle`, which `outermost` called with 3, and `main` with argc 2. The others are in no frame but one of these.

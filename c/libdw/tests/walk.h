@@ -12,12 +12,14 @@ static inline size_t read_core(const char *path, size_t most, void (*read)(dwexp
 {
     dwexpr_libdw_target *target;
     const pid_t *threads;
-    size_t without_memory = dwexpr_libdw_open_core(path, NULL, NULL, &target) == DWEXPR_LIBDW_NO_MEMORY;
+    size_t without_memory = dwexpr_libdw_open_core(path, NULL, ":/usr/lib/debug", &target) == DWEXPR_LIBDW_NO_MEMORY;
     size_t i, j;
     for (i = 0; target && i < dwexpr_libdw_threads(target, &threads); i++) {
         dwexpr_libdw_stack *stack;
         dwexpr_libdw_frame *frame;
         without_memory += dwexpr_libdw_unwind(target, threads[i], 256, &stack) == DWEXPR_LIBDW_NO_MEMORY;
+        if (stack)
+            without_memory += dwexpr_libdw_add_tail_calls(stack) == DWEXPR_LIBDW_NO_MEMORY;
         for (j = 0; j < most && (frame = dwexpr_libdw_frame_at(stack, j)) != NULL; j++)
             read(frame, j);
         dwexpr_libdw_free_stack(stack);

@@ -58,7 +58,7 @@ static int is_kept(dwexpr_libdw_frame *caller, unsigned machine, uint32_t number
 {
     Dwarf_Attribute attribute;
     const char *producer;
-    if (machine == EM_X86_64 && (number == RBX || number == FS_BASE)) /* GCOVR_EXCL_BR_LINE: GCC keeps both */
+    if (machine == EM_X86_64 && (number == RBX || number == FS_BASE))
         return 1;
     if (dwexpr_libdw_find_place(caller))
         return 0;
@@ -83,6 +83,8 @@ static int read_register(void *context, uint32_t number, uint8_t *bytes, size_t 
     const dwexpr_libdw_target *target = first->stack->target;
     const dwexpr_libdw_reader *reader = &target->reader;
     for (frame = first;; frame--) {
+        if (frame->frame.place.has_left) /* it has none of its own, and kept those of others */
+            continue;
         if (frame == dwexpr_libdw_frames_of(frame->stack) && reader->read_register)
             return reader->read_register(reader->context, frame->stack->thread, number, bytes, size);
         if (is_known(frame, number)) {

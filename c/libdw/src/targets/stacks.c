@@ -245,6 +245,33 @@ uint32_t dwexpr_libdw_unwind(dwexpr_libdw_target *target, pid_t thread, size_t m
     return code;
 }
 
+uint32_t dwexpr_libdw_add_tail_calls(dwexpr_libdw_stack *stack)
+{
+    struct dwexpr_libdw_list all = {.items = NULL};
+    uint32_t code = 0;
+    size_t i, j;
+    for (i = 0; i < stack->frames.length && !code; i++) {
+        struct dwexpr_libdw_stack_frame *frame = dwexpr_libdw_frames_of(stack) + i;
+        struct dwexpr_libdw_list left = {.items = NULL};
+        const uint32_t unknown = dwexpr_libdw_find_left(&frame->frame, &left);
+        code = unknown == DWEXPR_LIBDW_NO_MEMORY ? unknown : dwexpr_libdw_add(&all, frame, sizeof *frame);
+        for (j = unknown ? 0 : left.length; j-- > 0 && !code;) {
+            const struct dwexpr_libdw_stack_frame added = {.frame = ((dwexpr_libdw_frame *)left.items)[j],
+                                                           .stack = stack};
+            code = dwexpr_libdw_add(&all, &added, sizeof added);
+        }
+        free(left.items);
+    }
+    if (code) {
+        free(all.items);
+        return code;
+    }
+    free(stack->frames.items);
+    stack->frames = all;
+    link_frames(stack, 0);
+    return 0;
+}
+
 void dwexpr_libdw_free_stack(dwexpr_libdw_stack *stack)
 {
     if (!stack)

@@ -185,6 +185,60 @@ static int may_call_itself(dwexpr_libdw_frame *frame)
     return found;
 }
 
+/* Adds the frame of a function that left by a tail call, at which it stands. */
+static uint32_t add_left(struct dwexpr_libdw_list *left, const dwexpr_libdw_frame *entered, Dwarf_Die *site)
+{
+    dwexpr_libdw_source source = entered->source;
+    dwexpr_libdw_frame frame;
+    Dwarf_Attribute attribute;
+    /* GCOVR_EXCL_BR_START: compilers write it */
+    if (dwarf_formaddr(attribute_of(site, DW_AT_call_return_pc, DW_AT_low_pc, &attribute), &source.pc))
+    /* GCOVR_EXCL_BR_STOP */
+        return DWEXPR_LIBDW_NO_PART; /* GCOVR_EXCL_LINE: compilers write it */
+    source.pc += entered->place.bias;
+    source.is_activation = 0;
+    dwexpr_libdw_begin_frame(&frame, &source);
+    frame.place.has_left = 1;
+    return dwexpr_libdw_add(left, &frame, sizeof frame);
+}
+
+/* A frame's caller called another function, at `address`, which left for the frame's by tail calls, each of them the
+ * only one of its function. Finds the last of these functions and its tail call. All are added to `left` unless it is
+ * NULL. Returns 0; DWEXPR_LIBDW_NO_PART if they aren't known; or DWEXPR_LIBDW_NO_MEMORY. */
+static uint32_t follow(const dwexpr_libdw_frame *frame, uint64_t address, dwexpr_libdw_frame *last, Dwarf_Die *site,
+                       struct dwexpr_libdw_list *left)
+{
+    uint32_t code = 0;
+    int steps, is_called = 0;
+    for (steps = 0; steps < MOST_FUNCTIONS && !is_called && !code; steps++) {
+        is_called = enter(frame->source.caller, address, last) ? find_tail_call(last, frame, site, &address) : -1;
+        if (left && is_called >= 0)
+            code = add_left(left, last, site);
+    }
+    return code || is_called > 0 ? code : DWEXPR_LIBDW_NO_PART;
+}
+
+uint32_t dwexpr_libdw_find_left(dwexpr_libdw_frame *frame, struct dwexpr_libdw_list *left)
+{
+    const struct dwexpr_libdw_given given = {.frame = frame->source.caller};
+    dwexpr_libdw_frame last;
+    Dwarf_Attribute target;
+    Dwarf_Die site;
+    uint64_t address;
+    int is_called;
+    uint32_t code = find_call_site(frame, &site);
+    if (code || may_call_itself(frame))
+        return code ? code : DWEXPR_LIBDW_NO_PART;
+    is_called = is_named(&site, given.frame, frame, &address);
+    if (is_called < 0) {
+        code = attribute_of(&site, DW_AT_call_target, DW_AT_GNU_call_site_target, &target)
+                   ? dwexpr_libdw_attribute_number(&given, &target, &address)
+                   : DWEXPR_LIBDW_NO_PART;
+        is_called = !code && address == dwexpr_libdw_entry_of(frame);
+    }
+    return code || is_called ? code : follow(frame, address, &last, &site, left);
+}
+
 /* ---- what it passes */
 
 /* Whether an expression, on entry of a function, is the place of a call site's parameter: it has the same bytes, or
@@ -222,17 +276,13 @@ static uint32_t find_passed(struct dwexpr_libdw_question *question, Dwarf_Attrib
     return DWEXPR_LIBDW_NO_PART;
 }
 
-/* The caller called another function, at `address`, which left for this one by tail calls, each of them the only one of
- * its function. Asks for what the last one passed. Its own values are those that it had on entry. */
+/* Asks for what the last of the functions between the caller and this one passed. Its own values are those that it had
+ * on entry. */
 static uint32_t ask_between(struct dwexpr_libdw_question *question, uint64_t address, Dwarf_Attribute *value)
 {
-    int steps, is_called = 0;
+    const uint32_t code = follow(question->frame, address, &question->between, &question->site, NULL);
     question->asked = &question->between;
-    for (steps = 0; steps < MOST_FUNCTIONS && !is_called; steps++)
-        is_called = enter(question->frame->source.caller, address, &question->between)
-                        ? find_tail_call(&question->between, question->frame, &question->site, &address)
-                        : -1;
-    return is_called > 0 ? find_passed(question, value) : DWEXPR_LIBDW_NO_PART;
+    return code ? code : find_passed(question, value);
 }
 
 uint32_t dwexpr_libdw_ask(struct dwexpr_libdw_question *question, Dwarf_Attribute *value)

@@ -379,6 +379,9 @@ struct dwexpr_libdw_question {
 uint32_t dwexpr_libdw_ask(struct dwexpr_libdw_question *question, Dwarf_Attribute *value);
 /* Goes on if that is known. Returns as above. */
 uint32_t dwexpr_libdw_ask_target(struct dwexpr_libdw_question *question, uint64_t address, Dwarf_Attribute *value);
+/* Adds the frames of functions that left by tail calls before a frame's function was entered, the outermost one first.
+ * Returns 0, or why they aren't known: then they may not all be there. */
+uint32_t dwexpr_libdw_find_left(dwexpr_libdw_frame *frame, struct dwexpr_libdw_list *left);
 
 #pragma GCC visibility pop
 

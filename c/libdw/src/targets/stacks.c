@@ -245,23 +245,29 @@ uint32_t dwexpr_libdw_unwind(dwexpr_libdw_target *target, pid_t thread, size_t m
     return code;
 }
 
+/* Adds a frame to a list, and then those of functions that left after its caller's call. */
+static uint32_t add_with_left(struct dwexpr_libdw_list *all, struct dwexpr_libdw_stack_frame *frame)
+{
+    struct dwexpr_libdw_list left = {.items = NULL};
+    const uint32_t unknown = dwexpr_libdw_find_left(&frame->frame, &left);
+    struct dwexpr_libdw_stack_frame added = {.stack = frame->stack};
+    size_t i = unknown ? 0 : left.length;
+    uint32_t code = unknown == DWEXPR_LIBDW_NO_MEMORY ? unknown : dwexpr_libdw_add(all, frame, sizeof *frame);
+    while (i-- > 0 && !code) { /* GCOVR_EXCL_BR_LINE: no memory */
+        added.frame = ((dwexpr_libdw_frame *)left.items)[i];
+        code = dwexpr_libdw_add(all, &added, sizeof added);
+    }
+    free(left.items);
+    return code;
+}
+
 uint32_t dwexpr_libdw_add_tail_calls(dwexpr_libdw_stack *stack)
 {
     struct dwexpr_libdw_list all = {.items = NULL};
     uint32_t code = 0;
-    size_t i, j;
-    for (i = 0; i < stack->frames.length && !code; i++) {
-        struct dwexpr_libdw_stack_frame *frame = dwexpr_libdw_frames_of(stack) + i;
-        struct dwexpr_libdw_list left = {.items = NULL};
-        const uint32_t unknown = dwexpr_libdw_find_left(&frame->frame, &left);
-        code = unknown == DWEXPR_LIBDW_NO_MEMORY ? unknown : dwexpr_libdw_add(&all, frame, sizeof *frame);
-        for (j = unknown ? 0 : left.length; j-- > 0 && !code;) {
-            const struct dwexpr_libdw_stack_frame added = {.frame = ((dwexpr_libdw_frame *)left.items)[j],
-                                                           .stack = stack};
-            code = dwexpr_libdw_add(&all, &added, sizeof added);
-        }
-        free(left.items);
-    }
+    size_t i;
+    for (i = 0; i < stack->frames.length && !code; i++)
+        code = add_with_left(&all, dwexpr_libdw_frames_of(stack) + i);
     if (code) {
         free(all.items);
         return code;

@@ -210,12 +210,31 @@ static uint32_t follow(const dwexpr_libdw_frame *frame, uint64_t address, dwexpr
 {
     uint32_t code = 0;
     int steps, is_called = 0;
+    /* GCOVR_EXCL_BR_START: no memory */
     for (steps = 0; steps < MOST_FUNCTIONS && !is_called && !code; steps++) {
+        /* GCOVR_EXCL_BR_STOP */
         is_called = enter(frame->source.caller, address, last) ? find_tail_call(last, frame, site, &address) : -1;
         if (left && is_called >= 0)
             code = add_left(left, last, site);
     }
-    return code || is_called > 0 ? code : DWEXPR_LIBDW_NO_PART;
+    return is_called > 0 || code ? code : DWEXPR_LIBDW_NO_PART; /* GCOVR_EXCL_BR_LINE: no memory */
+}
+
+/* Finds the call site that led to a frame, and whether it names the frame's function, as is_named says. It tells nothing
+ * if that may have called itself. */
+static uint32_t find_call(dwexpr_libdw_frame *frame, Dwarf_Die *site, int *is_called, uint64_t *address)
+{
+    const uint32_t code = find_call_site(frame, site);
+    if (code || may_call_itself(frame))
+        return code ? code : DWEXPR_LIBDW_NO_PART;
+    *is_called = is_named(site, frame->source.caller, frame, address);
+    return 0;
+}
+
+/* Finds what says which address a call site calls. */
+static uint32_t find_target(Dwarf_Die *site, Dwarf_Attribute *target)
+{
+    return attribute_of(site, DW_AT_call_target, DW_AT_GNU_call_site_target, target) ? 0 : DWEXPR_LIBDW_NO_PART;
 }
 
 uint32_t dwexpr_libdw_find_left(dwexpr_libdw_frame *frame, struct dwexpr_libdw_list *left)
@@ -224,17 +243,14 @@ uint32_t dwexpr_libdw_find_left(dwexpr_libdw_frame *frame, struct dwexpr_libdw_l
     dwexpr_libdw_frame last;
     Dwarf_Attribute target;
     Dwarf_Die site;
-    uint64_t address;
-    int is_called;
-    uint32_t code = find_call_site(frame, &site);
-    if (code || may_call_itself(frame))
-        return code ? code : DWEXPR_LIBDW_NO_PART;
-    is_called = is_named(&site, given.frame, frame, &address);
-    if (is_called < 0) {
-        code = attribute_of(&site, DW_AT_call_target, DW_AT_GNU_call_site_target, &target)
-                   ? dwexpr_libdw_attribute_number(&given, &target, &address)
-                   : DWEXPR_LIBDW_NO_PART;
-        is_called = !code && address == dwexpr_libdw_entry_of(frame);
+    uint64_t address = 0;
+    int is_called = 0;
+    uint32_t code = find_call(frame, &site, &is_called, &address);
+    if (!code && is_called < 0) {
+        code = find_target(&site, &target);
+        if (!code)
+            code = dwexpr_libdw_attribute_number(&given, &target, &address);
+        is_called = address == dwexpr_libdw_entry_of(frame);
     }
     return code || is_called ? code : follow(frame, address, &last, &site, left);
 }
@@ -287,18 +303,16 @@ static uint32_t ask_between(struct dwexpr_libdw_question *question, uint64_t add
 
 uint32_t dwexpr_libdw_ask(struct dwexpr_libdw_question *question, Dwarf_Attribute *value)
 {
-    dwexpr_libdw_frame *caller = question->asked = question->frame->source.caller;
-    uint64_t address;
-    int is_called;
-    const uint32_t code = find_call_site(question->frame, &question->site);
-    if (code || may_call_itself(question->frame))
-        return code ? code : DWEXPR_LIBDW_NO_PART;
-    is_called = is_named(&question->site, caller, question->frame, &address);
+    uint64_t address = 0;
+    int is_called = 0;
+    const uint32_t code = find_call(question->frame, &question->site, &is_called, &address);
+    question->asked = question->frame->source.caller;
+    if (code)
+        return code;
     if (is_called >= 0)
         return is_called ? find_passed(question, value) : ask_between(question, address, value);
     question->waits_for_target = 1;
-    return attribute_of(&question->site, DW_AT_call_target, DW_AT_GNU_call_site_target, value) ? 0
-                                                                                               : DWEXPR_LIBDW_NO_PART;
+    return find_target(&question->site, value);
 }
 
 uint32_t dwexpr_libdw_ask_target(struct dwexpr_libdw_question *question, uint64_t address, Dwarf_Attribute *value)

@@ -1,8 +1,8 @@
 /* Targets that callbacks read: programs that dumps.py wrote, with registers and memory of here, and a stopped process,
  * whose frames are those of a target that reads it by itself.
  *
- *     readers FOLDER    has the programs
- *     readers PID       is the process, on x86-64 */
+ *     open_reader FOLDER    has the programs
+ *     open_reader PID       is the process, on x86-64 */
 #include "check.h"
 #include "dwexpr_libdw.h"
 #include <dwarf.h>
@@ -150,7 +150,9 @@ static void check_program(const char *folder)
     has_code = 1; /* perhaps: nothing says that it can't be executed */
     dwexpr_libdw_free_stack(unwind(threads[1], DWEXPR_LIBDW_CUT_OFF, 1));
     has_code = 0;
-    check(!unwind(threads[2], DWEXPR_LIBDW_NO_TARGET, 0) && strlen(dwexpr_libdw_target_error()) > 0, "nowhere", "why");
+    check(!unwind(threads[2], DWEXPR_LIBDW_NO_TARGET, 0), "a thread without registers", "no stack");
+    check(!strcmp(dwexpr_libdw_target_error(), "the thread's registers can't be read"), "a thread without registers",
+          dwexpr_libdw_target_error());
     check(!unwind(99, DWEXPR_LIBDW_NO_TARGET, 0), machine->name, "no such thread");
     end();
 }

@@ -155,13 +155,13 @@ dwexpr_on_stopped(libdw_readers 0 "${all_passed}" signals-clang 1 $<TARGET_FILE:
 # By callbacks: frames of inlined functions, under a handler, of threads, and after calls of bad pointers.
 foreach(stopped "pieces-gcc-O2-5 10" "signals-gcc 1" "threads 1" "whole/modules 1" "ends 1" "ends 2")
   string(REPLACE " " ";" words ${stopped})
-  dwexpr_on_stopped("libdw_open_reader ${stopped}" 0 "(.*\n)?[1-9][0-9]* passed, 0 failed\n" ${words}
+  dwexpr_on_stopped("libdw_open_reader ${stopped}" 0 "${all_passed}" ${words}
     $<TARGET_FILE:test_libdw_open_reader> PID)
 endforeach()
 
 # Frames of functions that left by tail calls.
 foreach(place 1 2 3 4 5 6)
-  dwexpr_on_stopped("libdw_tail_calls ${place}" 0 "(.*\n)?[1-9][0-9]* passed, 0 failed\n" tail_calls ${place}
+  dwexpr_on_stopped("libdw_tail_calls ${place}" 0 "${all_passed}" tail_calls ${place}
     $<TARGET_FILE:test_libdw_tail_calls> ${place} PID)
 endforeach()
 

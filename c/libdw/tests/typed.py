@@ -338,6 +338,11 @@ class Types(Unit):
                   f".reference* is {begin}; .moved* is {begin}; .low* is {none}; .low[0] is {none}; "
                   f".table[3,0] is {none}; .nothing* is libdw refuses the debug information; .other is {none}", whole)
         self.says(f".low is {none}", itself)
+        for levels, said in [(63, 16 + 3), (64, none)]:
+            kind = inner
+            for _ in range(levels):
+                kind = add("structure_type", Entry("member", type=kind, data_member_location=0), byte_size=64)
+            self.says(f".low is {said}", kind)
         self.says("* is there is no such number", add("pointer_type", type=self.byte, byte_size=64))
 
     def values(self):

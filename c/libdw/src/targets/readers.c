@@ -32,12 +32,12 @@ static bool set_registers(Dwfl_Thread *thread, void *given)
     const pid_t number = dwfl_thread_tid(thread);
     Dwarf_Word content;
     uint32_t i;
-    for (i = 0; i < ASKED_REGISTERS; i++)
-        if (!read_register(target, number, i, &content))
-            dwfl_thread_state_registers(thread, (int)i, 1, &content);
     if (read_register(target, number, DWEXPR_LIBDW_PC, &content))
         return false;
     dwfl_thread_state_register_pc(thread, content);
+    for (i = 0; i < ASKED_REGISTERS; i++)
+        if (!read_register(target, number, i, &content))
+            dwfl_thread_state_registers(thread, (int)i, 1, &content);
     return true;
 }
 

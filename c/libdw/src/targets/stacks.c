@@ -208,6 +208,7 @@ static void add_caller(dwexpr_libdw_stack *stack)
 uint32_t dwexpr_libdw_unwind(dwexpr_libdw_target *target, pid_t thread, size_t most, dwexpr_libdw_stack **stack)
 {
     dwexpr_libdw_stack *found = (dwexpr_libdw_stack *)calloc(1, sizeof *found);
+    const char *why;
     uint32_t code;
     size_t length = 0;
     *stack = NULL;
@@ -217,8 +218,10 @@ uint32_t dwexpr_libdw_unwind(dwexpr_libdw_target *target, pid_t thread, size_t m
     found->thread = thread;
     found->most = most;
     if (dwfl_getthread_frames(target->dwfl, thread, on_frame, found) < 0 &&
-        !(found->frames.length && (is_bad_call(last_of(found)) || begins_thread(last_of(found)))))
-        cut_off(found, dwfl_errmsg(-1));
+        !(found->frames.length && (is_bad_call(last_of(found)) || begins_thread(last_of(found))))) {
+        why = dwfl_errmsg(0); /* NULL if a reader's callback failed */
+        cut_off(found, why ? why : "the thread's registers can't be read");
+    }
     link_frames(found, 0);
     /* libdwfl ends at the address 0, whatever follows */
     while (!found->code && !found->is_cut_off && length < found->frames.length) {

@@ -113,10 +113,10 @@ uint32_t dwexpr_libdw_object_variant(dwexpr_libdw_object *object, Dwarf_Die *par
 
 /* ---- members by name */
 
-/* A search for a member: through so many parts at most. */
+/* A search for a member: through so many parts at most, of which so many are within each other. */
 struct search {
     const char *name;
-    unsigned left;
+    unsigned left, levels;
     dwexpr_libdw_object *found;
 };
 
@@ -127,6 +127,9 @@ static uint32_t find_member(dwexpr_libdw_object *object, Dwarf_Die *parent, stru
     Dwarf_Die child, variant;
     uint32_t code = DWEXPR_LIBDW_NO_PART;
     int more;
+    if (!search->levels)
+        return code;
+    search->levels--;
     for (more = dwarf_child(parent, &child); more == 0 && code == DWEXPR_LIBDW_NO_PART && search->left;
          more = dwarf_siblingof(&child, &child)) {
         const int tag = dwarf_tag(&child);
@@ -149,12 +152,13 @@ static uint32_t find_member(dwexpr_libdw_object *object, Dwarf_Die *parent, stru
         else
             dwexpr_libdw_object_free(part);
     }
+    search->levels++;
     return code;
 }
 
 uint32_t dwexpr_libdw_object_named(dwexpr_libdw_object *object, const char *name, dwexpr_libdw_object **part)
 {
-    struct search search = {.name = name, .left = 10000};
+    struct search search = {.name = name, .left = 10000, .levels = 64};
     const uint32_t code = find_member(object, &object->type, &search);
     *part = search.found;
     return code;

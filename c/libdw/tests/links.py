@@ -139,12 +139,12 @@ class Links:
         self.is_in(library, "alias", second)
 
     def definitions(self):
-        """Types that the program declares: one that a library defines, also for a frame in no unit, and one that two
-        define in different ways."""
+        """Types that the program declares: one that a library defines, also for a frame there and for one in no unit;
+        and one that two define in different ways."""
         unlike = {self.library: 24, self.third: 8}
         for name, sizes, said in [("far", {self.second: 24}, 24), ("unlike", unlike, "none")]:
             kind = self.program.root.add("structure_type", name=name, declaration=True)
-            for place in (self.program.begin + 8, 0x10):
+            for place in (self.program.begin + 8, self.second.begin + 8, 0x10):
                 self.program.root.add("variable", name=f"{place:x}: size {said}", type=kind)
             for module, size in sizes.items():
                 module.root.add("structure_type", name=name, byte_size=size)

@@ -19,8 +19,9 @@ struct search {
 };
 
 /* Looks for definitions in namespaces and classes of the same names. */
-static uint32_t search_unit(struct search *search, const Dwarf_Die *unit)
+static uint32_t search_unit(void *context, const Dwarf_Die *unit)
 {
+    struct search *search = (struct search *)context;
     const size_t wanted = search->type.path.length;
     struct dwexpr_libdw_walk walk;
     int enters = 1;
@@ -37,36 +38,17 @@ static uint32_t search_unit(struct search *search, const Dwarf_Die *unit)
     return code == DWEXPR_LIBDW_NO_PART ? 0 : code;
 }
 
-/* Searches the units of a module, but one that was passed. */
-static uint32_t search_module(struct search *search, Dwfl_Module *module, const void *passed)
+static uint32_t search_module(void *context, Dwfl_Module *module)
 {
-    Dwarf_Die *unit = NULL;
-    Dwarf_Addr bias;
-    uint32_t code = 0;
-    while (!code && (unit = dwfl_module_nextcu(module, unit, &bias)) != NULL) {
-        const Dwarf_Die entries = dwexpr_libdw_entries(unit);
-        if (entries.addr != passed)
-            code = search_unit(search, &entries);
-    }
-    return code;
+    return dwexpr_libdw_visit_units(module, search_unit, context);
 }
 
-/* Searches the units of all modules, the frame's unit first, and then its module. */
-static uint32_t search_modules(struct search *search, dwexpr_libdw_frame *frame)
+/* Searches all modules, and the frame's unit, which may be in none. */
+static uint32_t search_all(struct search *search, dwexpr_libdw_frame *frame)
 {
-    const Dwarf_Die *first = &frame->place.unit;
-    Dwfl_Module *module;
-    ptrdiff_t at = 0;
-    uint32_t code = 0;
-    dwexpr_libdw_find_place(frame);
-    if (first->addr)
-        code = search_unit(search, first);
-    if (!code) /* GCOVR_EXCL_BR_LINE: no memory */
-        code = search_module(search, frame->place.module, first->addr);
-    while (!code && (at = dwexpr_libdw_next_module(frame->source.dwfl, at, &module)) > 0)
-        if (module != frame->place.module)
-            code = search_module(search, module, first->addr);
-    return code;
+    const Dwarf_Die *unit = &frame->place.unit;
+    const uint32_t code = unit->addr ? search_unit(search, unit) : 0;
+    return code ? code : dwexpr_libdw_visit_modules(frame, search_module, search);
 }
 
 /* ---- definitions that may differ */
@@ -169,16 +151,16 @@ uint32_t dwexpr_libdw_definition(dwexpr_libdw_frame *frame, Dwarf_Die *type, Dwa
         code = search_unit(&search, &unit);
     if (!code && !search.found.length) { /* GCOVR_EXCL_BR_LINE: no memory */
         dwexpr_libdw_find_module(frame, type->cu, &module, &bias);
-        code = search_module(&search, module, unit.addr);
+        code = search_module(&search, module);
     }
     if (!code && !search.found.length) /* GCOVR_EXCL_BR_LINE: no memory */
-        code = search_modules(&search, frame);
+        code = search_all(&search, frame);
     found = dwexpr_libdw_give(code, &search.found, &count);
     if (code == DWEXPR_LIBDW_NO_PART || (!code && !count)) /* GCOVR_EXCL_BR_LINE: a type is in its unit; no memory */
         code = DWEXPR_LIBDW_NOT_DEFINED;
     for (i = 1; i < count && !code; i++) {
         struct comparison comparison = {10000, 0};
-        if (!are_alike(&found[0], &found[i], &comparison))
+        if (found[i].addr != found[0].addr && !are_alike(&found[0], &found[i], &comparison))
             code = DWEXPR_LIBDW_AMBIGUOUS;
     }
     if (!code)

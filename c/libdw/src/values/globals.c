@@ -33,8 +33,9 @@ static uint32_t add_variable(struct table *table, Dwarf_Die *entry)
 }
 
 /* Adds what stands in a unit, its namespaces and its modules. */
-static uint32_t add_unit(struct table *table, const Dwarf_Die *unit)
+static uint32_t add_unit(void *context, const Dwarf_Die *unit)
 {
+    struct table *table = (struct table *)context;
     struct dwexpr_libdw_walk walk;
     int enters = 1;
     uint32_t code = dwexpr_libdw_begin_walk(&walk, unit);
@@ -47,18 +48,6 @@ static uint32_t add_unit(struct table *table, const Dwarf_Die *unit)
     }
     free(walk.path.items);
     return code == DWEXPR_LIBDW_NO_PART ? 0 : code;
-}
-
-static uint32_t add_units(struct table *table, Dwfl_Module *module)
-{
-    Dwarf_Die *unit = NULL;
-    Dwarf_Addr bias;
-    uint32_t code = 0;
-    while (!code && (unit = dwfl_module_nextcu(module, unit, &bias)) != NULL) {
-        const Dwarf_Die entries = dwexpr_libdw_entries(unit);
-        code = add_unit(table, &entries);
-    }
-    return code;
 }
 
 static int compare(const void *first, const void *second)
@@ -85,7 +74,7 @@ static uint32_t find_table(struct dwexpr_libdw_names *names, const Dwarf_Die *un
     while (i < names->tables.length && tables[i].of != made.of)
         i++;
     if (i == names->tables.length) {
-        code = unit ? add_unit(&made, unit) : add_units(&made, module);
+        code = unit ? add_unit(&made, unit) : dwexpr_libdw_visit_units(module, add_unit, &made);
         if (made.names.length)
             qsort(made.names.items, made.names.length, sizeof(struct name), compare);
         if (!code)
@@ -167,28 +156,30 @@ static uint32_t search_in(struct search *search, const Dwarf_Die *unit, Dwfl_Mod
     return code;
 }
 
+static uint32_t search_module(void *context, Dwfl_Module *module)
+{
+    return search_in((struct search *)context, NULL, module);
+}
+
+/* Searches all modules, the frame's unit first. */
+static uint32_t search_all(struct search *search, dwexpr_libdw_frame *frame)
+{
+    const Dwarf_Die *unit = &frame->place.unit;
+    uint32_t code = 0;
+    dwexpr_libdw_find_place(frame);
+    if (unit->addr) {
+        code = search_in(search, unit, NULL);
+        search->left_out = unit->cu;
+    }
+    return code ? code : dwexpr_libdw_visit_modules(frame, search_module, search);
+}
+
 uint32_t dwexpr_libdw_globals(dwexpr_libdw_frame *frame, Dwfl_Module *module, const char *name, Dwarf_Die **globals,
                               size_t *count)
 {
     struct dwexpr_libdw_names own = {.tables = {.length = 0}};
     struct search search = {.names = frame->source.names ? frame->source.names : &own, .name = name};
-    const dwexpr_libdw_place *place = &frame->place;
-    Dwfl_Module *other;
-    ptrdiff_t at = 0;
-    uint32_t code = 0;
-    dwexpr_libdw_find_place(frame);
-    if (module) {
-        code = search_in(&search, NULL, module);
-    } else {
-        if (place->unit.addr)
-            code = search_in(&search, &place->unit, NULL);
-        search.left_out = place->unit.addr ? place->unit.cu : NULL;
-        if (!code && place->module)
-            code = search_in(&search, NULL, place->module);
-        while (!code && (at = dwexpr_libdw_next_module(frame->source.dwfl, at, &other)) > 0)
-            if (other != place->module)
-                code = search_in(&search, NULL, other);
-    }
+    const uint32_t code = module ? search_module(&search, module) : search_all(&search, frame);
     free_tables(&own);
     *globals = dwexpr_libdw_give(code, &search.found, count);
     return code;

@@ -14,6 +14,34 @@ ptrdiff_t dwexpr_libdw_next_module(Dwfl *dwfl, ptrdiff_t at, Dwfl_Module **modul
     return dwfl_getmodules(dwfl, on_module, module, at);
 }
 
+uint32_t dwexpr_libdw_visit_modules(dwexpr_libdw_frame *frame,
+                                    uint32_t (*visit)(void *context, Dwfl_Module *module), void *context)
+{
+    Dwfl_Module *module;
+    ptrdiff_t at = 0;
+    uint32_t code = 0;
+    dwexpr_libdw_find_place(frame);
+    if (frame->place.module)
+        code = visit(context, frame->place.module);
+    while (!code && (at = dwexpr_libdw_next_module(frame->source.dwfl, at, &module)) > 0)
+        if (module != frame->place.module)
+            code = visit(context, module);
+    return code;
+}
+
+uint32_t dwexpr_libdw_visit_units(Dwfl_Module *module, uint32_t (*visit)(void *context, const Dwarf_Die *unit),
+                                  void *context)
+{
+    Dwarf_Die *unit = NULL;
+    Dwarf_Addr bias;
+    uint32_t code = 0;
+    while (!code && (unit = dwfl_module_nextcu(module, unit, &bias)) != NULL) {
+        const Dwarf_Die entries = dwexpr_libdw_entries(unit);
+        code = visit(context, &entries);
+    }
+    return code;
+}
+
 /* Whether debug information belongs to a module; if `is_split`, as a separate file that one of its units names. */
 static int is_of(Dwfl_Module *module, const Dwarf *wanted, int is_split, Dwarf_Addr *bias)
 {

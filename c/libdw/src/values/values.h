@@ -296,6 +296,12 @@ uint32_t dwexpr_libdw_find_scopes(Dwarf_Die *unit, Dwarf_Addr address, struct dw
 
 /* The module at a place, 0 for the first one. Gives back the next place; 0 or less at the end, and then no module. */
 ptrdiff_t dwexpr_libdw_next_module(Dwfl *dwfl, ptrdiff_t at, Dwfl_Module **module);
+/* Calls a function with each module, a frame's module first, or with each unit of a module, until it returns a code.
+ * Returns that. */
+uint32_t dwexpr_libdw_visit_modules(dwexpr_libdw_frame *frame,
+                                    uint32_t (*visit)(void *context, Dwfl_Module *module), void *context);
+uint32_t dwexpr_libdw_visit_units(Dwfl_Module *module, uint32_t (*visit)(void *context, const Dwarf_Die *unit),
+                                  void *context);
 /* Finds the module of a unit, and what is added to its addresses: those of the frame if the unit is NULL. Returns 0 or
  * DWEXPR_LIBDW_FAILED. */
 uint32_t dwexpr_libdw_find_module(dwexpr_libdw_frame *frame, Dwarf_CU *unit, Dwfl_Module **module, Dwarf_Addr *bias);

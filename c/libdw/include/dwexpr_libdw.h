@@ -124,7 +124,7 @@ uint32_t dwexpr_libdw_open_core(const char *file, const char *program, const cha
  * `core`, which is NULL for a process. Both have to outlive the target. Returns as above. */
 uint32_t dwexpr_libdw_attach(Dwfl *dwfl, Elf *core, dwexpr_libdw_target **target);
 
-/* The number of no register: the address at which a thread stands. */
+/* The number of no register: a reader's callback gives the address at which a thread stands. */
 #define DWEXPR_LIBDW_PC UINT32_MAX
 
 /* What reads a target that is neither a process of this machine nor a core dump: of a debugger's stub, a profiler's
@@ -140,8 +140,8 @@ typedef struct dwexpr_libdw_reader {
 } dwexpr_libdw_reader;
 
 /* Makes a target of a Dwfl of the caller's, whose modules are what is loaded: dwfl_report_elf takes a file and its
- * address. It mustn't be attached before. It has to outlive the target, as all that the reader points to, and can only
- * be ended after the target or a code. Returns as above. */
+ * address. The Dwfl mustn't be attached to anything. It has to outlive the target, and so has what the reader points to.
+ * After the target is closed, or after a code, it can only be ended. Returns as above. */
 uint32_t dwexpr_libdw_open_reader(Dwfl *dwfl, const dwexpr_libdw_reader *reader, dwexpr_libdw_target **target);
 
 /* The system's or libdw's message on why the last of these calls gave no target, or dwexpr_libdw_unwind cut frames off.
@@ -179,11 +179,11 @@ uint32_t dwexpr_libdw_add_tail_calls(dwexpr_libdw_stack *stack);
 /* A frame of a stack, 0 for the innermost; NULL if there is none. It belongs to the stack. */
 dwexpr_libdw_frame *dwexpr_libdw_frame_at(dwexpr_libdw_stack *stack, size_t index);
 
-/* The variables outside of functions, by their names. They are read from a module when it is searched first. Frames of
- * one target, or of one Dwfl whose modules stay, may share them. Targets do so by themselves. */
+/* A table of the variables outside of functions, by their names. Those of a module are read when it is searched first.
+ * The frames of a target share one. Frames of the caller's own may, if the modules of their Dwfl stay. */
 typedef struct dwexpr_libdw_names dwexpr_libdw_names;
 
-/* Makes them. Returns 0 or DWEXPR_LIBDW_NO_MEMORY. Free them after the frames. */
+/* Makes a table. Returns 0 or DWEXPR_LIBDW_NO_MEMORY. Free it after the frames. */
 uint32_t dwexpr_libdw_make_names(dwexpr_libdw_names **names);
 void dwexpr_libdw_free_names(dwexpr_libdw_names *names);
 

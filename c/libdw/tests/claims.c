@@ -221,11 +221,11 @@ static void check_file(const char *path)
         subject.foreign = subject.unit;
         subject.unit = *dwfl_module_nextcu(module, NULL, &bias);
     }
+    names = NULL;
     if (strstr(path, ".functions"))
         dwexpr_libdw_make_names(&names);
     check_rows(path, dwfl ? ':' : ' ');
     dwexpr_libdw_free_names(names);
-    names = NULL;
     dwfl_end(dwfl);
     dwfl = NULL;
     dwarf_end(dwarf);
@@ -284,8 +284,8 @@ static void check_lines(const char *path)
 static int words_length;
 static char **words;
 
-/* Checks the claims in files on the first thread of a process or a core dump. Runs on a small stack. */
-static void *check_program(void *unused)
+/* Checks the claims in files on the first thread of a process or a core dump. */
+static void check_program(void)
 {
     const pid_t number = (pid_t)atol(words[0]), *threads;
     const uint32_t code = number ? dwexpr_libdw_open_process(number, NULL, &subject.target)
@@ -300,7 +300,6 @@ static void *check_program(void *unused)
         dwexpr_libdw_free_stack(subject.stack);
     }
     dwexpr_libdw_close(subject.target);
-    return unused;
 }
 
 static void check_path(const char *path)
@@ -331,6 +330,16 @@ static void check_files(void)
     }
 }
 
+/* Runs on a small stack. */
+static void *run(void *unused)
+{
+    if (strstr(words[words_length - 1], ".claims"))
+        check_program();
+    else
+        check_files();
+    return unused;
+}
+
 int main(int argc, char **argv)
 {
     pthread_attr_t attributes;
@@ -340,13 +349,8 @@ int main(int argc, char **argv)
     words_length = argc - 1;
     words = argv + 1;
     elf_version(EV_CURRENT);
-    if (!strstr(argv[argc - 1], ".claims")) {
-        check_files();
-        return finish();
-    }
     pthread_attr_init(&attributes);
     pthread_attr_setstacksize(&attributes, 1 << 17);
-    check(!pthread_create(&thread, &attributes, check_program, NULL) && !pthread_join(thread, NULL), "a thread",
-          "it has run");
+    check(!pthread_create(&thread, &attributes, run, NULL) && !pthread_join(thread, NULL), "a thread", "it has run");
     return finish();
 }

@@ -37,7 +37,7 @@
  *     BYTES on FRAME is VALUE     the value of an expression; with `with N`, that is on its stack at first, and with
  *                                 `with N N`, the second one is the object's address
  *     register N in FRAME is VALUE
- *     memory ADDRESS SIZE in FRAME is VALUE
+ *     memory ADDRESS SIZE in FRAME is VALUE    `pc` is where the frame stands
  *     rule N in FRAME is RULE     the rule of a register, or of the CFA if N is -1: BYTES, on the CFA, a value, CODE
  *     by rule N in FRAME is VALUE the value of that expression; also `with N`
  *     limit N in FRAME            so many expressions may be evaluated for one
@@ -50,14 +50,16 @@
  *     all of NAME in FRAME is N   how many globals have the name
  *     all in FRAME is N           how many globals the frame's module has
  *     frames MOST is N, CODE      how many frames the thread has, if at most so many are looked for; `all` for 0
+ *     functions is NAME NAME..    of the frames up to main, with a star after one that left by a tail call
+ *     tail calls                  the frames that left are added, and the caller's registers are as before
  *     threads FIRST is N          how many threads there are
  *     seen                        each local NAME_is of a function has what NAME has there, and NAME_isnt hasn't
  *
- * A claim on the frames `0 to 5` or `0 to last` has to hold for each, and a number `9 down to 4` counts with them. A
- * VALUE is bytes: `??` is an unknown one, 0a?f0 has a mask of its unknown bits, and `4 bits 0a` are fewer. After them,
- * or alone, is CODE, the name of a code. Or it is `known`; `at ADDRESS`; `in register N`; or `into NAME`, which is that
- * variable. `none` is no number, `missing` no such variable, and `nameless` one that has no name. A TEXT may have
- * several with `, or ` between them. */
+ * A claim on the frames or the registers `0 to 5`, or `0 to last`, has to hold for each, and a number `9 down to 4`
+ * counts with them. A VALUE is bytes: `??` is an unknown one, 0a?f0 has a mask of its unknown bits, and `4 bits 0a` are
+ * fewer. After them, or alone, is CODE, the name of a code. Or it is `known`; `at ADDRESS`; `in register N`; or
+ * `into NAME`, which is that variable. `none` is no number, `missing` no such variable, and `nameless` one that has no
+ * name. A TEXT may have several with `, or ` between them. */
 #ifndef CLAIMS_H
 #define CLAIMS_H
 

@@ -363,10 +363,14 @@ static int is_register(const struct claim *claim)
 static int is_memory(const struct claim *claim)
 {
     uint8_t got[64];
-    const uint64_t address = strtoull(claim->word[1], NULL, 16);
     const size_t size = strtoul(claim->word[2], NULL, 10);
-    const uint32_t code = dwexpr_libdw_memory(claim->frame, address, got, size);
-    return are_bytes(claim, code, got, size);
+    dwexpr_libdw_place place;
+    uint64_t address = strtoull(claim->word[1], NULL, 16);
+    if (!strcmp(claim->word[1], "pc")) {
+        dwexpr_libdw_locate(claim->frame, &place);
+        address = place.pc;
+    }
+    return are_bytes(claim, dwexpr_libdw_memory(claim->frame, address, got, size), got, size);
 }
 
 /* ---- frames */
@@ -387,6 +391,46 @@ static int has_frames(const struct claim *claim)
         return 0;
     snprintf(text, sizeof text, "%zu, %s", count, name);
     return !strcmp(text, claim->said) || !strcmp(name, claim->said);
+}
+
+/* functions is NAME NAME.., up to main, each with a star if it left by a tail call */
+static int are_functions(const struct claim *claim)
+{
+    char text[256] = "";
+    dwexpr_libdw_frame *frame;
+    size_t number, length = 0;
+    for (number = 0; (frame = frame_number(number)) != NULL && !strstr(text, "main"); number++) {
+        dwexpr_libdw_place place;
+        dwexpr_libdw_locate(frame, &place);
+        snprintf(text + length, sizeof text - length, "%s%s%s", number ? " " : "",
+                 place.function.addr ? dwarf_diename(&place.function) : "?", place.has_left ? "*" : "");
+        length = strlen(text);
+    }
+    return !strcmp(text, claim->said);
+}
+
+/* Reads the registers of the first caller that hasn't left. */
+static void read_caller(uint8_t registers[16][DWEXPR_LIBDW_REGISTER_SIZE])
+{
+    dwexpr_libdw_frame *frame = NULL;
+    dwexpr_libdw_place place = {.has_left = 1};
+    size_t number, size;
+    for (number = 1; place.has_left && (frame = frame_number(number)) != NULL; number++)
+        dwexpr_libdw_locate(frame, &place);
+    for (number = 0; frame && number < 16; number++)
+        dwexpr_libdw_register(frame, (uint32_t)number, registers[number], &size);
+}
+
+/* tail calls */
+static int has_tail_calls(const struct claim *claim)
+{
+    uint8_t before[16][DWEXPR_LIBDW_REGISTER_SIZE] = {{1}}, after[16][DWEXPR_LIBDW_REGISTER_SIZE];
+    (void)claim;
+    read_caller(before);
+    if (dwexpr_libdw_add_tail_calls(subject.stack))
+        return 0;
+    read_caller(after);
+    return !memcmp(before, after, sizeof before);
 }
 
 /* threads FIRST is N */
@@ -502,7 +546,8 @@ static const struct kind {
 } kinds[] = {
     {{"limit"}, set_limit}, {{"first", "of"}, has_first_text}, {{"each"}, has_each_text}, {{"all"}, has_globals},
     {{"register"}, is_register}, {{"memory"}, is_memory}, {{"rule"}, is_rule}, {{"by", "rule"}, has_value_by_rule},
-    {{"frames"}, has_frames}, {{"threads"}, has_threads}, {{"count", "in"}, has_variables},
+    {{"frames"}, has_frames}, {{"functions"}, are_functions}, {{"tail", "calls"}, has_tail_calls},
+    {{"threads"}, has_threads}, {{"count", "in"}, has_variables},
     {{"function", "in"}, is_function}, {{"address", "in"}, is_at_address}, {{"seen"}, are_seen},
     {{NULL, "on"}, has_expression},
 };

@@ -137,7 +137,7 @@ endfunction()
 set(all_passed "(.*\n)?[1-9][0-9]* passed, 0 failed\n")
 function(dwexpr_claims program place)
   list(TRANSFORM ARGN PREPEND ${CMAKE_CURRENT_SOURCE_DIR}/)
-  dwexpr_on_stopped("libdw_claims ${program}" 0 "${all_passed}" ${program} ${place}
+  dwexpr_on_stopped("libdw_claims ${program} ${place}" 0 "${all_passed}" ${program} ${place}
     $<TARGET_FILE:test_libdw_claims> PID ${ARGN})
 endfunction()
 dwexpr_claims(deep 1 stopped/deep.claims)
@@ -150,6 +150,12 @@ endforeach()
 foreach(kind copies address distance descriptor clang static)
   dwexpr_claims(bound-${kind}/program 1 bound.claims)
 endforeach()
+foreach(place 1 2)
+  dwexpr_claims(tail_calls ${place} stopped/tail_calls_${place}.claims stopped/tail_calls_left.claims)
+endforeach()
+foreach(place 3 4 5 6)
+  dwexpr_claims(tail_calls ${place} stopped/tail_calls_${place}.claims)
+endforeach()
 dwexpr_on_stopped(libdw_readers 0 "${all_passed}" signals-clang 1 $<TARGET_FILE:test_libdw_readers> PID)
 
 # By callbacks: frames of inlined functions, under a handler, of threads, and after calls of bad pointers.
@@ -157,12 +163,6 @@ foreach(stopped "pieces-gcc-O2-5 10" "signals-gcc 1" "threads 1" "whole/modules 
   string(REPLACE " " ";" words ${stopped})
   dwexpr_on_stopped("libdw_open_reader ${stopped}" 0 "${all_passed}" ${words}
     $<TARGET_FILE:test_libdw_open_reader> PID)
-endforeach()
-
-# Frames of functions that left by tail calls.
-foreach(place 1 2 3 4 5 6)
-  dwexpr_on_stopped("libdw_tail_calls ${place}" 0 "${all_passed}" tail_calls ${place}
-    $<TARGET_FILE:test_libdw_tail_calls> ${place} PID)
 endforeach()
 
 # In `middle`, which `outermost` called with 3, and `main` with argc 2. The others are in no frame but one of these.

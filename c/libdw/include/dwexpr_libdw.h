@@ -140,8 +140,8 @@ typedef struct dwexpr_libdw_reader {
 } dwexpr_libdw_reader;
 
 /* Makes a target of a Dwfl of the caller's, whose modules are what is loaded: dwfl_report_elf takes a file and its
- * address. The Dwfl mustn't be attached to anything. It has to outlive the target, and so has what the reader points to.
- * After the target is closed, or after a code, it can only be ended. Returns as above. */
+ * address. The Dwfl mustn't be attached to anything. It has to outlive the target, and so has what the reader points
+ * to. After the target is closed, or after a code, it can only be ended. Returns as above. */
 uint32_t dwexpr_libdw_open_reader(Dwfl *dwfl, const dwexpr_libdw_reader *reader, dwexpr_libdw_target **target);
 
 /* The system's or libdw's message on why the last of these calls gave no target, or dwexpr_libdw_unwind cut frames off.

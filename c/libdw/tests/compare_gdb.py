@@ -22,8 +22,8 @@ NUMBERS = {
 REFERENCES = {gdb.TYPE_CODE_REF, gdb.TYPE_CODE_RVALUE_REF}
 # bytes.c prints no more
 MOST_BYTES = 4096
-# In libc it has a system call's answer. The signals that stop and dump a process change it in a thread that waits in the
-# call.
+# In libc it has a system call's answer. The signals that stop and dump a process change it in a thread that waits in
+# the call.
 ANSWER = "sc_ret"
 
 # ---- what gdb says

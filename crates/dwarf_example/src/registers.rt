@@ -12,33 +12,28 @@ use dwarf_expr::store::EvaluationStorage;
 use dwarf_expr::value::Value;
 
 /// Evaluates with the values of registers, and at most `step` more operations after each of them. `false` if the
-/// expression asks for anything else; that request stays open.
-pub fn complete_with_registers<R: Reader + Copy + PartialEq, S: EvaluationStorage<R>>(
+/// expression asks for anything else, or for a register that isn't there; that request stays open.
+pub fn complete_with_registers<R: Reader + Copy, S: EvaluationStorage<R>>(
     evaluation: &mut Evaluation<R, S>,
     registers: &[u64],
     step: u32,
 ) -> Result<bool>
     requires { IsClosed evaluation.old.status }
-    ensures { IfOk result (λ complete. complete ≡ true → IsComplete evaluation.new.status) }
+    ensures { IfOk result (λ complete. (complete ≡ true) ↔ IsComplete evaluation.new.status) }
 {
     let mut most = step;
     evaluation.set_max_iterations(most);
     let mut request = evaluation.evaluate()?;
-    'requests: while request != EvaluationResult::Complete {
-        match request {
-            EvaluationResult::RequiresRegister { register, .. } => {
-                let value = match registers.get(usize::from(register.0)) {
-                    Some(value) => *value,
-                    None => return Ok(false),
-                };
-                most = most.saturating_add(step);
-                evaluation.set_max_iterations(most);
-                request = evaluation.resume_with_register(Value::Generic(value))?;
-            }
-            _ => return Ok(false),
-        }
+    'requests: while let EvaluationResult::RequiresRegister { register, .. } = request {
+        let value = match registers.get(usize::from(register.0)) {
+            Some(value) => *value,
+            None => break 'requests,
+        };
+        most = most.saturating_add(step);
+        evaluation.set_max_iterations(most);
+        request = evaluation.resume_with_register(Value::Generic(value))?;
     }
-    Ok(true)
+    Ok(matches!(evaluation.status(), Status::Complete))
 }
 
 /// Evaluates with 0 as the value of every register. `false` if the expression asks for anything else; that request stays

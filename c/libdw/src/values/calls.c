@@ -220,8 +220,8 @@ static uint32_t follow(const dwexpr_libdw_frame *frame, uint64_t address, dwexpr
     return is_called > 0 || code ? code : DWEXPR_LIBDW_NO_PART; /* GCOVR_EXCL_BR_LINE: no memory */
 }
 
-/* Finds the call site that led to a frame, and whether it names the frame's function, as is_named says. It tells nothing
- * if that may have called itself. */
+/* Finds the call site that led to a frame, and whether it names the frame's function, as is_named says. It tells
+ * nothing if that may have called itself. */
 static uint32_t find_call(dwexpr_libdw_frame *frame, Dwarf_Die *site, int *is_called, uint64_t *address)
 {
     const uint32_t code = find_call_site(frame, site);

@@ -43,6 +43,7 @@ REQUIRED = re.compile(rf"^requires\n(?:[^{{].*\n)?({BLOCK})", re.MULTILINE)
 # Attributes that don't change what a function does.
 ATTRIBUTES = {
     "#[cold]",
+    "#[inline]",
     "#[inline(always)]",
     "#[inline(never)]",
     '#[cfg_attr(not(any(feature = "small", debug_assertions)), inline(always))]',

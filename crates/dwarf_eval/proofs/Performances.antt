@@ -1,5 +1,5 @@
 -- What an operation does to a state is what its act says.
-use Rattle.std.proofs.Common.{ℕ, ℤ, ◌≡◌, ◌+◌, ◌<◌, ◌≤◌, Bool, true, false, List, [], ◌∷◌, length, Option, Result, Ok, Err, Some, None, arith, ap, ◌∙◌, sym, refl, subst, nat_lt}
+use Rattle.std.proofs.Common.{ℕ, ℤ, ◌≡◌, ◌+◌, ◌<◌, ◌≤◌, Bool, true, false, List, [], ◌∷◌, length, Result, Ok, Err, Some, None, arith, ap, ◌∙◌, sym, refl, subst, nat_lt}
 use Rattle.std.proofs.lemmas.Bool.{cond-true, cond-false}
 use Rattle.std.proofs.lemmas.Bool.Decides.{nat_tests}
 use Rattle.dwarf_base.specs.declared.errors.Error.{Error}
@@ -16,8 +16,7 @@ use Rattle.dwarf_meaning.specs.Stores.{address_bits, Setup, Store, Last, Plain, 
 use Rattle.dwarf_meaning.specs.Rest.{State, Status, Start, Running, RequestStatus, CompleteStatus, FaultStatus, with_refusal}
 use Rattle.dwarf_meaning.specs.Refusals.{Refusal, Never}
 use Rattle.dwarf_meaning.specs.Inputs.{with_status}
-use Rattle.dwarf_eval.specs.inner.Machine.{replied_status}
-use Rattle.dwarf_eval.specs.inner.StateChanges.{Asks, Stays, TriesChange, HasTriedChange, Pops, TriesToPop, Jumps, do_act_at, LeadsToFault, LeadsBy, Performs, with_store, with_values, with_last, with_place, PopsTo, before_pushes}
+use Rattle.dwarf_eval.specs.inner.StateChanges.{Stays, TriesChange, HasTriedChange, Pops, TriesToPop, Jumps, do_act_at, LeadsToFault, LeadsBy, Performs, with_store, with_values, with_last, with_place, PopsTo, before_pushes}
 use Rattle.dwarf_eval.proofs.RefusedPushes.{tries_as, bind_ok}
 use Rattle.dwarf_eval.proofs.Staying.{fewer_one, stays_from, stays_here, stays_low, stays_then}
 
@@ -111,11 +110,6 @@ performs_ends rest piece old mid new done runs fewer e h =
 pub performs_asks : (request : Request) (on_answer : OnAnswer) (old new : State) → new ≡ with_status (RequestStatus request on_answer) old → Performs (RequestAct old.store.values request on_answer) old new
 performs_asks request on_answer old new e =
     subst (Performs (RequestAct old.store.values request on_answer) old) (sym e) (record { steps = record { pushes = 0; same = λ r. refl }; alone = refl })
-
--- a request was opened, if there is one
-pub asks_by : (asked : Option Request) (on_answer : OnAnswer) (old new : State) → new ≡ with_status (replied_status asked on_answer) old → Asks asked on_answer old new
-asks_by None on_answer old new e = tt
-asks_by (Some request) on_answer old new e = performs_asks request on_answer old new e
 
 -- a branch is taken
 pub performs_branch : (t : ℤ) (old mid new : State) (target : ℕ) (done : Bool) → old.status ≡ Running → mid ≡ with_last Plain old → target ≡ branch_target mid.setup mid.place t → Jumps target mid new done → Performs (Branches old.store.values t) old new

@@ -1,38 +1,39 @@
 -- What a machine is given as an answer, what it waits for, and how it ended.
-use Rattle.std.specs.Prelude.{◌≡◌, Option, Some, None, Result, Ok, Err}
+use Rattle.std.specs.Prelude.{ℤ, ◌≡◌, Option, Some, None, Result, Ok, Err}
 use Rattle.dwarf_base.specs.declared.errors.Error.{Error}
 use Rattle.dwarf_base.specs.Reads.{Text}
 use Rattle.dwarf_meaning.specs.Inputs.{fresh_state, with_settings, with_status}
 use Rattle.dwarf_meaning.specs.declared.kinds.WaitingKind.{WaitingKind}
-use Rattle.dwarf_meaning.specs.declared.kinds.WaitingKind.TheVariants as kind
 use Rattle.dwarf_meaning.specs.Kinds.{kind_of_request}
 use Rattle.dwarf_meaning.specs.Requests as requests
 use Rattle.dwarf_meaning.specs.Rest as rest
 use Rattle.dwarf_meaning.specs.Rest.{Start, Running, RequestStatus, CompleteStatus, FaultStatus}
 use Rattle.dwarf_eval.specs.declared.op.results.EvaluationResult.{EvaluationResult}
 use Rattle.dwarf_eval.specs.declared.op.results.EvaluationResult.TheVariants as result
-use Rattle.dwarf_eval.specs.declared.run.states.Given.{Given}
-use Rattle.dwarf_eval.specs.declared.run.states.Given.TheVariants as given
+use Rattle.dwarf_eval.specs.declared.run.states.Answer.{Answer}
+use Rattle.dwarf_eval.specs.declared.run.states.Answer.TheVariants as answer
 
 -- what a machine is given, as an answer
-abbrev pub answer_of : {R : Type 0} → (R → Text) → Given R → requests.Answer
-answer_of text (given.Memory value) = requests.ValueAnswer kind.Memory value
-answer_of text (given.Register value) = requests.ValueAnswer kind.Register value
-answer_of text (given.WasmValue value) = requests.ValueAnswer kind.WasmValue value
-answer_of text (given.EntryValue value) = requests.ValueAnswer kind.EntryValue value
-answer_of text (given.FrameBase number) = requests.NumberAnswer kind.FrameBase number
-answer_of text (given.Tls number) = requests.NumberAnswer kind.Tls number
-answer_of text (given.CallFrameCfa number) = requests.NumberAnswer kind.CallFrameCfa number
-answer_of text (given.ParameterRef number) = requests.NumberAnswer kind.ParameterRef number
-answer_of text (given.RelocatedAddress number) = requests.NumberAnswer kind.RelocatedAddress number
-answer_of text (given.IndexedAddress number) = requests.NumberAnswer kind.IndexedAddress number
-answer_of text (given.AtLocation expression) = requests.LocationAnswer (text expression)
-answer_of text (given.BaseType value_type) = requests.BaseTypeAnswer value_type
+abbrev pub answer_of : {R : Type 0} → (R → Text) → Answer R → requests.Answer
+answer_of text (answer.Value kind value) = requests.ValueAnswer kind value
+answer_of text (answer.Number kind number) = requests.NumberAnswer kind number
+answer_of text (answer.Location expression) = requests.LocationAnswer (text expression)
+answer_of text (answer.BaseType value_type) = requests.BaseTypeAnswer value_type
 
 -- a request is open
 abbrev pub IsWaiting : rest.Status → Type 0
 IsWaiting (RequestStatus request on_answer) = Unit {0}
 IsWaiting _ = ⊥
+
+-- the offset that is added to an answer
+abbrev pub offset_of : requests.OnAnswer → Option ℤ
+offset_of (requests.Add offset) = Some offset
+offset_of _ = None
+
+-- the offset that is added to the answer to the open request
+abbrev pub offset_in : rest.Status → Option ℤ
+offset_in (RequestStatus request on_answer) = offset_of on_answer
+offset_in _ = None
 
 -- the kind of the open request, if there is one
 abbrev pub open_kind : rest.Status → Option WaitingKind

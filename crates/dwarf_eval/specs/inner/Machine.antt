@@ -1,5 +1,5 @@
 -- An evaluation as a state of the meaning: its readers are seen as texts and places.
-use Rattle.std.specs.Prelude.{ℕ, List, Option, Some, None, ◌*◌, ◌-◌, ◌≡◌, length, reverse, map}
+use Rattle.std.specs.Prelude.{ℕ, List, Option, ◌*◌, ◌-◌, ◌≡◌, length, reverse, map}
 use Rattle.std.specs.List.{AllByRecursion}
 use Rattle.dwarf_base.specs.declared.common.Encoding.{Encoding}
 use Rattle.dwarf_base.specs.Reads.{IsRestOf, Text}
@@ -12,14 +12,13 @@ use Rattle.dwarf_meaning.specs.Inputs.{fresh_state}
 use Rattle.dwarf_meaning.specs.Run.{Position}
 use Rattle.dwarf_meaning.specs.Rest.{State, Status, Start, Running, RequestStatus, CompleteStatus, FaultStatus}
 use Rattle.dwarf_meaning.specs.Refusals.{Limits, Never}
-use Rattle.dwarf_op.specs.Views.{location_of, piece_of}
-use Rattle.dwarf_eval.specs.Evaluation.{request_in}
+use Rattle.dwarf_op.specs.Views.{location_of, piece_of, reference_of}
 use Rattle.dwarf_op.specs.declared.locations.Location.{Location}
 use Rattle.dwarf_op.specs.declared.locations.Piece.{Piece}
 use Rattle.dwarf_eval.specs.declared.run.states.LastOperation.{LastOperation}
 use Rattle.dwarf_eval.specs.declared.run.states.LastOperation.TheVariants as last
-use Rattle.dwarf_eval.specs.declared.run.states.OnAnswer.{OnAnswer}
-use Rattle.dwarf_eval.specs.declared.run.states.OnAnswer.TheVariants as on
+use Rattle.dwarf_eval.specs.declared.run.states.EvaluationWaiting.{EvaluationWaiting}
+use Rattle.dwarf_eval.specs.declared.run.states.EvaluationWaiting.TheVariants as waiting
 use Rattle.dwarf_eval.specs.declared.run.states.EvaluationState.{EvaluationState}
 use Rattle.dwarf_eval.specs.declared.run.states.EvaluationState.TheVariants as state
 
@@ -32,26 +31,43 @@ last_of last.Pushed location = Pushed
 last_of last.Called location = Called
 last_of last.Located location = Located location
 
--- maps the use of an answer in the code to the definitions
-abbrev pub on_answer_of : {R : Type 0} → (R → Text) → OnAnswer R → requests.OnAnswer
-on_answer_of text on.AsItIs = requests.Push
-on_answer_of text (on.Add offset) = requests.Add offset
-on_answer_of text (on.Parse literal) = requests.Parse (text literal)
-on_answer_of text on.Convert = requests.Convert
-on_answer_of text on.Reinterpret = requests.Reinterpret
+module _ {R O : Type 0} (text : R → Text) (number : O → ℕ) where
+  -- the request for what the code waits for
+  abbrev pub request_of : EvaluationWaiting R O → requests.Request
+  request_of (waiting.Memory address size space base_type) =
+      requests.RequiresMemory address size space (number base_type.0)
+  request_of (waiting.Register register base_type offset) = requests.RequiresRegister register.0 (number base_type.0)
+  request_of (waiting.WasmLocal index) = requests.RequiresWasmLocal index
+  request_of (waiting.WasmGlobal index) = requests.RequiresWasmGlobal index
+  request_of (waiting.WasmStack index) = requests.RequiresWasmStack index
+  request_of (waiting.FrameBase offset) = requests.RequiresFrameBase
+  request_of (waiting.Tls index) = requests.RequiresTls index
+  request_of waiting.CallFrameCfa = requests.RequiresCallFrameCfa
+  request_of (waiting.AtLocation entry) = requests.RequiresAtLocation (reference_of number entry)
+  request_of (waiting.EntryValue expression) = requests.RequiresEntryValue (text expression)
+  request_of (waiting.ParameterRef parameter) = requests.RequiresParameterRef (number parameter.0)
+  request_of (waiting.RelocatedAddress address) = requests.RequiresRelocatedAddress address
+  request_of (waiting.IndexedAddress index relocate) = requests.RequiresIndexedAddress (number index.0) relocate
+  request_of (waiting.TypedLiteral base_type value) = requests.RequiresBaseType (number base_type.0)
+  request_of (waiting.Convert base_type) = requests.RequiresBaseType (number base_type.0)
+  request_of (waiting.Reinterpret base_type) = requests.RequiresBaseType (number base_type.0)
 
--- the status after a reply: complete without a value, or in this request
-abbrev pub replied_status : Option requests.Request → requests.OnAnswer → Status
-replied_status None on_answer = CompleteStatus None
-replied_status (Some request) on_answer = RequestStatus request on_answer
+  -- how its answer is used
+  abbrev pub on_answer_of : EvaluationWaiting R O → requests.OnAnswer
+  on_answer_of (waiting.Register register base_type offset) = requests.Add offset
+  on_answer_of (waiting.FrameBase offset) = requests.Add offset
+  on_answer_of (waiting.TypedLiteral base_type value) = requests.Parse (text value)
+  on_answer_of (waiting.Convert base_type) = requests.Convert
+  on_answer_of (waiting.Reinterpret base_type) = requests.Reinterpret
+  on_answer_of _ = requests.Push
 
--- maps a state of the code to a status of the definitions
-abbrev pub status_of : {R O : Type 0} → (R → Text) → (O → ℕ) → EvaluationState R O → requests.OnAnswer → Status
-status_of text number (state.Start initial_value) on_answer = Start initial_value
-status_of text number state.Running on_answer = Running
-status_of text number (state.Waiting request) on_answer = replied_status (request_in text number request) on_answer
-status_of text number (state.Complete value) on_answer = CompleteStatus value
-status_of text number (state.Failed error) on_answer = FaultStatus error
+  -- maps a state of the code to a status of the definitions
+  abbrev pub status_of : EvaluationState R O → Status
+  status_of (state.Start initial_value) = Start initial_value
+  status_of state.Running = Running
+  status_of (state.Waiting waiting) = RequestStatus (request_of waiting) (on_answer_of waiting)
+  status_of (state.Complete value) = CompleteStatus value
+  status_of (state.Failed error) = FaultStatus error
 
 -- the place in a text at which this rest of it begins
 abbrev pub place_of : (whole left : Text) → ℕ

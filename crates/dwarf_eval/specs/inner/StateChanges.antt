@@ -10,7 +10,7 @@ use Rattle.dwarf_meaning.specs.Operations.{Operation}
 use Rattle.dwarf_meaning.specs.Operations as operation
 use Rattle.dwarf_meaning.specs.Locations.{Location, Piece, sized_piece}
 use Rattle.dwarf_meaning.specs.Requests.{Request, OnAnswer, Answer, Input}
-use Rattle.dwarf_meaning.specs.Acts.{Act, RequestAct, act, Use, use_of}
+use Rattle.dwarf_meaning.specs.Acts.{Act, act, Use, use_of}
 use Rattle.dwarf_meaning.specs.RunLaws.{waits_of}
 use Rattle.dwarf_meaning.specs.Stores.{address_bits, Store, Last, Plain, Pieced, Pushed, Located, push_value, push_piece, push_caller, Next, Goes, RequestNext, FaultNext, do_act}
 use Rattle.dwarf_meaning.specs.Run.{Position, after_answer, can_count, count_one, read, most_operations, run}
@@ -185,11 +185,6 @@ LeadsBy f old new _ = ⊥
 -- the operation was done: it leads on, or to a request, or for some refusal to a fault, which the state keeps
 abbrev pub Performs : Act → State → State → Type 0
 Performs a old new = LeadsBy (do_act_at a old) old new new.status
-
--- the request was opened, if there is one
-abbrev pub Asks : Option Request → OnAnswer → State → State → Type 0
-Asks (Some request) on_answer old new = Performs (RequestAct old.store.values request on_answer) old new
-Asks None on_answer old new = Unit {0}
 
 -- the operation after a location: a piece ends it, or the state keeps the fault
 abbrev pub EndsLocated : Location → Operation → State → State → Type 0

@@ -16,7 +16,7 @@ use crate::eval::requests::{kind_of, reply};
 use crate::eval::states::Status;
 use crate::op::{EvaluationResult, Piece};
 use crate::run::machine::Machine;
-use crate::run::states::{EvaluationState, Given};
+use crate::run::states::{Answer, EvaluationState};
 use crate::store::EvaluationStorage;
 use dwarf_base::{Encoding, Reader, Result};
 use dwarf_meaning::WaitingKind;
@@ -89,7 +89,7 @@ impl<R: Reader + Copy, S: EvaluationStorage<R>> Evaluation<R, S> {
         ensures { result ≡ open_kind self.now.status }
     {
         match self.machine.state() {
-            EvaluationState::Waiting(request) => kind_of(request),
+            EvaluationState::Waiting(waiting) => Some(kind_of(waiting)),
             _ => None,
         }
     }
@@ -103,10 +103,7 @@ impl<R: Reader + Copy, S: EvaluationStorage<R>> Evaluation<R, S> {
             EvaluationState::Start(initial_value) => Status::Start {
                 initial: initial_value.is_some(),
             },
-            EvaluationState::Waiting(request) => match kind_of(request) {
-                Some(kind) => Status::Waiting(kind),
-                None => Status::Complete,
-            },
+            EvaluationState::Waiting(waiting) => Status::Waiting(kind_of(waiting)),
             EvaluationState::Complete(_) => Status::Complete,
             EvaluationState::Failed(error) => Status::Failed(*error),
             EvaluationState::Running => unreachable!(),
@@ -188,15 +185,15 @@ impl<R: Reader + Copy, S: EvaluationStorage<R>> Evaluation<R, S> {
 
     /// Goes on with an answer.
     #[inline(always)]
-    fn resume(&mut self, given: Given<R>) -> Result<EvaluationResult<R>>
-        requires { IsOpenFor (kind_of_answer (answer_of R.text given)) self.old.status }
-        ensures { AnswersWith R.text R.Offset.number (answer_of R.text given)
+    fn resume(&mut self, answer: Answer<R>) -> Result<EvaluationResult<R>>
+        requires { IsOpenFor (kind_of_answer (answer_of R.text answer)) self.old.status }
+        ensures { AnswersWith R.text R.Offset.number (answer_of R.text answer)
             self.old self.new result }
     {
         if let EvaluationState::Failed(error) = self.machine.state() {
             return Err(*error);
         }
-        self.machine.take(given);
+        self.machine.take(answer);
         self.machine.run_on();
         reply(&self.machine)
     }
@@ -213,7 +210,7 @@ impl<R: Reader + Copy, S: EvaluationStorage<R>> Evaluation<R, S> {
         ensures { AnswersWith R.text R.Offset.number
             (requests.ValueAnswer kind.Memory value) self.old self.new result }
     {
-        self.resume(Given::Memory(value))
+        self.resume(Answer::Value(WaitingKind::Memory, value))
     }
 
     /// Goes on with the value of a register, after `RequiresRegister`.
@@ -228,7 +225,7 @@ impl<R: Reader + Copy, S: EvaluationStorage<R>> Evaluation<R, S> {
         ensures { AnswersWith R.text R.Offset.number
             (requests.ValueAnswer kind.Register value) self.old self.new result }
     {
-        self.resume(Given::Register(value))
+        self.resume(Answer::Value(WaitingKind::Register, value))
     }
 
     /// Goes on with a WebAssembly value, after `RequiresWasmLocal`, `RequiresWasmGlobal` or `RequiresWasmStack`.
@@ -243,7 +240,7 @@ impl<R: Reader + Copy, S: EvaluationStorage<R>> Evaluation<R, S> {
         ensures { AnswersWith R.text R.Offset.number
             (requests.ValueAnswer kind.WasmValue value) self.old self.new result }
     {
-        self.resume(Given::WasmValue(value))
+        self.resume(Answer::Value(WaitingKind::WasmValue, value))
     }
 
     /// Goes on with the value that the expression had at the function's entry, after `RequiresEntryValue`.
@@ -258,7 +255,7 @@ impl<R: Reader + Copy, S: EvaluationStorage<R>> Evaluation<R, S> {
         ensures { AnswersWith R.text R.Offset.number
             (requests.ValueAnswer kind.EntryValue value) self.old self.new result }
     {
-        self.resume(Given::EntryValue(value))
+        self.resume(Answer::Value(WaitingKind::EntryValue, value))
     }
 
     /// Goes on with the frame base, after `RequiresFrameBase`.
@@ -273,7 +270,7 @@ impl<R: Reader + Copy, S: EvaluationStorage<R>> Evaluation<R, S> {
         ensures { AnswersWith R.text R.Offset.number
             (requests.NumberAnswer kind.FrameBase frame_base) self.old self.new result }
     {
-        self.resume(Given::FrameBase(frame_base))
+        self.resume(Answer::Number(WaitingKind::FrameBase, frame_base))
     }
 
     /// Goes on with an address in thread-local storage, after `RequiresTls`.
@@ -288,7 +285,7 @@ impl<R: Reader + Copy, S: EvaluationStorage<R>> Evaluation<R, S> {
         ensures { AnswersWith R.text R.Offset.number
             (requests.NumberAnswer kind.Tls value) self.old self.new result }
     {
-        self.resume(Given::Tls(value))
+        self.resume(Answer::Number(WaitingKind::Tls, value))
     }
 
     /// Goes on with the canonical frame address, after `RequiresCallFrameCfa`.
@@ -303,7 +300,7 @@ impl<R: Reader + Copy, S: EvaluationStorage<R>> Evaluation<R, S> {
         ensures { AnswersWith R.text R.Offset.number
             (requests.NumberAnswer kind.CallFrameCfa cfa) self.old self.new result }
     {
-        self.resume(Given::CallFrameCfa(cfa))
+        self.resume(Answer::Number(WaitingKind::CallFrameCfa, cfa))
     }
 
     /// Goes on with the expression of the entry, after `RequiresAtLocation`. It is evaluated in place of the call; if
@@ -319,7 +316,7 @@ impl<R: Reader + Copy, S: EvaluationStorage<R>> Evaluation<R, S> {
         ensures { AnswersWith R.text R.Offset.number
             (requests.LocationAnswer (R.text bytes)) self.old self.new result }
     {
-        self.resume(Given::AtLocation(bytes))
+        self.resume(Answer::Location(bytes))
     }
 
     /// Goes on with the value of the parameter, after `RequiresParameterRef`.
@@ -334,7 +331,7 @@ impl<R: Reader + Copy, S: EvaluationStorage<R>> Evaluation<R, S> {
         ensures { AnswersWith R.text R.Offset.number
             (requests.NumberAnswer kind.ParameterRef parameter_value) self.old self.new result }
     {
-        self.resume(Given::ParameterRef(parameter_value))
+        self.resume(Answer::Number(WaitingKind::ParameterRef, parameter_value))
     }
 
     /// Goes on with the relocated address, after `RequiresRelocatedAddress`.
@@ -349,7 +346,7 @@ impl<R: Reader + Copy, S: EvaluationStorage<R>> Evaluation<R, S> {
         ensures { AnswersWith R.text R.Offset.number
             (requests.NumberAnswer kind.RelocatedAddress address) self.old self.new result }
     {
-        self.resume(Given::RelocatedAddress(address))
+        self.resume(Answer::Number(WaitingKind::RelocatedAddress, address))
     }
 
     /// Goes on with the address or constant at the index, after `RequiresIndexedAddress`.
@@ -364,7 +361,7 @@ impl<R: Reader + Copy, S: EvaluationStorage<R>> Evaluation<R, S> {
         ensures { AnswersWith R.text R.Offset.number
             (requests.NumberAnswer kind.IndexedAddress address) self.old self.new result }
     {
-        self.resume(Given::IndexedAddress(address))
+        self.resume(Answer::Number(WaitingKind::IndexedAddress, address))
     }
 
     /// Goes on with the base type, after `RequiresBaseType`.
@@ -381,7 +378,7 @@ impl<R: Reader + Copy, S: EvaluationStorage<R>> Evaluation<R, S> {
         ensures { AnswersWith R.text R.Offset.number
             (requests.BaseTypeAnswer base_type) self.old self.new result }
     {
-        self.resume(Given::BaseType(base_type))
+        self.resume(Answer::BaseType(base_type))
     }
 
     /// The value of a complete evaluation, with all bits that it had on the stack. `None` if it has pieces or a

@@ -1,10 +1,11 @@
+ghost use Rattle.std.specs.Prelude.{◌≡◌};
 ghost use Rattle.dwarf_meaning.specs.declared.kinds.WaitingKind.{WaitingKind};
 ghost use Rattle.dwarf_meaning.specs.Requests as requests;
-ghost use Rattle.dwarf_eval.specs.inner.Answers.{IsWaiting, answer_of};
+ghost use Rattle.dwarf_eval.specs.inner.Answers.{IsWaiting, answer_of, offset_in};
 ghost use Rattle.dwarf_eval.specs.inner.StateChanges.{AnswersOpenRequest, PushesAsAnswer};
 
 use crate::run::machine::Machine;
-use crate::run::states::{Given, LastOperation, OnAnswer};
+use crate::run::states::{Answer, EvaluationState, EvaluationWaiting, LastOperation};
 use crate::store::EvaluationStorage;
 use dwarf_base::{Reader, Result, copy_of};
 use dwarf_value::{Value, ValueType};
@@ -25,15 +26,27 @@ impl<R: Reader + Copy, S: EvaluationStorage<R>> Machine<R, S> {
         }
     }
 
+    /// The offset that the open request adds to its answer.
+    #[inline(always)]
+    fn offset(&self) -> Option<i64>
+        ensures { result ≡ offset_in self.now.status }
+    {
+        match self.state() {
+            EvaluationState::Waiting(EvaluationWaiting::Register { offset, .. }) => Some(*offset),
+            EvaluationState::Waiting(EvaluationWaiting::FrameBase { offset }) => Some(*offset),
+            _ => None,
+        }
+    }
+
     /// Pushes a value; if the request has an offset, their sum in the value's type.
     #[inline(always)]
     fn take_value(&mut self, value: Value)
         requires { IsWaiting self.old.status }
         ensures { (kind : WaitingKind) → AnswersOpenRequest (requests.ValueAnswer kind value) self.old self.new }
     {
-        match *self.on_answer() {
-            OnAnswer::Add(offset) => self.push_answer(self.sum(value, offset.cast_unsigned())),
-            _ => self.push_answer(Ok(value)),
+        match self.offset() {
+            Some(offset) => self.push_answer(self.sum(value, offset.cast_unsigned())),
+            None => self.push_answer(Ok(value)),
         }
     }
 
@@ -43,9 +56,9 @@ impl<R: Reader + Copy, S: EvaluationStorage<R>> Machine<R, S> {
         requires { IsWaiting self.old.status }
         ensures { (kind : WaitingKind) → AnswersOpenRequest (requests.NumberAnswer kind number) self.old self.new }
     {
-        let sum = match *self.on_answer() {
-            OnAnswer::Add(offset) => number.wrapping_add(offset.cast_unsigned()),
-            _ => number,
+        let sum = match self.offset() {
+            Some(offset) => number.wrapping_add(offset.cast_unsigned()),
+            None => number,
         };
         self.push_answer(Ok(Value::Generic(sum)))
     }
@@ -56,12 +69,15 @@ impl<R: Reader + Copy, S: EvaluationStorage<R>> Machine<R, S> {
         requires { IsWaiting self.old.status }
         ensures { AnswersOpenRequest (requests.BaseTypeAnswer base_type) self.old self.new }
     {
-        match self.on_answer() {
-            OnAnswer::Parse(literal) => {
-                let parsed = Value::parse(base_type, copy_of(literal));
+        let EvaluationState::Waiting(waiting) = self.state() else {
+            return;
+        };
+        match waiting {
+            EvaluationWaiting::TypedLiteral { value, .. } => {
+                let parsed = Value::parse(base_type, copy_of(value));
                 self.push_answer(parsed)
             }
-            OnAnswer::Convert => {
+            EvaluationWaiting::Convert(_) => {
                 let Some(value) = self.pop() else { return };
                 self.push_answer(value.convert(base_type, self.addr_mask()))
             }
@@ -88,23 +104,15 @@ impl<R: Reader + Copy, S: EvaluationStorage<R>> Machine<R, S> {
 
     /// Uses an answer as the open request says.
     #[inline(always)]
-    pub(crate) fn take(&mut self, given: Given<R>)
+    pub(crate) fn take(&mut self, answer: Answer<R>)
         requires { IsWaiting self.old.status }
-        ensures { AnswersOpenRequest (answer_of R.text given) self.old self.new }
+        ensures { AnswersOpenRequest (answer_of R.text answer) self.old self.new }
     {
-        match given {
-            Given::Memory(value)
-            | Given::Register(value)
-            | Given::WasmValue(value)
-            | Given::EntryValue(value) => self.take_value(value),
-            Given::FrameBase(number)
-            | Given::Tls(number)
-            | Given::CallFrameCfa(number)
-            | Given::ParameterRef(number)
-            | Given::RelocatedAddress(number)
-            | Given::IndexedAddress(number) => self.take_number(number),
-            Given::AtLocation(callee) => self.take_location(callee),
-            Given::BaseType(base_type) => self.take_base_type(base_type),
+        match answer {
+            Answer::Value(_, value) => self.take_value(value),
+            Answer::Number(_, number) => self.take_number(number),
+            Answer::Location(callee) => self.take_location(callee),
+            Answer::BaseType(base_type) => self.take_base_type(base_type),
         }
     }
 }

@@ -5,18 +5,17 @@ ghost use Rattle.dwarf_base.specs.Faults.{fault_of};
 ghost use Rattle.dwarf_value.specs.Values.{IsAddressMask, width_of};
 ghost use Rattle.dwarf_meaning.specs.Locations as meant;
 ghost use Rattle.dwarf_meaning.specs.Meaning.{has_pieces};
-ghost use Rattle.dwarf_meaning.specs.Requests as requests;
 ghost use Rattle.dwarf_meaning.specs.Rest.{Start, Running, RequestStatus, CompleteStatus, FaultStatus};
+ghost use Rattle.dwarf_meaning.specs.Acts.{RequestAct};
 ghost use Rattle.dwarf_meaning.specs.Run.{read};
 ghost use Rattle.dwarf_meaning.specs.Stores.{Located, Pieced, address_bits, push_value, push_piece};
 ghost use Rattle.dwarf_op.specs.Views.{operation_of, location_of, piece_of};
 ghost use Rattle.dwarf_meaning.specs.Inputs.{with_maximum, with_object, with_status};
-ghost use Rattle.dwarf_eval.specs.Evaluation.{IsAddressSize, request_in};
-ghost use Rattle.dwarf_eval.specs.inner.Machine.{fresh_machine, last_of, limits_of, on_answer_of, replied_status, status_of};
-ghost use Rattle.dwarf_eval.specs.inner.StateChanges.{Asks, CountsOne, GoesBack, Jumps, Pops, ReadsOperation, TriesChange, TriesToEnter, TriesToPop, has_location, is_running, read_to, with_last};
+ghost use Rattle.dwarf_eval.specs.Evaluation.{IsAddressSize};
+ghost use Rattle.dwarf_eval.specs.inner.Machine.{fresh_machine, last_of, limits_of, on_answer_of, request_of, status_of};
+ghost use Rattle.dwarf_eval.specs.inner.StateChanges.{CountsOne, GoesBack, Jumps, Performs, Pops, ReadsOperation, TriesChange, TriesToEnter, TriesToPop, has_location, is_running, read_to, with_last};
 
-use crate::op::EvaluationResult;
-use crate::run::states::{EvaluationState, LastOperation, OnAnswer};
+use crate::run::states::{EvaluationState, EvaluationWaiting, LastOperation};
 use crate::run::ticks::Ticks;
 use crate::store::{ArrayLike, EvaluationStorage};
 use dwarf_base::{Encoding, Error, Reader, ReaderOffset, Result, copy_of};
@@ -41,8 +40,6 @@ pub(crate) struct Machine<R: Reader + Copy, S: EvaluationStorage<R>> {
     last: LastOperation,
     // The location whose piece comes next, if the last operation gave a location.
     location: Location<R>,
-    // How the answer is used, if a request is open.
-    on_answer: OnAnswer<R>,
     stack: S::Stack,
     expression_stack: S::ExpressionStack,
     pieces: S::Result,
@@ -56,10 +53,10 @@ impl<R: Reader + Copy, S: EvaluationStorage<R>> Model for Machine<R, S> {
     ghost Value = { State };
 
     ghost use Rattle.dwarf_meaning.specs.Stores.{setup_of};
-    ghost use Rattle.dwarf_eval.specs.inner.Machine.{on_answer_of, status_of, store_of, place_of, callers_of, IsSound};
+    ghost use Rattle.dwarf_eval.specs.inner.Machine.{status_of, store_of, place_of, callers_of, IsSound};
 
     ghost view = { λ e. record {
-      status = status_of R.text R.Offset.number e.state (on_answer_of R.text e.on_answer);
+      status = status_of R.text R.Offset.number e.state;
       setup = setup_of e.encoding R.Offset.BITS (S.Stack.limit e.stack)
           (S.ExpressionStack.limit e.expression_stack) (S.Result.limit e.pieces);
       text = R.text e.whole;
@@ -246,38 +243,28 @@ impl<R: Reader + Copy, S: EvaluationStorage<R>> Machine<R, S> {
         self.state = EvaluationState::Complete(value);
     }
 
-    /// Opens a request; `on_answer` says how its answer is used.
+    /// Opens a request.
     #[inline(always)]
-    pub(crate) fn ask(&mut self, request: EvaluationResult<R>, on_answer: OnAnswer<R>)
+    pub(crate) fn ask(&mut self, waiting: EvaluationWaiting<R>)
         ensures alone { self.new
             ≡ with_status
-            (replied_status (request_in R.text R.Offset.number request)
-            (on_answer_of R.text on_answer))
+            (RequestStatus (request_of R.text R.Offset.number waiting)
+            (on_answer_of R.text R.Offset.number waiting))
             self.old }
-        ensures asks { Asks (request_in R.text R.Offset.number request) (on_answer_of R.text on_answer)
+        ensures asks { Performs
+            (RequestAct self.old.store.values (request_of R.text R.Offset.number waiting)
+            (on_answer_of R.text R.Offset.number waiting))
             self.old self.new }
     {
-        self.state = EvaluationState::Waiting(request);
-        self.on_answer = on_answer;
+        self.state = EvaluationState::Waiting(waiting);
     }
 
     /// The evaluation's state.
     #[inline(always)]
     pub(crate) fn state(&self) -> &EvaluationState<R>
-        ensures { (on_answer : requests.OnAnswer)
-            × (status_of R.text R.Offset.number result.now on_answer ≡ self.now.status) }
+        ensures { status_of R.text R.Offset.number result.now ≡ self.now.status }
     {
         &self.state
-    }
-
-    /// How the answer to the open request is used.
-    #[inline(always)]
-    pub(crate) fn on_answer(&self) -> &OnAnswer<R>
-        ensures { (request : requests.Request) → (wanted : requests.OnAnswer)
-            → self.now.status ≡ RequestStatus request wanted
-            → wanted ≡ on_answer_of R.text result.now }
-    {
-        &self.on_answer
     }
 
     /// Whether the evaluation runs: it has no request, result or fault yet.
@@ -433,9 +420,8 @@ impl<R: Reader + Copy, S: EvaluationStorage<R>> Machine<R, S> {
         self.rest = copy_of(&bytecode);
         self.whole = bytecode;
         self.last = LastOperation::Nothing;
-        // In Rust these may hold a reader of the text before.
+        // In Rust it may hold a reader of the text before.
         self.location = Location::Empty;
-        self.on_answer = OnAnswer::AsItIs;
         self.decodings = Ticks::new();
     }
 
@@ -467,7 +453,6 @@ impl<R: Reader + Copy, S: EvaluationStorage<R>> Machine<R, S> {
             whole: bytecode,
             last: LastOperation::Nothing,
             location: Location::Empty,
-            on_answer: OnAnswer::AsItIs,
             stack,
             expression_stack,
             pieces,

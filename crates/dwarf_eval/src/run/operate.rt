@@ -6,9 +6,8 @@ ghost use Rattle.dwarf_meaning.specs.Stores.{address_bits};
 ghost use Rattle.dwarf_value.specs.Values.{IsAddressMask, UnaryOperator, BinaryOperator, from_u64_of, to_u64_of, type_of, binary_of, Plus};
 ghost use Rattle.dwarf_eval.specs.inner.StateChanges.{ComputesBinary, ComputesUnary, Performs, PushesComputed, PushesPlain, TriesToPopNumber, act_of};
 
-use crate::op::EvaluationResult;
 use crate::run::machine::Machine;
-use crate::run::states::{LastOperation, OnAnswer};
+use crate::run::states::{EvaluationWaiting, LastOperation};
 use crate::store::EvaluationStorage;
 use dwarf_base::{Error, Reader, ReaderOffset, Result, UnitOffset};
 use dwarf_op::{Location, Operation, Piece};
@@ -251,15 +250,12 @@ impl<R: Reader + Copy, S: EvaluationStorage<R>> Machine<R, S> {
             };
             space = Some(named);
         }
-        self.ask(
-            EvaluationResult::RequiresMemory {
-                address,
-                size,
-                space,
-                base_type,
-            },
-            OnAnswer::AsItIs,
-        )
+        self.ask(EvaluationWaiting::Memory {
+            address,
+            size,
+            space,
+            base_type,
+        })
     }
 
     /// Requests the address of the thread-local slot whose offset is on top.
@@ -270,6 +266,6 @@ impl<R: Reader + Copy, S: EvaluationStorage<R>> Machine<R, S> {
         let Some(index) = self.pop_number() else {
             return;
         };
-        self.ask(EvaluationResult::RequiresTls(index), OnAnswer::AsItIs)
+        self.ask(EvaluationWaiting::Tls(index))
     }
 }

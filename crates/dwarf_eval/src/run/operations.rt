@@ -5,14 +5,8 @@ ghost use Rattle.dwarf_meaning.specs.Rest.{Running};
 ghost use Rattle.dwarf_eval.specs.inner.StateChanges.{Performs, act_of};
 ghost use Rattle.dwarf_op.specs.Views.{operation_of};
 
-use crate::op::EvaluationResult::{
-    RequiresAtLocation, RequiresBaseType, RequiresCallFrameCfa, RequiresEntryValue,
-    RequiresFrameBase, RequiresIndexedAddress, RequiresParameterRef, RequiresRegister,
-    RequiresRelocatedAddress, RequiresWasmGlobal, RequiresWasmLocal, RequiresWasmStack,
-};
-use crate::op::Expression;
 use crate::run::machine::Machine;
-use crate::run::states::{LastOperation, OnAnswer};
+use crate::run::states::{EvaluationWaiting, LastOperation};
 use crate::store::EvaluationStorage;
 use dwarf_base::{Error, Reader};
 use dwarf_op::{Location, Operation};
@@ -69,21 +63,17 @@ impl<R: Reader + Copy, S: EvaluationStorage<R>> Machine<R, S> {
                 register,
                 offset,
                 base_type,
-            } => self.ask(
-                RequiresRegister {
-                    register,
-                    base_type,
-                },
-                OnAnswer::Add(offset),
-            ),
-            Operation::FrameOffset { offset } => {
-                self.ask(RequiresFrameBase, OnAnswer::Add(offset))
-            }
+            } => self.ask(EvaluationWaiting::Register {
+                register,
+                base_type,
+                offset,
+            }),
+            Operation::FrameOffset { offset } => self.ask(EvaluationWaiting::FrameBase { offset }),
             Operation::Nop => self.mark(LastOperation::Plain),
             Operation::PushObjectAddress => self.push_object_address(),
-            Operation::Call { offset } => self.ask(RequiresAtLocation(offset), OnAnswer::AsItIs),
+            Operation::Call { offset } => self.ask(EvaluationWaiting::AtLocation(offset)),
             Operation::TLS => self.ask_tls(),
-            Operation::CallFrameCFA => self.ask(RequiresCallFrameCfa, OnAnswer::AsItIs),
+            Operation::CallFrameCFA => self.ask(EvaluationWaiting::CallFrameCfa),
             Operation::Piece {
                 size_in_bits,
                 bit_offset,
@@ -94,49 +84,33 @@ impl<R: Reader + Copy, S: EvaluationStorage<R>> Machine<R, S> {
                 self.locate(Location::ImplicitPointer { value, byte_offset })
             }
             Operation::EntryValue { expression } => {
-                self.ask(RequiresEntryValue(Expression(expression)), OnAnswer::AsItIs)
+                self.ask(EvaluationWaiting::EntryValue(expression))
             }
             Operation::ParameterRef { offset } => {
-                self.ask(RequiresParameterRef(offset), OnAnswer::AsItIs)
+                self.ask(EvaluationWaiting::ParameterRef(offset))
             }
             Operation::Address { address } => {
-                self.ask(RequiresRelocatedAddress(address), OnAnswer::AsItIs)
+                self.ask(EvaluationWaiting::RelocatedAddress(address))
             }
-            Operation::AddressIndex { index } => self.ask(
-                RequiresIndexedAddress {
-                    index,
-                    relocate: true,
-                },
-                OnAnswer::AsItIs,
-            ),
-            Operation::ConstantIndex { index } => self.ask(
-                RequiresIndexedAddress {
-                    index,
-                    relocate: false,
-                },
-                OnAnswer::AsItIs,
-            ),
+            Operation::AddressIndex { index } => self.ask(EvaluationWaiting::IndexedAddress {
+                index,
+                relocate: true,
+            }),
+            Operation::ConstantIndex { index } => self.ask(EvaluationWaiting::IndexedAddress {
+                index,
+                relocate: false,
+            }),
             Operation::TypedLiteral { base_type, value } => {
-                self.ask(RequiresBaseType(base_type), OnAnswer::Parse(value))
+                self.ask(EvaluationWaiting::TypedLiteral { base_type, value })
             }
-            Operation::Convert { base_type } => {
-                self.ask(RequiresBaseType(base_type), OnAnswer::Convert)
-            }
+            Operation::Convert { base_type } => self.ask(EvaluationWaiting::Convert(base_type)),
             Operation::Reinterpret { base_type } => {
-                self.ask(RequiresBaseType(base_type), OnAnswer::Reinterpret)
+                self.ask(EvaluationWaiting::Reinterpret(base_type))
             }
             Operation::Uninitialized => self.fail(Error::UnsupportedEvaluation),
-            Operation::WasmLocal { index } => self.ask(
-                RequiresWasmLocal { index },
-                OnAnswer::AsItIs,
-            ),
-            Operation::WasmGlobal { index } => {
-                self.ask(RequiresWasmGlobal { index }, OnAnswer::AsItIs)
-            }
-            Operation::WasmStack { index } => self.ask(
-                RequiresWasmStack { index },
-                OnAnswer::AsItIs,
-            ),
+            Operation::WasmLocal { index } => self.ask(EvaluationWaiting::WasmLocal(index)),
+            Operation::WasmGlobal { index } => self.ask(EvaluationWaiting::WasmGlobal(index)),
+            Operation::WasmStack { index } => self.ask(EvaluationWaiting::WasmStack(index)),
             Operation::VariableValue { offset: _ } => { self.fail(Error::UnsupportedEvaluation) }
         }
     }

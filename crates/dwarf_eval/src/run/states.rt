@@ -1,7 +1,8 @@
-//! The states of an evaluation, and how an answer is used.
+//! The states of an evaluation, and what it waits for.
 
-use crate::op::EvaluationResult;
-use dwarf_base::{Error, Reader};
+use dwarf_base::{DebugAddrIndex, Error, Reader, Register, UnitOffset};
+use dwarf_meaning::WaitingKind;
+use dwarf_op::DieReference;
 use dwarf_value::{Value, ValueType};
 
 /// The kind of the last operation.
@@ -19,19 +20,46 @@ pub(crate) enum LastOperation {
     Located,
 }
 
-/// How the answer to an open request is used.
+/// What an evaluation waits for. If the answer is a value or a number, its sum with the `offset` is pushed, if there is
+/// one; if it is a text, that is run.
 #[derive(Drop)]
-pub(crate) enum OnAnswer<R> {
-    /// A value is pushed, and a text is run.
-    AsItIs,
-    /// Its sum with this offset is pushed.
-    Add(i64),
-    /// These bytes are pushed as a value of that type.
-    Parse(R),
-    /// The top is converted to that type.
-    Convert,
-    /// The top is reinterpreted as that type.
-    Reinterpret,
+pub(crate) enum EvaluationWaiting<R, O = <R as Reader>::Offset> {
+    Memory {
+        address: u64,
+        size: u8,
+        space: Option<u64>,
+        base_type: UnitOffset<O>,
+    },
+    Register {
+        register: Register,
+        base_type: UnitOffset<O>,
+        offset: i64,
+    },
+    WasmLocal(u32),
+    WasmGlobal(u32),
+    WasmStack(u32),
+    FrameBase {
+        offset: i64,
+    },
+    Tls(u64),
+    CallFrameCfa,
+    AtLocation(DieReference<O>),
+    EntryValue(R),
+    ParameterRef(UnitOffset<O>),
+    RelocatedAddress(u64),
+    IndexedAddress {
+        index: DebugAddrIndex<O>,
+        relocate: bool,
+    },
+    /// The type of a literal, whose bytes are pushed as a value of it.
+    TypedLiteral {
+        base_type: UnitOffset<O>,
+        value: R,
+    },
+    /// The type to which the top is converted.
+    Convert(UnitOffset<O>),
+    /// The type as which the top is reinterpreted.
+    Reinterpret(UnitOffset<O>),
 }
 
 /// The state of an evaluation.
@@ -45,23 +73,15 @@ pub(crate) enum EvaluationState<R, O = <R as Reader>::Offset> {
     Complete(Option<Value>),
     /// It met a fault.
     Failed(Error),
-    /// It waits for the answer to this request. This is the last variant, so that rustc tests for it by one comparison.
-    Waiting(EvaluationResult<R, O>),
+    /// It waits for an answer. This is the last variant, so that rustc tests for it by one comparison.
+    Waiting(EvaluationWaiting<R, O>),
 }
 
-/// What a resume call was given, by the kind of answer.
+/// What a resume call was given. A value and a number have the kind of the call.
 #[derive(Drop)]
-pub(crate) enum Given<R> {
-    Memory(Value),
-    Register(Value),
-    WasmValue(Value),
-    EntryValue(Value),
-    FrameBase(u64),
-    Tls(u64),
-    CallFrameCfa(u64),
-    ParameterRef(u64),
-    RelocatedAddress(u64),
-    IndexedAddress(u64),
-    AtLocation(R),
+pub(crate) enum Answer<R> {
+    Value(WaitingKind, Value),
+    Number(WaitingKind, u64),
+    Location(R),
     BaseType(ValueType),
 }

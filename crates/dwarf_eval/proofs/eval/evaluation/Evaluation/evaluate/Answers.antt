@@ -11,7 +11,7 @@ returns-clause-follows g c =
     let number = g.R.Offset.ReaderOffset.number in
     let x : State = c.self.inside.machine in
     let new : State = c.run_on.new.self in
-    let starts : x.status ≡ Start c.in-Start.initial_value = sym c.state.ensures.1 ∙ ap (λ s. status_of text number s c.state.ensures.0) c.in-Start.is in
+    let starts : x.status ≡ Start c.in-Start.initial_value = sym c.state.ensures ∙ ap (status_of text number) c.in-Start.is in
     let comes = (c.run_on.ensures x (total x) c.begin.ensures).0 in
     let follows = comes_follow x (total x) new (reply_of text number c.reply-2.result) comes c.reply-2.ensures.reply in
     subst (λ (z : State). Evaluates text number z new c.reply-2.result z.status) c.self.view_is (subst (Evaluates text number x new c.reply-2.result) (sym starts) follows)

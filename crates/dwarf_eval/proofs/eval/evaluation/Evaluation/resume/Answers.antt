@@ -19,10 +19,10 @@ returns g c =
     let x : State = c.self.inside.machine in
     let new : State = c.run_on.new.self in
     let reply = c.reply.result in
-    let answer = answer_of text c.args.given in
+    let answer = answer_of text c.args.answer in
     let is_open = subst (λ (z : State). IsOpenFor (kind_of_answer answer) z.status) (sym c.self.view_is) c.requires in
-    let waits = subst IsWaiting c.state.ensures.1 (waits_unless text number c.state.ensures.0 (kind_of_answer answer) c.state.result.now
-    (subst (IsOpenFor (kind_of_answer answer)) (sym c.state.ensures.1) is_open) c.in_default.not-Failed) in
+    let waits = subst IsWaiting c.state.ensures (waits_unless text number (kind_of_answer answer) c.state.result.now
+    (subst (IsOpenFor (kind_of_answer answer)) (sym c.state.ensures) is_open) c.in_default.not-Failed) in
     let now = open_in x.status waits in
     let totals = total_after x (input_of x answer) in
     let came = c.run_on.ensures x totals (answer_open x waits answer c.take.new.self is_open c.take.ensures) in
@@ -37,8 +37,8 @@ reply-requires g c =
     let text = g.R.Reader.text in
     let number = g.R.Offset.ReaderOffset.number in
     let x : State = c.self.inside.machine in
-    let answer = answer_of text c.args.given in
+    let answer = answer_of text c.args.answer in
     let is_open = subst (λ (z : State). IsOpenFor (kind_of_answer answer) z.status) (sym c.self.view_is) c.requires in
-    let waits = subst IsWaiting c.state.ensures.1 (waits_unless text number c.state.ensures.0 (kind_of_answer answer) c.state.result.now
-    (subst (IsOpenFor (kind_of_answer answer)) (sym c.state.ensures.1) is_open) c.in_default.not-Failed) in
+    let waits = subst IsWaiting c.state.ensures (waits_unless text number (kind_of_answer answer) c.state.result.now
+    (subst (IsOpenFor (kind_of_answer answer)) (sym c.state.ensures) is_open) c.in_default.not-Failed) in
     (c.run_on.ensures x (total_after x (input_of x answer)) (answer_open x waits answer c.take.new.self is_open c.take.ensures)).1

@@ -1,11 +1,12 @@
-use Rattle.std.proofs.Common.{rules}
-use Rattle.dwarf_meaning.specs.declared.kinds.WaitingKind.TheVariants as kind
+use Rattle.std.proofs.Common.{subst, sym}
+use Rattle.dwarf_eval.specs.inner.Answers.{answer_of}
+use Rattle.dwarf_eval.specs.inner.StateChanges.{AnswersOpenRequest}
 use Rattle.dwarf_eval.proofs.run.machine.Machine.take.Goals as goal
 
-pub returns-in-Memory : goal.returns-in-Memory
-returns-in-Memory g c = search (rules, c.take_value.ensures kind.Memory, c.take_value.ensures kind.Register, c.take_value.ensures kind.WasmValue, c.take_value.ensures kind.EntryValue)
+pub returns-in-Value : goal.returns-in-Value
+returns-in-Value g c =
+    subst (λ answer. AnswersOpenRequest (answer_of g.R.Reader.text answer) c.args.self.now c.take_value.new.self) (sym c.in-Value.is) (c.take_value.ensures _)
 
-pub returns-in-FrameBase : goal.returns-in-FrameBase
-returns-in-FrameBase g c =
-    let h = c.take_number.ensures in
-    search (rules, h kind.FrameBase, h kind.Tls, h kind.CallFrameCfa, h kind.ParameterRef, h kind.RelocatedAddress, h kind.IndexedAddress)
+pub returns-in-Number : goal.returns-in-Number
+returns-in-Number g c =
+    subst (λ answer. AnswersOpenRequest (answer_of g.R.Reader.text answer) c.args.self.now c.take_number.new.self) (sym c.in-Number.is) (c.take_number.ensures _)

@@ -7,13 +7,12 @@ use Rattle.dwarf_meaning.specs.Requests.{OnAnswer, Add, NumberAnswer}
 use Rattle.dwarf_meaning.specs.Acts.{PushesAnswer, use_of}
 use Rattle.dwarf_meaning.specs.Rest.{State}
 use Rattle.dwarf_eval.specs.inner.Answers.{IsWaiting}
-use Rattle.dwarf_eval.specs.inner.Machine.{on_answer_of}
 use Rattle.dwarf_eval.specs.inner.StateChanges.{PushesAsAnswer, TakesAnswer}
-use Rattle.dwarf_eval.proofs.AnswerUses.{plain}
+use Rattle.dwarf_eval.proofs.AnswerUses.{adds, offset_is, plain}
 use Rattle.dwarf_eval.proofs.MachineNumbers.{passed-residue, residue-add}
 use Rattle.dwarf_eval.proofs.Resuming.{value_takes}
 use Rattle.dwarf_eval.proofs.run.machine.Machine.take_number.Goals as goal
-use Rattle.dwarf_eval.proofs.run.machine.Machine.take_number.Goals.{in-Add, in_default}
+use Rattle.dwarf_eval.proofs.run.machine.Machine.take_number.Goals.{in-Some, in-None}
 
 summed : (x new : State) → IsWaiting x.status → (kind : WaitingKind) (number n : ℕ) (offset : ℤ) → n ≡ residue 64 offset → PushesAsAnswer (Ok (Generic ((number + n) % 2 ^ 64))) x new → TakesAnswer (Add offset) (NumberAnswer kind number) x new
 unfolding use_of
@@ -23,19 +22,17 @@ summed x new waits kind number n offset same h =
 
 pub returns : goal.returns
 returns g c = λ kind request on_answer open_now.
-    let text = g.R.Reader.text in
     let x : State = c.args.self.now in
     let new : State = c.push_answer.new.self in
-    let open_is = sym (c.on_answer.ensures request on_answer open_now) in
-    elim c.match-on_answer.branch [
-      | in-Add w ↦
-          let fits : SFits w64 w.in-Add.offset = search rules in
-          subst (λ (o : OnAnswer). TakesAnswer o (NumberAnswer kind c.args.number) x new) (sym (ap (on_answer_of text) w.in-Add.is) ∙ open_is)
+    let offset = offset_is x.status request on_answer c.offset.result c.offset.ensures open_now in
+    elim c.match-offset.branch [
+      | in-Some w ↦
+          let fits : SFits w64 w.in-Some.offset = search rules in
+          subst (λ (o : OnAnswer). TakesAnswer o (NumberAnswer kind c.args.number) x new) (sym (adds on_answer w.in-Some.offset (offset ∙ w.in-Some.is)))
           (summed x new c.requires kind c.args.number w.cast_unsigned.result _ (passed-residue _ w.cast_unsigned.result fits w.cast_unsigned.ensures)
           (subst (λ (n : ℕ). PushesAsAnswer (Ok (Generic n)) x new) w.sum-is c.push_answer.ensures))
-      | in_default w ↦
-          subst (λ (o : OnAnswer). TakesAnswer o (NumberAnswer kind c.args.number) x new) open_is
-          (value_takes x c.requires (on_answer_of text c.on_answer.result.now) (NumberAnswer kind c.args.number) x.store.values (Generic c.args.number)
-          (plain _ x.store.values text kind (Generic 0) c.args.number c.on_answer.result.now w.in_default.not-Add).1 x new refl
-          (subst (λ (n : ℕ). PushesAsAnswer (Ok (Generic n)) x new) w.sum-is c.push_answer.ensures))
+      | in-None w ↦
+          value_takes x c.requires on_answer (NumberAnswer kind c.args.number) x.store.values (Generic c.args.number)
+          (plain _ x.store.values kind (Generic 0) c.args.number on_answer (offset ∙ w.in-None.is)).1 x new refl
+          (subst (λ (n : ℕ). PushesAsAnswer (Ok (Generic n)) x new) w.sum-is c.push_answer.ensures)
     ]

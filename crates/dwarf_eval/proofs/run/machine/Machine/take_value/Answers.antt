@@ -11,9 +11,8 @@ use Rattle.dwarf_meaning.specs.Acts.{FaultUse, PushesAnswer, use_of}
 use Rattle.dwarf_meaning.specs.Rest.{State}
 use Rattle.dwarf_meaning.proofs.Choices.{answer_ok, answer_err}
 use Rattle.dwarf_eval.specs.inner.Answers.{IsWaiting}
-use Rattle.dwarf_eval.specs.inner.Machine.{on_answer_of}
 use Rattle.dwarf_eval.specs.inner.StateChanges.{PushesAsAnswer, TakesAnswer}
-use Rattle.dwarf_eval.proofs.AnswerUses.{plain}
+use Rattle.dwarf_eval.proofs.AnswerUses.{adds, offset_is, plain}
 use Rattle.dwarf_eval.proofs.MachineNumbers.{passed-residue}
 use Rattle.dwarf_eval.proofs.Resuming.{denies, value_takes}
 use Rattle.dwarf_eval.proofs.Staying.{stays_here}
@@ -33,19 +32,18 @@ module _ (x new : State) (waits : IsWaiting x.status) (kind : WaitingKind) (valu
       denies x waits (Add offset) (ValueAnswer kind value) error x new
       (answer_err _ FaultUse (PushesAnswer x.store.values) error (ap sum_with (sym same) ∙ sym e)) (stays_here x) h
 
-pub returns-in-Add : goal.returns-in-Add
-returns-in-Add g c = λ kind request on_answer open_now.
+pub returns-in-Some : goal.returns-in-Some
+returns-in-Some g c = λ kind request on_answer open_now.
     let x : State = c.args.self.now in
-    let fits : SFits w64 c.in-Add.offset = search rules in
+    let fits : SFits w64 c.in-Some.offset = search rules in
     subst (λ (o : OnAnswer). TakesAnswer o (ValueAnswer kind c.args.value) x c.push_answer.new.self)
-    (sym (ap (on_answer_of g.R.Reader.text) c.in-Add.is) ∙ sym (c.on_answer.ensures request on_answer open_now))
+    (sym (adds on_answer c.in-Some.offset (offset_is x.status request on_answer c.offset.result c.offset.ensures open_now ∙ c.in-Some.is)))
     (summed x c.push_answer.new.self c.requires kind c.args.value _ c.sum.result c.cast_unsigned.result
     (passed-residue _ c.cast_unsigned.result fits c.cast_unsigned.ensures) c.sum.ensures c.push_answer.ensures)
 
-pub returns-in_default : goal.returns-in_default
-returns-in_default g c = λ kind request on_answer open_now.
-    let text = g.R.Reader.text in
-    let x = c.args.self.now in
-    subst (λ (o : OnAnswer). TakesAnswer o (ValueAnswer kind c.args.value) x c.push_answer-in_default.new.self) (sym (c.on_answer.ensures request on_answer open_now))
-    (value_takes x c.requires (on_answer_of text c.on_answer.result.now) (ValueAnswer kind c.args.value) x.store.values c.args.value
-    (plain _ x.store.values text kind c.args.value 0 c.on_answer.result.now c.in_default.not-Add).0 x c.push_answer-in_default.new.self refl c.push_answer-in_default.ensures)
+pub returns-in-None : goal.returns-in-None
+returns-in-None g c = λ kind request on_answer open_now.
+    let x : State = c.args.self.now in
+    value_takes x c.requires on_answer (ValueAnswer kind c.args.value) x.store.values c.args.value
+    (plain _ x.store.values kind c.args.value 0 on_answer (offset_is x.status request on_answer c.offset.result c.offset.ensures open_now ∙ c.in-None.is)).0
+    x c.push_answer-in-None.new.self refl c.push_answer-in-None.ensures

@@ -31,6 +31,22 @@ const BREG0: u8 = DW_OP_breg0.0;
 
 const BREG31: u8 = DW_OP_breg31.0;
 
+/// A `match` on an opcode, of a table's rows: an opcode or several, and the operation with its operands in order. After
+/// the last `;` stand arms as in any `match`.
+macro_rules! table {
+    (
+        $opcode:expr;
+        $($row:pat => $operation:ident $({ $($field:ident: $operand:expr),+ })?,)+
+        ;
+        $($others:pat => $other:expr,)+
+    ) => {
+        match $opcode {
+            $($row => Operation::$operation $({ $($field: $operand),+ })?,)+
+            $($others => $other,)+
+        }
+    };
+}
+
 impl<R: Reader + Copy> Operation<R> {
     /// Reads the operation at the front of `bytes` (DWARF 5, sections 2.5 and 7.7.1).
     ///
@@ -59,193 +75,101 @@ fn read_row<R: Reader + Copy>(opcode: u8, bytes: &mut R, encoding: Encoding) -> 
     ensures { Reads (operation_of R.text R.Offset.number) (R.text bytes.old) (R.text bytes.new) result
         (operands_in R.Offset.BITS (R.text bytes.old) (row_of encoding opcode)) }
 {
-    Ok(match DwOp(opcode) {
-        DW_OP_addr => Operation::Address {
-            address: bytes.read_address(encoding.address_size)?,
+    Ok(table! {
+        DwOp(opcode);
+        DW_OP_addr => Address { address: bytes.read_address(encoding.address_size)? },
+        DW_OP_deref => Deref { size: encoding.address_size, base_type: generic_type(), space: false },
+        DW_OP_const1u => UnsignedConstant { value: u64::from(bytes.read_u8()?) },
+        DW_OP_const1s => SignedConstant { value: i64::from(bytes.read_i8()?) },
+        DW_OP_const2u => UnsignedConstant { value: u64::from(bytes.read_u16()?) },
+        DW_OP_const2s => SignedConstant { value: i64::from(bytes.read_i16()?) },
+        DW_OP_const4u => UnsignedConstant { value: u64::from(bytes.read_u32()?) },
+        DW_OP_const4s => SignedConstant { value: i64::from(bytes.read_i32()?) },
+        DW_OP_const8u => UnsignedConstant { value: bytes.read_u64()? },
+        DW_OP_const8s => SignedConstant { value: bytes.read_i64()? },
+        DW_OP_constu => UnsignedConstant { value: bytes.read_uleb128()? },
+        DW_OP_consts => SignedConstant { value: bytes.read_sleb128()? },
+        DW_OP_dup => Pick { index: 0 },
+        DW_OP_drop => Drop,
+        DW_OP_over => Pick { index: 1 },
+        DW_OP_pick => Pick { index: bytes.read_u8()? },
+        DW_OP_swap => Swap,
+        DW_OP_rot => Rot,
+        DW_OP_xderef => Deref { size: encoding.address_size, base_type: generic_type(), space: true },
+        DW_OP_abs => Abs,
+        DW_OP_and => And,
+        DW_OP_div => Div,
+        DW_OP_minus => Minus,
+        DW_OP_mod => Mod,
+        DW_OP_mul => Mul,
+        DW_OP_neg => Neg,
+        DW_OP_not => Not,
+        DW_OP_or => Or,
+        DW_OP_plus => Plus,
+        DW_OP_plus_uconst => PlusConstant { value: bytes.read_uleb128()? },
+        DW_OP_shl => Shl,
+        DW_OP_shr => Shr,
+        DW_OP_shra => Shra,
+        DW_OP_xor => Xor,
+        DW_OP_bra => Bra { target: bytes.read_i16()? },
+        DW_OP_eq => Eq,
+        DW_OP_ge => Ge,
+        DW_OP_gt => Gt,
+        DW_OP_le => Le,
+        DW_OP_lt => Lt,
+        DW_OP_ne => Ne,
+        DW_OP_skip => Skip { target: bytes.read_i16()? },
+        DwOp(LIT0..=LIT31) => UnsignedConstant { value: u64::from(opcode - LIT0) },
+        DwOp(REG0..=REG31) => Register { register: Register(u16::from(opcode - REG0)) },
+        DwOp(BREG0..=BREG31) => RegisterOffset {
+            register: Register(u16::from(opcode - BREG0)), offset: bytes.read_sleb128()?, base_type: generic_type()
         },
-        DW_OP_deref => Operation::Deref {
-            size: encoding.address_size,
-            base_type: generic_type(),
-            space: false,
+        DW_OP_regx => Register { register: register_number(bytes)? },
+        DW_OP_fbreg => FrameOffset { offset: bytes.read_sleb128()? },
+        DW_OP_bregx => RegisterOffset {
+            register: register_number(bytes)?, offset: bytes.read_sleb128()?, base_type: generic_type()
         },
-        DW_OP_const1u => Operation::UnsignedConstant {
-            value: u64::from(bytes.read_u8()?),
+        DW_OP_piece => Piece { size_in_bits: piece_size(bytes)?, bit_offset: None },
+        DW_OP_deref_size => Deref { size: bytes.read_u8()?, base_type: generic_type(), space: false },
+        DW_OP_xderef_size => Deref { size: bytes.read_u8()?, base_type: generic_type(), space: true },
+        DW_OP_nop => Nop,
+        DW_OP_push_object_address => PushObjectAddress,
+        DW_OP_call2 => Call { offset: DieReference::UnitRef(UnitOffset(R::Offset::from_u16(bytes.read_u16()?))) },
+        DW_OP_call4 => Call { offset: DieReference::UnitRef(UnitOffset(R::Offset::from_u32(bytes.read_u32()?))) },
+        DW_OP_call_ref => Call { offset: DieReference::DebugInfoRef(debug_info_offset(bytes, encoding.format)?) },
+        DW_OP_form_tls_address | DW_OP_GNU_push_tls_address => TLS,
+        DW_OP_call_frame_cfa => CallFrameCFA,
+        DW_OP_bit_piece => Piece { size_in_bits: bytes.read_uleb128()?, bit_offset: Some(bytes.read_uleb128()?) },
+        DW_OP_implicit_value => ImplicitValue { bytes: long_block(bytes)? },
+        DW_OP_stack_value => StackValue,
+        DW_OP_implicit_pointer | DW_OP_GNU_implicit_pointer => ImplicitPointer {
+            value: DebugInfoOffset(reference(bytes, encoding)?), byte_offset: bytes.read_sleb128()?
         },
-        DW_OP_const1s => Operation::SignedConstant {
-            value: i64::from(bytes.read_i8()?),
+        DW_OP_addrx | DW_OP_GNU_addr_index => AddressIndex { index: address_index(bytes)? },
+        DW_OP_constx | DW_OP_GNU_const_index => ConstantIndex { index: address_index(bytes)? },
+        DW_OP_entry_value | DW_OP_GNU_entry_value => EntryValue { expression: long_block(bytes)? },
+        DW_OP_regval_type | DW_OP_GNU_regval_type => RegisterOffset {
+            register: register_number(bytes)?, offset: 0, base_type: base_type(bytes)?
         },
-        DW_OP_const2u => Operation::UnsignedConstant {
-            value: u64::from(bytes.read_u16()?),
+        DW_OP_deref_type | DW_OP_GNU_deref_type => Deref {
+            size: bytes.read_u8()?, base_type: base_type(bytes)?, space: false
         },
-        DW_OP_const2s => Operation::SignedConstant {
-            value: i64::from(bytes.read_i16()?),
-        },
-        DW_OP_const4u => Operation::UnsignedConstant {
-            value: u64::from(bytes.read_u32()?),
-        },
-        DW_OP_const4s => Operation::SignedConstant {
-            value: i64::from(bytes.read_i32()?),
-        },
-        DW_OP_const8u => Operation::UnsignedConstant {
-            value: bytes.read_u64()?,
-        },
-        DW_OP_const8s => Operation::SignedConstant {
-            value: bytes.read_i64()?,
-        },
-        DW_OP_constu => Operation::UnsignedConstant {
-            value: bytes.read_uleb128()?,
-        },
-        DW_OP_consts => Operation::SignedConstant {
-            value: bytes.read_sleb128()?,
-        },
-        DW_OP_dup => Operation::Pick { index: 0 },
-        DW_OP_drop => Operation::Drop,
-        DW_OP_over => Operation::Pick { index: 1 },
-        DW_OP_pick => Operation::Pick {
-            index: bytes.read_u8()?,
-        },
-        DW_OP_swap => Operation::Swap,
-        DW_OP_rot => Operation::Rot,
-        DW_OP_xderef => Operation::Deref {
-            size: encoding.address_size,
-            base_type: generic_type(),
-            space: true,
-        },
-        DW_OP_abs => Operation::Abs,
-        DW_OP_and => Operation::And,
-        DW_OP_div => Operation::Div,
-        DW_OP_minus => Operation::Minus,
-        DW_OP_mod => Operation::Mod,
-        DW_OP_mul => Operation::Mul,
-        DW_OP_neg => Operation::Neg,
-        DW_OP_not => Operation::Not,
-        DW_OP_or => Operation::Or,
-        DW_OP_plus => Operation::Plus,
-        DW_OP_plus_uconst => Operation::PlusConstant {
-            value: bytes.read_uleb128()?,
-        },
-        DW_OP_shl => Operation::Shl,
-        DW_OP_shr => Operation::Shr,
-        DW_OP_shra => Operation::Shra,
-        DW_OP_xor => Operation::Xor,
-        DW_OP_bra => Operation::Bra {
-            target: bytes.read_i16()?,
-        },
-        DW_OP_eq => Operation::Eq,
-        DW_OP_ge => Operation::Ge,
-        DW_OP_gt => Operation::Gt,
-        DW_OP_le => Operation::Le,
-        DW_OP_lt => Operation::Lt,
-        DW_OP_ne => Operation::Ne,
-        DW_OP_skip => Operation::Skip {
-            target: bytes.read_i16()?,
-        },
-        DwOp(LIT0..=LIT31) => Operation::UnsignedConstant {
-            value: u64::from(opcode - LIT0),
-        },
-        DwOp(REG0..=REG31) => Operation::Register {
-            register: Register(u16::from(opcode - REG0)),
-        },
-        DwOp(BREG0..=BREG31) => Operation::RegisterOffset {
-            register: Register(u16::from(opcode - BREG0)),
-            offset: bytes.read_sleb128()?,
-            base_type: generic_type(),
-        },
-        DW_OP_regx => Operation::Register {
-            register: register_number(bytes)?,
-        },
-        DW_OP_fbreg => Operation::FrameOffset {
-            offset: bytes.read_sleb128()?,
-        },
-        DW_OP_bregx => Operation::RegisterOffset {
-            register: register_number(bytes)?,
-            offset: bytes.read_sleb128()?,
-            base_type: generic_type(),
-        },
-        DW_OP_piece => Operation::Piece {
-            size_in_bits: piece_size(bytes)?,
-            bit_offset: None,
-        },
-        DW_OP_deref_size => Operation::Deref {
-            size: bytes.read_u8()?,
-            base_type: generic_type(),
-            space: false,
-        },
-        DW_OP_xderef_size => Operation::Deref {
-            size: bytes.read_u8()?,
-            base_type: generic_type(),
-            space: true,
-        },
-        DW_OP_nop => Operation::Nop,
-        DW_OP_push_object_address => Operation::PushObjectAddress,
-        DW_OP_call2 => Operation::Call {
-            offset: DieReference::UnitRef(UnitOffset(R::Offset::from_u16(bytes.read_u16()?))),
-        },
-        DW_OP_call4 => Operation::Call {
-            offset: DieReference::UnitRef(UnitOffset(R::Offset::from_u32(bytes.read_u32()?))),
-        },
-        DW_OP_call_ref => Operation::Call {
-            offset: DieReference::DebugInfoRef(debug_info_offset(bytes, encoding.format)?),
-        },
-        DW_OP_form_tls_address | DW_OP_GNU_push_tls_address => Operation::TLS,
-        DW_OP_call_frame_cfa => Operation::CallFrameCFA,
-        DW_OP_bit_piece => Operation::Piece {
-            size_in_bits: bytes.read_uleb128()?,
-            bit_offset: Some(bytes.read_uleb128()?),
-        },
-        DW_OP_implicit_value => Operation::ImplicitValue {
-            bytes: long_block(bytes)?,
-        },
-        DW_OP_stack_value => Operation::StackValue,
-        DW_OP_implicit_pointer | DW_OP_GNU_implicit_pointer => Operation::ImplicitPointer {
-            value: DebugInfoOffset(reference(bytes, encoding)?),
-            byte_offset: bytes.read_sleb128()?,
-        },
-        DW_OP_addrx | DW_OP_GNU_addr_index => Operation::AddressIndex {
-            index: address_index(bytes)?,
-        },
-        DW_OP_constx | DW_OP_GNU_const_index => Operation::ConstantIndex {
-            index: address_index(bytes)?,
-        },
-        DW_OP_entry_value | DW_OP_GNU_entry_value => Operation::EntryValue {
-            expression: long_block(bytes)?,
-        },
+        DW_OP_xderef_type => Deref { size: bytes.read_u8()?, base_type: base_type(bytes)?, space: true },
+        DW_OP_convert | DW_OP_GNU_convert => Convert { base_type: base_type(bytes)? },
+        DW_OP_reinterpret | DW_OP_GNU_reinterpret => Reinterpret { base_type: base_type(bytes)? },
+        DW_OP_GNU_uninit => Uninitialized,
+        DW_OP_GNU_parameter_ref => ParameterRef { offset: UnitOffset(R::Offset::from_u32(bytes.read_u32()?)) },
+        DW_OP_GNU_variable_value => VariableValue { offset: debug_info_offset(bytes, encoding.format)? },
+        ;
         DW_OP_const_type | DW_OP_GNU_const_type => typed_literal(bytes)?,
-        DW_OP_regval_type | DW_OP_GNU_regval_type => Operation::RegisterOffset {
-            register: register_number(bytes)?,
-            offset: 0,
-            base_type: base_type(bytes)?,
-        },
-        DW_OP_deref_type | DW_OP_GNU_deref_type => Operation::Deref {
-            size: bytes.read_u8()?,
-            base_type: base_type(bytes)?,
-            space: false,
-        },
-        DW_OP_xderef_type => Operation::Deref {
-            size: bytes.read_u8()?,
-            base_type: base_type(bytes)?,
-            space: true,
-        },
-        DW_OP_convert | DW_OP_GNU_convert => Operation::Convert {
-            base_type: base_type(bytes)?,
-        },
-        DW_OP_reinterpret | DW_OP_GNU_reinterpret => Operation::Reinterpret {
-            base_type: base_type(bytes)?,
-        },
         DW_OP_WASM_location => wasm_location(bytes)?,
-        DW_OP_GNU_uninit => Operation::Uninitialized,
-        DW_OP_GNU_parameter_ref => Operation::ParameterRef {
-            offset: UnitOffset(R::Offset::from_u32(bytes.read_u32()?)),
-        },
-        DW_OP_GNU_variable_value => Operation::VariableValue {
-            offset: debug_info_offset(bytes, encoding.format)?,
-        },
         _ => return Err(Error::InvalidExpression(DwOp(opcode))),
     })
 }
 
-/// Reads an unsigned LEB128 number.
-// The kit inlines no table with more of them in line. Decoding libc and libm from C takes 0.07 of gimli's time less.
+/// Reads an unsigned LEB128 number, for rare rows.
+// If these had `read_uleb128` in line, the table would be too large for the kit to inline. This saves 0.07 of gimli's
+// time to decode libc and libm from C.
 #[tactic(auto, using(dwarf_base::proofs::Suffixes::suffix_trans))]
 #[inline]
 fn unsigned<R: Reader + Copy>(bytes: &mut R) -> Result<u64>

@@ -20,8 +20,8 @@ const CRATES: &[(&str, &str)] = &[
     ("dwarf_replay", "replay"),
     ("dwexpr_c", "c"),
 ];
-// Lists that take an allocator, which C hasn't, and tests.
-const LEFT_OUT: &[&str] = &["dwarf_eval/src/store/heap.rt", "dwarf_eval/src/eval/heap.rt", "dwarf_replay/src/tests"];
+// Lists that take an allocator, which C hasn't.
+const LEFT_OUT: &[&str] = &["dwarf_eval/src/store/heap.rt", "dwarf_eval/src/eval/heap.rt"];
 // Much in these crates is only for Rust.
 const ALLOWED: &str = "#![allow(dead_code, unused_imports, unused_variables, non_upper_case_globals)]
 #![allow(unstable_name_collisions, clippy::all)]";

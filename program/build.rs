@@ -10,9 +10,9 @@ mod sources;
 use std::path::{Path, PathBuf};
 use std::{env, fs};
 
-const CRATES: &[(&str, &str)] = &[("dwarf_replay", "replay"), ("dwexpr", "program")];
+const CRATES: &[(&str, &str)] = &[("dwarf_replay", "replay"), ("dwexpr_cli", "cli"), ("dwexpr", "program")];
 // Laws, and tests in Rattle.
-const LEFT_OUT: &[&str] = &["dwarf_replay/src/equality.rt", "dwarf_replay/src/tests", "dwexpr/src/tests.rt"];
+const LEFT_OUT: &[&str] = &["dwarf_replay/src/equality.rt", "dwexpr/src/tests.rt"];
 /// The sources of the archive for C that have a struct each.
 const STRUCTS: [&str; 6] = ["answers", "encodings", "operations", "outcomes", "pieces", "settings"];
 const ALLOWED: &str = "#![allow(dead_code, unused_imports, unused_variables, non_upper_case_globals, clippy::all)]";

@@ -104,7 +104,7 @@ VERSIONS = {
     "Cargo.toml": r'^version = "(.*)"',
     "c/Cargo.toml": r'^version = "(.*)"',
     "c/include/dwexpr.h": r'^#define DWEXPR_VERSION "(.*)"',
-    "crates/dwexpr/src/help.rt": r'"dwexpr (.*)\\n"',
+    "crates/dwexpr_cli/src/help.rt": r'"dwexpr (.*)\\n"',
     "man/dwexpr.1": r'^\.TH .* "dwexpr (.*?)"',
 }
 

@@ -128,7 +128,7 @@ PACKAGES = {
     "program": ("program/build.rs", "program", ["program"], "use crate::kit::prelude::*;\n", "program/preconditions"),
 }
 # The crates whose modules have other names than theirs without `dwarf_`, and other roots than `lib.rt`.
-CRATES = {"c": "dwexpr_c", "program": "dwexpr"}
+CRATES = {"c": "dwexpr_c", "cli": "dwexpr_cli", "program": "dwexpr"}
 ROOTS = {"program": "main"}
 CLAUSE_OF_FROM = "ensures { Returns (λ r. r.0) result (register_of register) }"
 CLAUSE_OF_TURN = "requires runs { self.old.status ≡ Running }"
@@ -180,10 +180,10 @@ def wrong_preconditions():
 
 def wrong_in_program():
     """The same, for the program."""
-    endings = "crates/dwexpr/src/endings.rt"
+    endings = "crates/dwexpr_cli/src/endings.rt"
     return {
-        "a token of code is deleted": [("program/lines.rs", "Some(u64::from(size))", "Some(size)")],
-        "a status is another": [("program/endings.rs", "Ok(MISUSED)", "Ok(FAILED)")],
+        "a token of code is deleted": [("cli/lines.rs", "Some(u64::from(size))", "Some(size)")],
+        "a status is another": [("cli/endings.rs", "Ok(MISUSED)", "Ok(FAILED)")],
         "a row changes code": row("program", endings, "MISUSED: u8 = 2", "MISUSED: u8 = 1"),
     }
 
@@ -258,10 +258,15 @@ def apply(rows, tokens):
             raise Wrong(f"a row is met {met} times: {place}: {old}")
 
 
+def module_of(crate):
+    """The module that a crate becomes."""
+    return next((it for it in CRATES if CRATES[it] == crate), crate.removeprefix("dwarf_"))
+
+
 def place_of(path):
     """Where a source is written, in the module that its crate becomes."""
     crate, file = re.fullmatch(r"crates/(\w+)/src/(.*)\.rt", path).groups()
-    module = next((it for it in CRATES if CRATES[it] == crate), crate.removeprefix("dwarf_"))
+    module = module_of(crate)
     return f"{module}/{'mod' if file == ROOTS.get(module, 'lib') else file}.rs"
 
 
@@ -277,10 +282,10 @@ def rooted(path, tokens):
     own = place_of(path).split("/")[0]
 
     def root(match):
-        return tokens_of(f"crate::sources::{match[1] if match.lastindex else own}::")
+        return tokens_of(f"crate::sources::{module_of(match[1]) if match.lastindex else own}::")
 
     tokens, _ = substituted(tokens, r"(?<!\$\n)^crate\n:\n:\n", root)
-    tokens, _ = substituted(tokens, r"^dwarf_(\w+)\n:\n:\n", root)
+    tokens, _ = substituted(tokens, r"^(dwarf_\w+|dwexpr_\w+)\n:\n:\n", root)
     return substituted(tokens, r"^\$\ncrate\n", lambda _: tokens_of("crate"))[0]
 
 

@@ -5,8 +5,6 @@ mod equality;
 mod replaying;
 mod stepping;
 mod steps;
-#[cfg(test)]
-mod tests;
 
 pub use equality::{answer_equality_laws, step_equality_laws};
 pub use replaying::replay;

@@ -1,34 +1,14 @@
 //! `dwexpr` evaluates DWARF expressions. It prints one answer per line.
 #![tactic(auto)]
 
-mod endings;
-mod explaining;
-mod help;
-mod hexadecimal;
-mod input;
-mod lines;
-mod listing;
-mod numbers;
-mod opcodes;
-mod program;
-mod steps;
 #[cfg(test)]
 mod tests;
-mod tracing;
-mod values;
-mod words;
-mod writing;
 
-pub use explaining::Output;
-use explaining::Terminal;
-pub use hexadecimal::{HexFault, bytes_of};
-use program::run_without_words;
-pub use program::{run, run_program};
+use dwexpr_cli::{Layout, Terminal, run_program, run_without_words};
 use std::alloc::AllocError;
 use std::io::IsTerminal;
 use std::process::ExitCode;
 use std::{env, io};
-pub use tracing::Layout;
 
 fn main(rt: HostRuntime) -> ExitCode {
     let mut terminal = Terminal {

@@ -1,6 +1,5 @@
 //! Tests of `run` with std's reader and writer, and with readers and writers that fail after every number of bytes.
-use crate::program::{run, run_program};
-use crate::tracing::Layout;
+use dwexpr_cli::{Layout, run, run_program};
 use std::alloc::{AllocError, Global};
 use std::io;
 use std::io::{ErrorKind, Read, Write};

@@ -1,5 +1,0 @@
-use Rattle.std.proofs.Common.{vec_len}
-use Rattle.dwexpr.proofs.tracing.running.Given as goal
-
-abbrev pub decreases-loop-frame : goal.decreases-loop-frame
-decreases-loop-frame g l = vec_len l.frames

@@ -57,16 +57,6 @@ PAIRS = {
     # A clone is that of each field.
     "#[derive(Copy": "#[derive(Clone, Copy",
     "{Model, PhantomData}": "PhantomData",
-    # The same fields in another order.
-    """size: u8,
-    /// The type of the value that is pushed; 0 is the generic type.
-    base_type: UnitOffset<O>,
-    /// Whether an address space is popped too, from below the address.
-    space: bool,""": """size: u8,
-    /// Whether an address space is popped too, from below the address.
-    space: bool,
-    /// The type of the value that is pushed; 0 is the generic type.
-    base_type: UnitOffset<O>,""",
     # With a feature.
     "mod arrays;": '#[cfg(feature = "arrayvec")] mod arrays;',
     # Written by hand.
